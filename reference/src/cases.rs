@@ -1,0 +1,206 @@
+//! The listed cases of document 01: "Judged matrices", case P and "Wrong turns
+//! that look natural". Expected answers are literals.
+
+use std::fmt;
+
+use crate::entries;
+use crate::factoring::{factor, Factoring};
+use crate::problem::{Bounds, Problem};
+use crate::program::{box_lines, output, verdict_lines};
+use crate::refusal::Refusal;
+use crate::vectors::least_value;
+
+/// A case: what is asked, the expected answer and the answer got.
+#[derive(Clone, Debug)]
+pub struct Case {
+    /// The matrix and the question
+    pub subject: String,
+    /// The expected answer
+    pub expected: String,
+    /// The answer got
+    pub got: String,
+}
+
+impl Case {
+    fn new(subject: &str, expected: &str, got: String) -> Case {
+        Case {
+            subject: subject.to_string(),
+            expected: expected.to_string(),
+            got: got.trim_end().replace('\n', "; "),
+        }
+    }
+
+    /// Whether the answer got is the expected one.
+    pub fn passes(&self) -> bool {
+        self.expected == self.got
+    }
+}
+
+impl fmt::Display for Case {
+    fn fmt(&self, f: &mut fmt::Formatter<'_>) -> fmt::Result {
+        let mark = if self.passes() { "ok" } else { "FAIL" };
+        let (subject, expected, got) = (&self.subject, &self.expected, &self.got);
+        write!(f, "{subject} | expected {expected} | got {got} | {mark}")
+    }
+}
+
+/// Every listed case, in the order of the document.
+pub fn listed_cases() -> Vec<Case> {
+    [
+        judged_matrices(),
+        judged_boxes(),
+        judged_refusals(),
+        vec![case_p()],
+        wrong_turns(),
+    ]
+    .concat()
+}
+
+fn judged_matrices() -> Vec<Case> {
+    let stretched = "[1 1000; 1000 10000]";
+    vec![
+        thin("[1]", "definite; row 61303"),
+        wide("[1]", "[2]", "definite; row 61303"),
+        thin("[0]", "not; vector 1"),
+        wide("[0]", "[5]", "not; vector 1"),
+        thin("[2 1; 1 2]", "definite; row 89738 47861; row 0 75910"),
+        thin("[1 2; 2 5]", "definite; row 61303 140122; row 0 36108"),
+        thin("[1 2; 2 1]", "not; vector 1 -1"),
+        thin("[1 1; 1 1]", "not; vector 1 -1"),
+        thin(stretched, "not; vector -1143 1"),
+        least(stretched, &[-1143, 1], "-969551"),
+        thin("[1 3; 3 10]", "undecided"),
+        leading_minors("[1 3; 3 10]", "1 1"),
+    ]
+}
+
+fn judged_boxes() -> Vec<Case> {
+    vec![
+        boxed("[4]", 0, -1, "empty"),
+        boxed("[4]", 0, 0, "side 0 0"),
+        boxed("[1]", 0, 0, "box refused 8"),
+        boxed("[4]", 1 << 20, 0, "side -699052 699052"),
+        boxed("[4]", (1 << 20) + 1, 0, "box refused 9"),
+    ]
+}
+
+fn judged_refusals() -> Vec<Case> {
+    vec![
+        thin("[1048576]", "definite; row 67108859"),
+        thin("[1048577]", "refused 3"),
+        order(0, "1"),
+        order(9, "1"),
+        Case::new("empty file", "refused 13", output(&[])),
+    ]
+}
+
+fn case_p() -> Case {
+    let file = bytes(
+        "01 0100 01, 02 0400 04000000, 03 0400 04000000, \
+         04 0800 F8FFFFFFFFFFFFFF, 05 0800 0000000000000000, \
+         06 0800 0200000000000000",
+    );
+    let expected = "definite; row 129007; side -1 5";
+    Case::new("case P", expected, output(&file))
+}
+
+fn wrong_turns() -> Vec<Case> {
+    vec![
+        factor_entry("[2 -1; -1 2]", (0, 1), "-47862"),
+        wide("[1 0; 0 1]", "[1 2; 2 1]", "not; vector 1 -1"),
+        stop("[1 0 1000; 0 1 5; 1000 5 10000]", "column 3, last row 1"),
+        thin("[1 0 1000; 0 1 5; 1000 5 10000]", "not; vector -1143 0 1"),
+        thin("[1 3; 3 10]", "undecided"),
+        // x = 3/2 is on the rim of 4x² ≤ 9.
+        boxed("[4]", 0, 9, "side -2 2"),
+        // x = −1/2 is on the rim of 4x² + 2x ≤ 0.
+        boxed("[4]", 1, 0, "side -2 2"),
+    ]
+}
+
+fn thin(matrix: &str, expected: &str) -> Case {
+    Case::new(matrix, expected, judged(matrix, matrix))
+}
+
+fn wide(low: &str, high: &str, expected: &str) -> Case {
+    let subject = format!("L {low}, U {high}");
+    Case::new(&subject, expected, judged(low, high))
+}
+
+fn judged(low: &str, high: &str) -> String {
+    answer(bounds(low, high).map(|bounds| verdict_lines(&bounds)))
+}
+
+fn least(matrix: &str, x: &[i128], expected: &str) -> Case {
+    let subject = format!("least value of {x:?} for {matrix}");
+    let got = bounds(matrix, matrix).map(|bounds| least_value(&bounds, x).to_string());
+    Case::new(&subject, expected, answer(got))
+}
+
+/// The leading minors of a matrix of order 2; all positive means definite.
+fn leading_minors(matrix: &str, expected: &str) -> Case {
+    let m = numbers(matrix);
+    let got = format!("{} {}", m[0], m[0] * m[3] - m[1] * m[2]);
+    Case::new(&format!("leading minors of {matrix}"), expected, got)
+}
+
+fn factor_entry(matrix: &str, (i, j): (usize, usize), expected: &str) -> Case {
+    let got = bounds(matrix, matrix).map(|bounds| match factor(&bounds) {
+        Factoring::Ends(factor) => factor[i][j].to_string(),
+        Factoring::Stops { .. } => "factoring stops".to_string(),
+    });
+    let subject = format!("r({},{}) of {matrix}", i + 1, j + 1);
+    Case::new(&subject, expected, answer(got))
+}
+
+fn stop(matrix: &str, expected: &str) -> Case {
+    let got = bounds(matrix, matrix).map(|bounds| match factor(&bounds) {
+        Factoring::Ends(_) => "factoring ends".to_string(),
+        Factoring::Stops {
+            column, last_row, ..
+        } => format!("column {column}, last row {last_row}"),
+    });
+    Case::new(&format!("stop of {matrix}"), expected, answer(got))
+}
+
+/// A box of order 1 with centre 0.
+fn boxed(matrix: &str, linear: i64, limit: i64, expected: &str) -> Case {
+    let m = numbers(matrix);
+    let problem = Problem::read(1, &m, &m, &[linear], limit, &[0]);
+    let subject = format!("box, M = {matrix}, a = {linear}, α = {limit}, c = 0");
+    Case::new(&subject, expected, answer(problem.map(|p| box_lines(&p))))
+}
+
+fn order(n: i64, expected: &str) -> Case {
+    let got = entries::judge(n, &[], &[], &mut [], &mut []);
+    Case::new(&format!("n = {n}"), expected, got.to_string())
+}
+
+fn answer(got: Result<String, Refusal>) -> String {
+    got.unwrap_or_else(|refusal| format!("refused {}", refusal.number()))
+}
+
+/// Interval bounds written as in the document, such as `[2 1; 1 2]`.
+pub fn bounds(low: &str, high: &str) -> Result<Bounds, Refusal> {
+    let order = low.split(';').count();
+    Bounds::read(order, &numbers(low), &numbers(high))
+}
+
+/// The numbers of a matrix written as in the document, row by row.
+pub fn numbers(matrix: &str) -> Vec<i64> {
+    matrix
+        .split(['[', ']', ';', ' '])
+        .filter(|word| !word.is_empty())
+        .map(|word| word.parse().expect("a whole number"))
+        .collect()
+}
+
+/// The bytes of hexadecimal text; spaces and commas are passed over.
+pub fn bytes(text: &str) -> Vec<u8> {
+    let digits: Vec<u32> = text
+        .chars()
+        .filter_map(|digit| digit.to_digit(16))
+        .collect();
+    let byte = |pair: &[u32]| (16 * pair[0] + pair[1]) as u8;
+    digits.chunks(2).map(byte).collect()
+}

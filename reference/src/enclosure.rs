@@ -1,0 +1,151 @@
+//! The enclosure of an ellipsoid: document 01, "Box".
+
+use crate::factoring::{ceiling_quotient, ends, least_whole};
+use crate::problem::{
+    check_lengths, check_order, sides_size, table_size, write_numbers, Bounds, Problem,
+    GRADIENT_RANGE,
+};
+use crate::refusal::{require, Refusal};
+use crate::vectors::least_value;
+
+/// The answer of the box.
+#[derive(Clone, Debug, PartialEq, Eq)]
+pub enum Enclosure {
+    /// The low and the high of each side
+    Sides(Vec<(i128, i128)>),
+    /// 'empty'
+    Empty,
+}
+
+/// "t starts at 0. For b = 19 down to 0, 2^b is added to t if factoring ends
+/// with t + 2^b taken off" the diagonal entries of L and U named by `places`.
+pub fn greatest_step(bounds: &Bounds, places: &[usize]) -> i128 {
+    let mut t = 0;
+    for b in (0..=19).rev() {
+        if trial_ends(bounds, places, t + (1 << b)) {
+            t += 1 << b;
+        }
+    }
+    t
+}
+
+/// "a trial that brings an L diagonal entry to 0 or less doesn't end"
+fn trial_ends(bounds: &Bounds, places: &[usize], step: i128) -> bool {
+    let mut trial = bounds.clone();
+    for &i in places {
+        trial.low[i][i] -= step;
+        trial.high[i][i] -= step;
+    }
+    places.iter().all(|&i| trial.low[i][i] > 0) && ends(&trial)
+}
+
+/// t: the step "taken off every diagonal entry".
+pub fn common_step(bounds: &Bounds) -> i128 {
+    let every: Vec<usize> = (0..bounds.order).collect();
+    greatest_step(bounds, &every)
+}
+
+/// t(k): "found likewise, taking it off entry (k,k) only".
+pub fn single_steps(bounds: &Bounds) -> Vec<i128> {
+    (0..bounds.order)
+        .map(|k| greatest_step(bounds, &[k]))
+        .collect()
+}
+
+/// "g(k) is the greatest |Σ M(k,j)·c(j) + a(k)|, with each M(k,j) free between
+/// its bounds."
+pub fn gradient_bound(problem: &Problem, k: usize) -> i128 {
+    let (mut least, mut greatest) = (problem.linear[k], problem.linear[k]);
+    for (j, c) in problem.centre.iter().enumerate() {
+        let from_low = problem.bounds.low[k][j] * c;
+        let from_high = problem.bounds.high[k][j] * c;
+        least += from_low.min(from_high);
+        greatest += from_low.max(from_high);
+    }
+    least.abs().max(greatest.abs())
+}
+
+/// "D = α − 2·Σ a(k)·c(k) − the least value of c (0 for zero c)."
+pub fn limit_at_centre(problem: &Problem) -> i128 {
+    problem.limit
+        - 2 * inner_product(&problem.linear, &problem.centre)
+        - least_value(&problem.bounds, &problem.centre)
+}
+
+fn inner_product(x: &[i128], y: &[i128]) -> i128 {
+    x.iter().zip(y).map(|(p, q)| p * q).sum()
+}
+
+/// "the least whole s ≥ 0 with t·s² ≥ B"
+fn least_radius(step: i128, bound: i128) -> i128 {
+    least_whole(|s| step * s * s >= bound)
+}
+
+/// Checks 8 and 9, then the sides or 'empty'.
+pub fn enclosure(problem: &Problem) -> Result<Enclosure, Refusal> {
+    let bounds = &problem.bounds;
+    let t = common_step(bounds);
+    require(t != 0, Refusal::Flat)?;
+    let g: Vec<i128> = (0..bounds.order)
+        .map(|k| gradient_bound(problem, k))
+        .collect();
+    require(g.iter().all(|gk| *gk <= GRADIENT_RANGE), Refusal::Far)?;
+    Ok(sides(problem, t, &g))
+}
+
+fn sides(problem: &Problem, t: i128, g: &[i128]) -> Enclosure {
+    let d = limit_at_centre(problem);
+    // "B = D + Σg(k)²/t, the quotient rounded up. If B < 0: 'empty'."
+    let b = d + ceiling_quotient(inner_product(g, g), t);
+    if b < 0 {
+        return Enclosure::Empty;
+    }
+    // "Y(k) is g(k)/t rounded up plus the least whole s ≥ 0 with t·s² ≥ B."
+    let s = least_radius(t, b);
+    let y: Vec<i128> = g.iter().map(|gk| ceiling_quotient(*gk, t) + s).collect();
+    // "B2 = D + 2·Σ g(k)·Y(k); if B2 < 0: 'empty'."
+    let b2 = d + 2 * inner_product(g, &y);
+    if b2 < 0 {
+        return Enclosure::Empty;
+    }
+    let side = |(k, tk): (usize, i128)| {
+        // "Z(k) is the least whole z ≥ 0 with t(k)·z² ≥ B2, or Y(k) where
+        // t(k) = 0."
+        let z = if tk == 0 { y[k] } else { least_radius(tk, b2) };
+        // "Side k runs from c(k) − h to c(k) + h, h the smaller of Y(k) and
+        // Z(k)."
+        let h = y[k].min(z);
+        (problem.centre[k] - h, problem.centre[k] + h)
+    };
+    let steps = single_steps(&problem.bounds);
+    Enclosure::Sides(steps.into_iter().enumerate().map(side).collect())
+}
+
+/// The box: checks 1 to 5, 8, 9, then the answer. "'Empty' writes no sides."
+pub fn enclose(
+    n: i64,
+    low: &[i64],
+    high: &[i64],
+    linear: &[i64],
+    limit: i64,
+    centre: &[i64],
+    sides: &mut [i64],
+) -> Result<Enclosure, Refusal> {
+    let order = check_order(n)?;
+    let table = table_size(order);
+    check_lengths(&[
+        (low.len(), table),
+        (high.len(), table),
+        (linear.len(), order),
+        (centre.len(), order),
+        (sides.len(), sides_size(order)),
+    ])?;
+    let problem = Problem::read(order, low, high, linear, limit, centre)?;
+    let answer = enclosure(&problem)?;
+    if let Enclosure::Sides(pairs) = &answer {
+        // "low then high for each k"
+        let numbers: Vec<i128> = pairs.iter().flat_map(|(l, h)| [*l, *h]).collect();
+        write_numbers(&numbers, sides);
+    }
+    Ok(answer)
+}

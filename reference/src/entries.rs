@@ -1,0 +1,142 @@
+//! The four acts over bytes, as the C entries have them: document 01, "What
+//! the unit carries".
+//!
+//! "Over bytes, each number is 8 bytes, signed, low byte first." "At the C
+//! entry a refusal is its number; 'definite', 'accepted', 'yes' and a given box
+//! are 0; 'not definite', 'not accepted', 'no' and 'empty' are −1; 'undecided'
+//! is −2."
+
+use crate::enclosure::{self, Enclosure};
+use crate::judge::{self as judging, Verdict};
+use crate::problem::{check_lengths, check_order, sides_size, table_size};
+use crate::refusal::Refusal;
+use crate::residual;
+use crate::summary::{decode, encode, NUMBER_WIDTH};
+use crate::vectors;
+
+/// 'definite', 'accepted', 'yes' and a given box
+pub const POSITIVE: i64 = 0;
+/// 'not definite', 'not accepted', 'no' and 'empty'
+pub const NEGATIVE: i64 = -1;
+/// 'undecided'
+pub const UNDECIDED: i64 = -2;
+
+/// The count of numbers an order calls for.
+type Count = fn(usize) -> usize;
+/// The numbers of a, c or a vector.
+const LIST: Count = |order| order;
+
+/// Checks 1 and 2 over bytes, then the numbers of each buffer.
+fn read<const N: usize>(n: i64, buffers: [(&[u8], Count); N]) -> Result<[Vec<i64>; N], Refusal> {
+    let order = check_order(n)?;
+    let lengths = buffers.map(|(bytes, count)| (bytes.len(), NUMBER_WIDTH * count(order)));
+    check_lengths(&lengths)?;
+    Ok(buffers.map(|(bytes, _)| decode(bytes, NUMBER_WIDTH)))
+}
+
+fn write(numbers: &[i64], buffer: &mut [u8]) {
+    buffer.copy_from_slice(&encode(numbers, NUMBER_WIDTH));
+}
+
+fn test_code(answer: Result<bool, Refusal>) -> i64 {
+    match answer {
+        Ok(true) => POSITIVE,
+        Ok(false) => NEGATIVE,
+        Err(refusal) => refusal.number(),
+    }
+}
+
+fn verdict_code(verdict: &Verdict) -> i64 {
+    match verdict {
+        Verdict::Definite(_) => POSITIVE,
+        Verdict::NotDefinite(_) => NEGATIVE,
+        Verdict::Undecided => UNDECIDED,
+    }
+}
+
+fn enclosure_code(answer: &Enclosure) -> i64 {
+    match answer {
+        Enclosure::Sides(_) => POSITIVE,
+        Enclosure::Empty => NEGATIVE,
+    }
+}
+
+/// The factor test.
+pub fn test_factor(n: i64, low: &[u8], high: &[u8], factor: &[u8]) -> i64 {
+    let buffers = [
+        (low, table_size as Count),
+        (high, table_size),
+        (factor, table_size),
+    ];
+    test_code(
+        read(n, buffers)
+            .and_then(|[low, high, factor]| residual::test_factor(n, &low, &high, &factor)),
+    )
+}
+
+/// The vector test.
+pub fn test_vector(n: i64, low: &[u8], high: &[u8], vector: &[u8]) -> i64 {
+    let buffers = [
+        (low, table_size as Count),
+        (high, table_size),
+        (vector, LIST),
+    ];
+    test_code(
+        read(n, buffers)
+            .and_then(|[low, high, vector]| vectors::test_vector(n, &low, &high, &vector)),
+    )
+}
+
+/// The judge.
+pub fn judge(n: i64, low: &[u8], high: &[u8], factor: &mut [u8], vector: &mut [u8]) -> i64 {
+    let act = || {
+        let buffers = [
+            (low, table_size as Count),
+            (high, table_size),
+            (&*factor, table_size),
+            (&*vector, LIST),
+        ];
+        let [low, high, mut rows, mut x] = read(n, buffers)?;
+        let verdict = judging::judge(n, &low, &high, &mut rows, &mut x)?;
+        Ok((verdict_code(&verdict), rows, x))
+    };
+    match act() {
+        Ok((code, rows, x)) => {
+            write(&rows, factor);
+            write(&x, vector);
+            code
+        }
+        Err(refusal) => Refusal::number(refusal),
+    }
+}
+
+/// The box.
+pub fn enclose(
+    n: i64,
+    low: &[u8],
+    high: &[u8],
+    linear: &[u8],
+    limit: i64,
+    centre: &[u8],
+    sides: &mut [u8],
+) -> i64 {
+    let act = || {
+        let buffers = [
+            (low, table_size as Count),
+            (high, table_size),
+            (linear, LIST),
+            (centre, LIST),
+            (&*sides, sides_size),
+        ];
+        let [low, high, linear, centre, mut pairs] = read(n, buffers)?;
+        let answer = enclosure::enclose(n, &low, &high, &linear, limit, &centre, &mut pairs)?;
+        Ok((enclosure_code(&answer), pairs))
+    };
+    match act() {
+        Ok((code, pairs)) => {
+            write(&pairs, sides);
+            code
+        }
+        Err(refusal) => Refusal::number(refusal),
+    }
+}

@@ -1,0 +1,83 @@
+//! Seeded problems, calls and files for comparisons with another
+//! implementation.
+
+mod calls;
+mod files;
+mod problems;
+
+pub use calls::{BoxCall, FactorCall, JudgeCall, VectorCall};
+
+use crate::problem::Bounds;
+use crate::random::Random;
+
+/// The kinds of problem, each thin (L = U) or wide.
+#[derive(Clone, Copy, Debug, PartialEq, Eq)]
+pub enum ProblemKind {
+    /// Entries of one digit, so that tried vectors often show
+    Small,
+    /// Far from the boundary of definiteness, on its inner side
+    Definite,
+    /// At the boundary of definiteness, on either side
+    Boundary,
+    /// Diagonal entries from 1 to 2^20
+    Scaled,
+    /// Entries of ±2^20, ±(2^20 − 1), 0 and ±1
+    Extreme,
+}
+
+/// Every kind.
+pub const KINDS: [ProblemKind; 5] = [
+    ProblemKind::Small,
+    ProblemKind::Definite,
+    ProblemKind::Boundary,
+    ProblemKind::Scaled,
+    ProblemKind::Extreme,
+];
+
+/// A problem as a caller holds it, before any check.
+#[derive(Clone, Debug, PartialEq, Eq)]
+pub struct RawProblem {
+    /// n
+    pub order: usize,
+    /// L, row by row
+    pub low: Vec<i64>,
+    /// U, row by row
+    pub high: Vec<i64>,
+    /// a
+    pub linear: Vec<i64>,
+    /// α
+    pub limit: i64,
+    /// c
+    pub centre: Vec<i64>,
+}
+
+impl RawProblem {
+    /// The bounds, where checks 3 to 5 let them through.
+    fn bounds(&self) -> Option<Bounds> {
+        Bounds::read(self.order, &self.low, &self.high).ok()
+    }
+}
+
+/// The generator. The same seed gives the same problems, calls and files.
+#[derive(Clone, Debug)]
+pub struct Generator {
+    random: Random,
+}
+
+impl Generator {
+    /// A generator with a seed.
+    pub fn new(seed: u64) -> Generator {
+        Generator {
+            random: Random::new(seed),
+        }
+    }
+
+    /// A problem of any kind and order, thin or wide, that checks 1 to 5 let
+    /// through.
+    pub fn any_problem(&mut self) -> RawProblem {
+        let kind = self.random.pick(&KINDS);
+        let order = self.random.between(1, 8) as usize;
+        let wide = self.random.one_in(2);
+        self.problem(kind, order, wide)
+    }
+}

@@ -1,0 +1,302 @@
+//! Calls of the four acts, faulty ones among them.
+
+use std::cmp::Ordering;
+
+use super::{Generator, RawProblem};
+use crate::factoring::{factor, Factoring};
+use crate::judge::{verdict, Verdict};
+use crate::problem::{
+    sides_size, table_size, Table, CENTRE_RANGE, ENTRY_RANGE, FACTOR_RANGE, LIMIT_RANGE,
+    LINEAR_RANGE, VECTOR_RANGE,
+};
+use crate::summary::{encode, NUMBER_WIDTH};
+
+/// The factor test's arguments.
+#[derive(Clone, Debug, PartialEq, Eq)]
+#[allow(missing_docs)]
+pub struct FactorCall {
+    pub n: i64,
+    pub low: Vec<u8>,
+    pub high: Vec<u8>,
+    pub factor: Vec<u8>,
+}
+
+/// The vector test's arguments.
+#[derive(Clone, Debug, PartialEq, Eq)]
+#[allow(missing_docs)]
+pub struct VectorCall {
+    pub n: i64,
+    pub low: Vec<u8>,
+    pub high: Vec<u8>,
+    pub vector: Vec<u8>,
+}
+
+/// The judge's arguments; the outputs with their contents before the call.
+#[derive(Clone, Debug, PartialEq, Eq)]
+#[allow(missing_docs)]
+pub struct JudgeCall {
+    pub n: i64,
+    pub low: Vec<u8>,
+    pub high: Vec<u8>,
+    pub factor: Vec<u8>,
+    pub vector: Vec<u8>,
+}
+
+/// The box's arguments; the sides with their contents before the call.
+#[derive(Clone, Debug, PartialEq, Eq)]
+#[allow(missing_docs)]
+pub struct BoxCall {
+    pub n: i64,
+    pub low: Vec<u8>,
+    pub high: Vec<u8>,
+    pub linear: Vec<u8>,
+    pub limit: i64,
+    pub centre: Vec<u8>,
+    pub sides: Vec<u8>,
+}
+
+/// Orders that check 1 refuses.
+const WRONG_ORDERS: [i64; 9] = [
+    0,
+    -1,
+    9,
+    257,
+    264,
+    (1 << 32) + 1,
+    -(1 << 32) + 2,
+    i64::MIN,
+    i64::MAX,
+];
+
+/// One call in this many is made faulty, in each of the ways below.
+const FAULT_SHARE: usize = 12;
+
+impl Generator {
+    /// A call of the factor test.
+    pub fn factor_call(&mut self) -> FactorCall {
+        let mut problem = self.any_problem();
+        let factor = self.offered_factor(&problem);
+        self.damage_entries(&mut problem);
+        let mut call = FactorCall {
+            n: problem.order as i64,
+            low: bytes(&problem.low),
+            high: bytes(&problem.high),
+            factor: bytes(&factor),
+        };
+        let buffers = &mut [&mut call.low, &mut call.high, &mut call.factor];
+        self.damage_sizes(&mut call.n, buffers);
+        call
+    }
+
+    /// A call of the vector test.
+    pub fn vector_call(&mut self) -> VectorCall {
+        let mut problem = self.any_problem();
+        let vector = self.offered_vector(&problem);
+        self.damage_entries(&mut problem);
+        let mut call = VectorCall {
+            n: problem.order as i64,
+            low: bytes(&problem.low),
+            high: bytes(&problem.high),
+            vector: bytes(&vector),
+        };
+        let buffers = &mut [&mut call.low, &mut call.high, &mut call.vector];
+        self.damage_sizes(&mut call.n, buffers);
+        call
+    }
+
+    /// A call of the judge.
+    pub fn judge_call(&mut self) -> JudgeCall {
+        let mut problem = self.any_problem();
+        self.damage_entries(&mut problem);
+        let mut call = JudgeCall {
+            n: problem.order as i64,
+            low: bytes(&problem.low),
+            high: bytes(&problem.high),
+            factor: self.buffer(table_size(problem.order)),
+            vector: self.buffer(problem.order),
+        };
+        let buffers = &mut [
+            &mut call.low,
+            &mut call.high,
+            &mut call.factor,
+            &mut call.vector,
+        ];
+        self.damage_sizes(&mut call.n, buffers);
+        call
+    }
+
+    /// A call of the box.
+    pub fn box_call(&mut self) -> BoxCall {
+        let mut problem = self.any_problem();
+        self.damage_entries(&mut problem);
+        self.damage_terms(&mut problem);
+        let mut call = BoxCall {
+            n: problem.order as i64,
+            low: bytes(&problem.low),
+            high: bytes(&problem.high),
+            linear: bytes(&problem.linear),
+            limit: problem.limit,
+            centre: bytes(&problem.centre),
+            sides: self.buffer(sides_size(problem.order)),
+        };
+        let buffers = &mut [
+            &mut call.low,
+            &mut call.high,
+            &mut call.linear,
+            &mut call.centre,
+            &mut call.sides,
+        ];
+        self.damage_sizes(&mut call.n, buffers);
+        call
+    }
+
+    /// Random contents for an output of so many numbers.
+    fn buffer(&mut self, count: usize) -> Vec<u8> {
+        self.random.bytes(NUMBER_WIDTH * count)
+    }
+
+    /// Now and then a wrong order or a wrong size of one buffer.
+    fn damage_sizes(&mut self, n: &mut i64, buffers: &mut [&mut Vec<u8>]) {
+        if self.random.one_in(2 * FAULT_SHARE) {
+            *n = self.random.pick(&WRONG_ORDERS);
+        }
+        if self.random.one_in(2 * FAULT_SHARE) {
+            // An order that the buffers were mostly not made for.
+            *n = self.random.between(1, 8);
+        }
+        if self.random.one_in(FAULT_SHARE) {
+            let place = self.random.index(buffers.len());
+            let length = buffers[place].len();
+            let change = self.random.pick(&[-8, -7, -1, 1, 4, 8, 800]);
+            let changed = self.random.pick(&[0, length.saturating_add_signed(change)]);
+            buffers[place].resize(changed, 0);
+        }
+    }
+
+    /// Now and then an entry that checks 3, 4 or 5 refuse, or a pair of them.
+    pub(super) fn damage_entries(&mut self, problem: &mut RawProblem) {
+        let order = problem.order;
+        let i = self.random.index(order);
+        let j = self.random.index(order);
+        let (place, mirrored) = (i * order + j, j * order + i);
+        if self.random.one_in(FAULT_SHARE) {
+            let entry = self.beyond(ENTRY_RANGE);
+            let mut table = &mut problem.low;
+            if self.random.one_in(2) {
+                table = &mut problem.high;
+            }
+            table[place] = entry;
+            table[mirrored] = entry;
+        }
+        if self.random.one_in(FAULT_SHARE) {
+            let crossed = problem.high[place].saturating_add(1);
+            problem.low[place] = crossed;
+            problem.low[mirrored] = crossed;
+        }
+        if self.random.one_in(FAULT_SHARE) {
+            problem.low[place] = problem.low[place].saturating_sub(1);
+        }
+        if self.random.one_in(FAULT_SHARE) {
+            problem.high[place] = problem.high[place].saturating_add(1);
+        }
+    }
+
+    /// Now and then a linear term, limit or centre entry that check 3 refuses,
+    /// or one at the end of its range.
+    pub(super) fn damage_terms(&mut self, problem: &mut RawProblem) {
+        let k = self.random.index(problem.order);
+        if self.random.one_in(4 * FAULT_SHARE) {
+            problem.linear[k] = self.beyond(LINEAR_RANGE);
+        }
+        if self.random.one_in(4 * FAULT_SHARE) {
+            problem.limit = self.beyond(LIMIT_RANGE);
+        }
+        if self.random.one_in(4 * FAULT_SHARE) {
+            problem.centre[k] = self.beyond(CENTRE_RANGE);
+        }
+    }
+
+    /// A number at the end of a range or beyond it.
+    fn beyond(&mut self, range: i128) -> i64 {
+        let range = range as i64;
+        let choices = [-range - 1, range + 1, -range, range, i64::MIN, i64::MAX];
+        self.random.pick(&choices)
+    }
+
+    /// A factor: the right one, a changed one, a random one or an improper one.
+    fn offered_factor(&mut self, problem: &RawProblem) -> Vec<i64> {
+        let order = problem.order;
+        let mut factor = match problem.bounds().map(|bounds| factor(&bounds)) {
+            Some(Factoring::Ends(factor)) => narrow(&factor),
+            Some(Factoring::Stops { partial, .. }) => completed(&narrow(&partial), order),
+            None => vec![0; table_size(order)],
+        };
+        let place = self.random.index(factor.len());
+        match self.random.index(8) {
+            0..=2 => {}
+            3 | 4 => {
+                let change = self.random.within(1 << 14);
+                self.change_all(&mut factor, order, change);
+            }
+            5 => {
+                let range = self.random.pick(&[1000, FACTOR_RANGE as i64]);
+                let random: Vec<i64> = factor.iter().map(|_| self.random.within(range)).collect();
+                factor = completed(&random, order);
+            }
+            6 => factor[place] = self.beyond(FACTOR_RANGE),
+            _ => factor[place] = self.random.pick(&[0, -1, 1, i64::MIN]),
+        }
+        factor
+    }
+
+    /// Adds up to `change` to each entry, the factor kept proper.
+    fn change_all(&mut self, factor: &mut Vec<i64>, order: usize, change: i64) {
+        for entry in factor.iter_mut() {
+            *entry += self.random.between(change.min(0), change.max(0));
+        }
+        *factor = completed(factor, order);
+    }
+
+    /// A vector: a witness vector, a random one, zero or one out of range.
+    fn offered_vector(&mut self, problem: &RawProblem) -> Vec<i64> {
+        let range = self.random.pick(&[1, 1, 3, 100, VECTOR_RANGE as i64]);
+        let mut vector: Vec<i64> = (0..problem.order)
+            .map(|_| self.random.within(range))
+            .collect();
+        let place = self.random.index(vector.len());
+        match self.random.index(8) {
+            0 | 1 => {
+                let verdict = problem.bounds().map(|bounds| verdict(&bounds));
+                if let Some(Verdict::NotDefinite(x)) = verdict {
+                    vector = x.iter().map(|entry| *entry as i64).collect();
+                }
+            }
+            2 => vector.fill(0),
+            3 => vector[place] = self.beyond(VECTOR_RANGE),
+            _ => {}
+        }
+        vector
+    }
+}
+
+/// The table made upper triangular with a positive diagonal, in range.
+fn completed(table: &[i64], order: usize) -> Vec<i64> {
+    let range = FACTOR_RANGE as i64;
+    let entry = |place: usize| {
+        let (i, j) = (place / order, place % order);
+        match i.cmp(&j) {
+            Ordering::Greater => 0,
+            Ordering::Equal => table[place].saturating_abs().clamp(1, range),
+            Ordering::Less => table[place].clamp(-range, range),
+        }
+    };
+    (0..table.len()).map(entry).collect()
+}
+
+fn narrow(table: &Table) -> Vec<i64> {
+    table.concat().iter().map(|entry| *entry as i64).collect()
+}
+
+fn bytes(numbers: &[i64]) -> Vec<u8> {
+    encode(numbers, NUMBER_WIDTH)
+}

@@ -1,0 +1,46 @@
+//! The output of the program "judge": document 01, "Summary file and program".
+
+use crate::enclosure::{enclosure, Enclosure};
+use crate::judge::{verdict, Verdict};
+use crate::problem::{Bounds, Problem};
+use crate::summary::read_problem;
+
+/// The whole output for a file's bytes.
+pub fn output(file: &[u8]) -> String {
+    match read_problem(file) {
+        Err(refusal) => format!("refused {}\n", refusal.number()),
+        Ok(problem) => verdict_lines(&problem.bounds) + &box_lines(&problem),
+    }
+}
+
+/// "`definite` and a `row` line for each factor row, `not` and a `vector`
+/// line, or `undecided`"
+pub fn verdict_lines(bounds: &Bounds) -> String {
+    match verdict(bounds) {
+        Verdict::Definite(factor) => {
+            let rows = factor.iter().map(|row| line("row", row));
+            "definite\n".to_string() + &rows.collect::<String>()
+        }
+        Verdict::NotDefinite(x) => "not\n".to_string() + &line("vector", &x),
+        Verdict::Undecided => "undecided\n".to_string(),
+    }
+}
+
+/// "a `side` line (low, high) for each k, or `empty`, or `box refused` and the
+/// number"
+pub fn box_lines(problem: &Problem) -> String {
+    match enclosure(problem) {
+        Ok(Enclosure::Sides(sides)) => {
+            let lines = sides.iter().map(|(low, high)| line("side", &[*low, *high]));
+            lines.collect()
+        }
+        Ok(Enclosure::Empty) => "empty\n".to_string(),
+        Err(refusal) => format!("box refused {}\n", refusal.number()),
+    }
+}
+
+/// A word and its numbers, one space between.
+fn line(word: &str, numbers: &[i128]) -> String {
+    let numbers = numbers.iter().map(|number| format!(" {number}"));
+    format!("{word}{}\n", numbers.collect::<String>())
+}

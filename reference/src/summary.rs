@@ -1,0 +1,166 @@
+//! The summary file: document 01, "Summary file and program" and the order of
+//! the file's checks in "Refused calls".
+
+use crate::problem::{check_order, table_size, Problem};
+use crate::refusal::{require, Refusal};
+
+/// "file: more than 4096 bytes"
+pub const MAX_FILE: usize = 4096;
+/// A tag and a two-byte length.
+const FIELD_HEAD: usize = 3;
+
+/// "Tag 01: n"
+pub const TAG_ORDER: u8 = 1;
+/// "02 L"
+pub const TAG_LOW: u8 = 2;
+/// "03 U"
+pub const TAG_HIGH: u8 = 3;
+/// "04 a"
+pub const TAG_LINEAR: u8 = 4;
+/// "05 α"
+pub const TAG_LIMIT: u8 = 5;
+/// "06 c"
+pub const TAG_CENTRE: u8 = 6;
+
+/// Bytes of a number of L and U: "4 bytes an entry".
+pub const TABLE_WIDTH: usize = 4;
+/// Bytes of a number of a, c and α.
+pub const NUMBER_WIDTH: usize = 8;
+
+/// A field: its tag and its content, a part of the file.
+#[derive(Clone, Copy, Debug, PartialEq, Eq)]
+pub struct Field<'a> {
+    /// The tag
+    pub tag: u8,
+    /// The content
+    pub content: &'a [u8],
+}
+
+/// The fields of a file in the order they stand: "field by field, 10, 11, 12".
+pub fn fields(file: &[u8]) -> Result<Vec<Field<'_>>, Refusal> {
+    let mut found: Vec<Field> = vec![];
+    let mut rest = file;
+    while !rest.is_empty() {
+        let (field, after) = split_field(rest)?;
+        require((TAG_ORDER..=TAG_CENTRE).contains(&field.tag), Refusal::Tag)?;
+        let seen = found.iter().any(|earlier| earlier.tag == field.tag);
+        require(!seen, Refusal::Again)?;
+        found.push(field);
+        rest = after;
+    }
+    Ok(found)
+}
+
+/// The field at the front and the bytes after it: check 10. "A field is a
+/// one-byte tag, a two-byte length (low byte first), then the content."
+fn split_field(bytes: &[u8]) -> Result<(Field<'_>, &[u8]), Refusal> {
+    require(bytes.len() >= FIELD_HEAD, Refusal::Cut)?;
+    let (head, rest) = bytes.split_at(FIELD_HEAD);
+    let length = usize::from(head[1]) + 256 * usize::from(head[2]);
+    require(length <= rest.len(), Refusal::Cut)?;
+    let (content, after) = rest.split_at(length);
+    let field = Field {
+        tag: head[0],
+        content,
+    };
+    Ok((field, after))
+}
+
+/// The problem of a file: 15, the field walk, 13, 14 for tag 01, 1, 14 for the
+/// other tags, then 3, 4, 5.
+pub fn read_problem(file: &[u8]) -> Result<Problem, Refusal> {
+    require(file.len() <= MAX_FILE, Refusal::Long)?;
+    let found = fields(file)?;
+    let content = |tag: u8| {
+        let field = found.iter().find(|field| field.tag == tag);
+        field.map(|field| field.content).ok_or(Refusal::Absent)
+    };
+    let order_content = content(TAG_ORDER)?;
+    let low = content(TAG_LOW)?;
+    let high = content(TAG_HIGH)?;
+    let linear = content(TAG_LINEAR)?;
+    let limit = content(TAG_LIMIT)?;
+    let centre = content(TAG_CENTRE)?;
+    // "then 14 for tag 01, then 1"
+    check_sizes(&[(order_content, 1)])?;
+    let order = check_order(i64::from(order_content[0]))?;
+    // "then 14 for the other tags in rising order"
+    let table = TABLE_WIDTH * table_size(order);
+    let list = NUMBER_WIDTH * order;
+    check_sizes(&[
+        (low, table),
+        (high, table),
+        (linear, list),
+        (limit, NUMBER_WIDTH),
+        (centre, list),
+    ])?;
+    // "then 3, 4, 5"
+    Problem::read(
+        order,
+        &decode(low, TABLE_WIDTH),
+        &decode(high, TABLE_WIDTH),
+        &decode(linear, NUMBER_WIDTH),
+        decode(limit, NUMBER_WIDTH)[0],
+        &decode(centre, NUMBER_WIDTH),
+    )
+}
+
+/// Check 14: each pair is a field's content and the length called for.
+fn check_sizes(fields: &[(&[u8], usize)]) -> Result<(), Refusal> {
+    let all = fields.iter().all(|(content, size)| content.len() == *size);
+    require(all, Refusal::Size)
+}
+
+/// Numbers of 1 to 8 bytes each, "signed, low byte first".
+pub fn decode(bytes: &[u8], width: usize) -> Vec<i64> {
+    bytes.chunks(width).map(decode_number).collect()
+}
+
+fn decode_number(bytes: &[u8]) -> i64 {
+    let places = bytes.iter().rev();
+    let unsigned = places.fold(0, |sum, byte| 256 * sum + i128::from(*byte));
+    let turn = 1_i128 << (8 * bytes.len());
+    let signed = if unsigned >= turn / 2 {
+        unsigned - turn
+    } else {
+        unsigned
+    };
+    i64::try_from(signed).expect("at most 8 bytes a number")
+}
+
+/// The bytes of numbers, `width` bytes each, signed, low byte first.
+pub fn encode(numbers: &[i64], width: usize) -> Vec<u8> {
+    let bytes = |number: &i64| number.to_le_bytes()[..width].to_vec();
+    numbers.iter().flat_map(bytes).collect()
+}
+
+/// The six fields of a problem given as plain numbers, in rising order of tag.
+pub fn problem_fields(
+    n: u8,
+    low: &[i64],
+    high: &[i64],
+    linear: &[i64],
+    limit: i64,
+    centre: &[i64],
+) -> Vec<(u8, Vec<u8>)> {
+    vec![
+        (TAG_ORDER, vec![n]),
+        (TAG_LOW, encode(low, TABLE_WIDTH)),
+        (TAG_HIGH, encode(high, TABLE_WIDTH)),
+        (TAG_LINEAR, encode(linear, NUMBER_WIDTH)),
+        (TAG_LIMIT, encode(&[limit], NUMBER_WIDTH)),
+        (TAG_CENTRE, encode(centre, NUMBER_WIDTH)),
+    ]
+}
+
+/// A file of fields (tag, content), in the order given.
+pub fn write_summary(fields: &[(u8, Vec<u8>)]) -> Vec<u8> {
+    let mut file = vec![];
+    for (tag, content) in fields {
+        let length = u16::try_from(content.len()).expect("a two-byte length");
+        file.push(*tag);
+        file.extend(length.to_le_bytes());
+        file.extend(content);
+    }
+    file
+}

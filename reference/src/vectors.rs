@@ -1,0 +1,105 @@
+//! Witness vectors: document 01, "Showing a vector".
+
+use crate::factoring::floor_quotient;
+use crate::problem::{
+    check_lengths, check_order, pairs, table_size, widen, Bounds, Table, VECTOR_RANGE,
+};
+use crate::refusal::{require, Refusal};
+
+/// The scales of the solved vectors: "for s = 1 then s = 64".
+pub const SCALES: [i128; 2] = [1, 64];
+
+/// "The least value of x is the least x'Mx over members: L on the diagonal and
+/// where x(i)·x(j) > 0, U elsewhere."
+pub fn least_value(bounds: &Bounds, x: &[i128]) -> i128 {
+    pairs(bounds.order)
+        .map(|(i, j)| {
+            let entry = if i == j || x[i] * x[j] > 0 {
+                bounds.low[i][j]
+            } else {
+                bounds.high[i][j]
+            };
+            x[i] * entry * x[j]
+        })
+        .sum()
+}
+
+/// "x shows 'not definite' exactly if it is nonzero and its least value is 0
+/// or less."
+pub fn shows(bounds: &Bounds, x: &[i128]) -> bool {
+    nonzero(x) && least_value(bounds, x) <= 0
+}
+
+fn nonzero(x: &[i128]) -> bool {
+    x.iter().any(|entry| *entry != 0)
+}
+
+/// Check 7: "offered vector all zero, or an entry out of range".
+pub fn check_vector(numbers: &[i64]) -> Result<Vec<i128>, Refusal> {
+    let x = widen(numbers);
+    let within = x.iter().all(|entry| entry.abs() <= VECTOR_RANGE);
+    require(nonzero(&x) && within, Refusal::Vector)?;
+    Ok(x)
+}
+
+/// The vector test: checks 1 to 5 and 7, then yes (true) where the vector
+/// shows 'not definite', or no.
+pub fn test_vector(n: i64, low: &[i64], high: &[i64], vector: &[i64]) -> Result<bool, Refusal> {
+    let order = check_order(n)?;
+    let table = table_size(order);
+    check_lengths(&[
+        (low.len(), table),
+        (high.len(), table),
+        (vector.len(), order),
+    ])?;
+    let bounds = Bounds::read(order, low, high)?;
+    let x = check_vector(vector)?;
+    Ok(shows(&bounds, &x))
+}
+
+/// "The tried vectors of order n are those of order n − 1 with one entry put
+/// in front: first all with 0 in front, then 1, then −1. Order 0 has the empty
+/// vector only. The zero vector is skipped."
+pub fn tried_vectors(order: usize) -> Vec<Vec<i128>> {
+    let mut list = unit_entry_vectors(order);
+    list.retain(|x| nonzero(x));
+    list
+}
+
+fn unit_entry_vectors(order: usize) -> Vec<Vec<i128>> {
+    if order == 0 {
+        return vec![vec![]];
+    }
+    let shorter = unit_entry_vectors(order - 1);
+    let with_front = |front: i128| {
+        shorter
+            .iter()
+            .map(move |tail| [&[front], tail.as_slice()].concat())
+    };
+    [0, 1, -1].into_iter().flat_map(with_front).collect()
+}
+
+/// The solved vector of scale s for factoring stopped with column j and last
+/// row m. `None` where "an entry passes ±2^15".
+pub fn solved_vector(
+    column: usize,
+    last_row: usize,
+    partial: &Table,
+    s: i128,
+) -> Option<Vec<i128>> {
+    // "x(j) = s for the stopping column j." "All other entries are 0."
+    let mut x = vec![0; partial.len()];
+    x[column - 1] = s;
+    // "For i = m down to 1, with T = Σ over k > i of r(i,k)·x(k)"
+    for i in (0..last_row).rev() {
+        let r = &partial[i];
+        let t: i128 = (i + 1..x.len()).map(|k| r[k] * x[k]).sum();
+        // "x(i) is minus the rounded-down quotient of 2T + r(i,i) by 2·r(i,i)"
+        x[i] = -floor_quotient(2 * t + r[i], 2 * r[i]);
+        // "If an entry passes ±2^15 this s gives none."
+        if x[i].abs() > VECTOR_RANGE {
+            return None;
+        }
+    }
+    Some(x)
+}

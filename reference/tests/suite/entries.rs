@@ -1,0 +1,61 @@
+//! What the byte entries write, and what they keep.
+
+use hankboulder_reference::entries;
+use hankboulder_reference::generate::Generator;
+
+use crate::support::run_box;
+
+/// 'Definite' keeps the vector, 'not definite' the factor, all others both.
+#[test]
+fn the_judge_writes_at_most_one_buffer() {
+    let mut generator = Generator::new(11);
+    let mut written = [0, 0];
+    for _ in 0..1500 {
+        let call = generator.judge_call();
+        let (mut factor, mut vector) = (call.factor.clone(), call.vector.clone());
+        let code = entries::judge(call.n, &call.low, &call.high, &mut factor, &mut vector);
+        let changed = [factor != call.factor, vector != call.vector];
+        match code {
+            0 => assert_eq!(changed, [true, false]),
+            -1 => assert_eq!(changed, [false, true]),
+            _ => assert_eq!(changed, [false, false]),
+        }
+        written[0] += usize::from(changed[0]);
+        written[1] += usize::from(changed[1]);
+    }
+    assert!(written.iter().all(|count| *count > 100), "{written:?}");
+}
+
+/// Sides are written where the code is 0 and nowhere else.
+#[test]
+fn the_box_writes_only_a_given_box() {
+    let mut generator = Generator::new(12);
+    let mut given = 0;
+    for _ in 0..1500 {
+        let mut call = generator.box_call();
+        let before = call.sides.clone();
+        let code = run_box(&mut call);
+        assert_eq!(call.sides != before, code == 0);
+        given += usize::from(code == 0);
+    }
+    assert!(given > 100, "{given}");
+}
+
+#[test]
+fn numbers_are_signed_with_the_low_byte_first() {
+    let mut sides = [0xA5; 16];
+    // M = [4], a = −8, α = 0, c = 2: case P.
+    let m = [4, 0, 0, 0, 0, 0, 0, 0];
+    let a = [0xF8, 0xFF, 0xFF, 0xFF, 0xFF, 0xFF, 0xFF, 0xFF];
+    let c = [2, 0, 0, 0, 0, 0, 0, 0];
+    assert_eq!(entries::enclose(1, &m, &m, &a, 0, &c, &mut sides), 0);
+    let low = [0xFF; 8];
+    let high = [5, 0, 0, 0, 0, 0, 0, 0];
+    assert_eq!(sides, [low, high].concat()[..]);
+
+    let (mut factor, mut vector) = ([0; 8], [0xA5; 8]);
+    assert_eq!(entries::judge(1, &m, &m, &mut factor, &mut vector), 0);
+    // 129007 = 0x1F7EF
+    assert_eq!(factor, [0xEF, 0xF7, 1, 0, 0, 0, 0, 0]);
+    assert_eq!(vector, [0xA5; 8]);
+}

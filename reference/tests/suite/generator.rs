@@ -1,0 +1,180 @@
+//! The generator reaches every answer and every refusal.
+
+use std::collections::BTreeMap;
+
+use hankboulder_reference::entries;
+use hankboulder_reference::generate::{Generator, KINDS};
+use hankboulder_reference::program::output;
+
+use crate::support::{judge, numbers, run_box};
+
+/// How often each answer was met.
+type Counts = BTreeMap<i64, usize>;
+
+fn count(rounds: usize, mut answer: impl FnMut() -> i64) -> Counts {
+    let mut counts = Counts::new();
+    for _ in 0..rounds {
+        *counts.entry(answer()).or_default() += 1;
+    }
+    counts
+}
+
+fn assert_met(counts: &Counts, answers: &[i64]) {
+    let met: Vec<i64> = counts.keys().copied().collect();
+    assert_eq!(met, answers, "{counts:?}");
+}
+
+#[test]
+fn the_same_seed_gives_the_same_calls() {
+    let calls = |seed: u64| {
+        let mut generator = Generator::new(seed);
+        let problem = generator.any_problem();
+        let acts = (generator.factor_call(), generator.vector_call());
+        let others = (generator.judge_call(), generator.box_call());
+        (problem, acts, others, generator.summary_file())
+    };
+    assert_eq!(calls(1), calls(1));
+    assert_ne!(calls(1), calls(2));
+}
+
+#[test]
+fn factor_calls_meet_every_answer() {
+    let mut generator = Generator::new(51);
+    let counts = count(3000, || {
+        let call = generator.factor_call();
+        entries::test_factor(call.n, &call.low, &call.high, &call.factor)
+    });
+    assert_met(&counts, &[-1, 0, 1, 2, 3, 4, 5, 6]);
+}
+
+#[test]
+fn vector_calls_meet_every_answer() {
+    let mut generator = Generator::new(52);
+    let counts = count(3000, || {
+        let call = generator.vector_call();
+        entries::test_vector(call.n, &call.low, &call.high, &call.vector)
+    });
+    assert_met(&counts, &[-1, 0, 1, 2, 3, 4, 5, 7]);
+}
+
+#[test]
+fn judge_calls_meet_every_answer() {
+    let mut generator = Generator::new(53);
+    let counts = count(3000, || {
+        let mut call = generator.judge_call();
+        let (factor, vector) = (&mut call.factor, &mut call.vector);
+        entries::judge(call.n, &call.low, &call.high, factor, vector)
+    });
+    assert_met(&counts, &[-2, -1, 0, 1, 2, 3, 4, 5]);
+}
+
+#[test]
+fn box_calls_meet_every_answer() {
+    let mut generator = Generator::new(54);
+    let counts = count(3000, || {
+        let mut call = generator.box_call();
+        run_box(&mut call)
+    });
+    assert_met(&counts, &[-1, 0, 1, 2, 3, 4, 5, 8, 9]);
+}
+
+/// The answers of a file: the refusal number, or 0.
+#[test]
+fn summary_files_meet_every_answer() {
+    let mut generator = Generator::new(55);
+    let mut texts: BTreeMap<String, usize> = BTreeMap::new();
+    let counts = count(6000, || {
+        let text = output(&generator.summary_file());
+        assert!(text.ends_with('\n'));
+        for line in text.lines() {
+            let word = line.split(' ').next().unwrap().to_string();
+            *texts.entry(word).or_default() += 1;
+        }
+        let number = text.strip_prefix("refused ");
+        number.map_or(0, |number| number.trim_end().parse().unwrap())
+    });
+    assert_met(&counts, &[0, 1, 3, 4, 5, 10, 11, 12, 13, 14, 15]);
+    let words: Vec<&str> = texts.keys().map(String::as_str).collect();
+    let expected = [
+        "box",
+        "definite",
+        "empty",
+        "not",
+        "refused",
+        "row",
+        "side",
+        "undecided",
+        "vector",
+    ];
+    assert_eq!(words, expected);
+}
+
+#[test]
+fn files_reach_the_greatest_size_and_one_more() {
+    let mut generator = Generator::new(56);
+    let sizes: Vec<usize> = (0..3000).map(|_| generator.summary_file().len()).collect();
+    for size in [0, 4096, 4097] {
+        assert!(sizes.contains(&size), "no file of {size} bytes");
+    }
+}
+
+/// A witness vector's last nonzero entry is the scale of a solved vector; a
+/// tried vector has no entry beyond ±1.
+fn scale(vector: &[i64]) -> i64 {
+    if vector.iter().all(|entry| entry.abs() <= 1) {
+        return 0;
+    }
+    *vector.iter().rev().find(|entry| **entry != 0).unwrap()
+}
+
+#[test]
+fn verdicts_come_from_every_source() {
+    let mut generator = Generator::new(57);
+    let mut met = [Counts::new(), Counts::new()];
+    for round in 0..4000 {
+        let wide = round % 2 == 1;
+        let (kind, order) = (KINDS[round / 2 % 5], 1 + round / 10 % 8);
+        let problem = generator.problem(kind, order, wide);
+        let judged = judge(order, &problem.low, &problem.high);
+        assert!(judged.code <= 0, "{problem:?}");
+        let source = match judged.code {
+            -1 => scale(&judged.vector),
+            code => 1000 + code,
+        };
+        *met[usize::from(wide)].entry(source).or_default() += 1;
+    }
+    // Tried, both scales, 'undecided' and 'definite'.
+    for counts in met {
+        assert_met(&counts, &[0, 1, 64, 998, 1000]);
+    }
+}
+
+#[test]
+fn every_order_is_met_and_problems_are_let_through() {
+    let mut generator = Generator::new(58);
+    let counts = count(500, || {
+        let problem = generator.any_problem();
+        let n = problem.order;
+        assert_eq!(problem.low.len(), n * n);
+        assert_eq!(problem.linear.len(), n);
+        assert!(judge(n, &problem.low, &problem.high).code <= 0);
+        n as i64
+    });
+    assert_met(&counts, &[1, 2, 3, 4, 5, 6, 7, 8]);
+}
+
+#[test]
+fn extreme_numbers_are_lent() {
+    let mut generator = Generator::new(59);
+    let mut seen = Vec::new();
+    for _ in 0..2000 {
+        let call = generator.judge_call();
+        if call.low.len().is_multiple_of(8) {
+            seen.extend(numbers(&call.low));
+        }
+    }
+    let end = 1 << 20;
+    for number in [i64::MIN, i64::MAX, -end - 1, -end, end, end + 1] {
+        assert!(seen.contains(&number), "{number} is not met");
+    }
+}

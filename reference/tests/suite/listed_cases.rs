@@ -1,0 +1,110 @@
+//! The listed cases of document 01, and the same lines through the byte
+//! entries.
+
+use hankboulder_reference::cases::{listed_cases, numbers};
+use hankboulder_reference::entries;
+
+use crate::support::{bytes, enclose, judge, minors_positive, Judged, UNWRITTEN};
+
+#[test]
+fn every_listed_case_passes() {
+    let cases = listed_cases();
+    let failed: Vec<String> = cases
+        .iter()
+        .filter(|case| !case.passes())
+        .map(|case| case.to_string())
+        .collect();
+    assert_eq!(failed, Vec::<String>::new());
+    assert_eq!(cases.len(), 30);
+}
+
+#[test]
+fn a_failing_case_would_be_seen() {
+    let mut case = listed_cases().remove(0);
+    case.expected = "definite; row 61304".to_string();
+    assert!(!case.passes());
+    assert!(case.to_string().ends_with("FAIL"));
+}
+
+/// Judges matrices written as in the document.
+fn judged(low: &str, high: &str) -> Judged {
+    let n = low.split(';').count();
+    judge(n, &numbers(low), &numbers(high))
+}
+
+fn definite(factor: &[i64]) -> Judged {
+    let n = (1..=8).find(|n| n * n == factor.len()).unwrap();
+    Judged {
+        code: 0,
+        factor: factor.to_vec(),
+        vector: vec![UNWRITTEN; n],
+    }
+}
+
+fn not_definite(vector: &[i64]) -> Judged {
+    Judged {
+        code: -1,
+        factor: vec![UNWRITTEN; vector.len() * vector.len()],
+        vector: vector.to_vec(),
+    }
+}
+
+fn undecided(n: usize) -> Judged {
+    Judged {
+        code: -2,
+        factor: vec![UNWRITTEN; n * n],
+        vector: vec![UNWRITTEN; n],
+    }
+}
+
+#[test]
+fn judged_matrices_of_order_1() {
+    assert_eq!(judged("[1]", "[1]"), definite(&[61303]));
+    assert_eq!(judged("[1]", "[2]"), definite(&[61303]));
+    assert_eq!(judged("[0]", "[0]"), not_definite(&[1]));
+    assert_eq!(judged("[0]", "[5]"), not_definite(&[1]));
+}
+
+#[test]
+fn judged_matrices_of_order_2() {
+    let thin = |matrix: &str| judged(matrix, matrix);
+    assert_eq!(thin("[2 1; 1 2]"), definite(&[89738, 47861, 0, 75910]));
+    assert_eq!(thin("[1 2; 2 5]"), definite(&[61303, 140122, 0, 36108]));
+    assert_eq!(thin("[1 2; 2 1]"), not_definite(&[1, -1]));
+    assert_eq!(thin("[1 1; 1 1]"), not_definite(&[1, -1]));
+    assert_eq!(thin("[1 1000; 1000 10000]"), not_definite(&[-1143, 1]));
+    assert_eq!(thin("[1 3; 3 10]"), undecided(2));
+    assert!(minors_positive(2, &[1, 3, 3, 10]));
+}
+
+#[test]
+fn wrong_turns() {
+    let rounded_down = judged("[2 -1; -1 2]", "[2 -1; -1 2]");
+    assert_eq!(rounded_down.factor[1], -47862);
+    let high_breaks_it = judged("[1 0; 0 1]", "[1 2; 2 1]");
+    assert_eq!(high_breaks_it, not_definite(&[1, -1]));
+    let early_stop = "[1 0 1000; 0 1 5; 1000 5 10000]";
+    assert_eq!(judged(early_stop, early_stop), not_definite(&[-1143, 0, 1]));
+}
+
+#[test]
+fn judged_boxes() {
+    let boxed = |m: i64, a: i64, limit: i64| enclose(&[m], &[m], &[a], limit, &[0]);
+    let kept = vec![UNWRITTEN; 2];
+    assert_eq!(boxed(4, 0, -1), (-1, kept.clone()));
+    assert_eq!(boxed(4, 0, 0), (0, vec![0, 0]));
+    assert_eq!(boxed(1, 0, 0), (8, kept.clone()));
+    assert_eq!(boxed(4, 1 << 20, 0).0, 0);
+    assert_eq!(boxed(4, (1 << 20) + 1, 0), (9, kept));
+}
+
+#[test]
+fn judged_vector_and_factor() {
+    let m = bytes(&[1, 1000, 1000, 10000]);
+    let x = bytes(&[-1143, 1]);
+    assert_eq!(entries::test_vector(2, &m, &m, &x), 0);
+    let m = bytes(&[2, 1, 1, 2]);
+    let factor = bytes(&[89738, 47861, 0, 75910]);
+    assert_eq!(entries::test_factor(2, &m, &m, &factor), 0);
+    assert_eq!(entries::test_vector(2, &m, &m, &x), -1);
+}

@@ -1,0 +1,12 @@
+//! Tests of the reference implementation. Expected values are literals of
+//! document 01 or worked by another route.
+
+mod entries;
+mod files;
+mod generator;
+mod listed_cases;
+mod program_text;
+mod properties;
+mod readings;
+mod refusals;
+mod support;

@@ -1,0 +1,128 @@
+//! Calls with plain numbers, and exact checks by routes other than the
+//! library's.
+
+use hankboulder_reference::entries;
+use hankboulder_reference::generate::BoxCall;
+
+/// Contents of output buffers before a call.
+pub const UNWRITTEN: i64 = 0x5A5A_5A5A_5A5A_5A5A;
+
+/// Numbers as 8 bytes each.
+pub fn bytes(numbers: &[i64]) -> Vec<u8> {
+    numbers.iter().flat_map(|m| m.to_le_bytes()).collect()
+}
+
+/// The numbers of 8 bytes each.
+pub fn numbers(bytes: &[u8]) -> Vec<i64> {
+    let number = |chunk: &[u8]| i64::from_le_bytes(chunk.try_into().unwrap());
+    bytes.chunks(8).map(number).collect()
+}
+
+/// The judge's return value and both outputs.
+#[derive(Debug, PartialEq, Eq)]
+pub struct Judged {
+    pub code: i64,
+    pub factor: Vec<i64>,
+    pub vector: Vec<i64>,
+}
+
+/// Judges tables given as numbers.
+pub fn judge(n: usize, low: &[i64], high: &[i64]) -> Judged {
+    let mut factor = bytes(&vec![UNWRITTEN; n * n]);
+    let mut vector = bytes(&vec![UNWRITTEN; n]);
+    let code = entries::judge(
+        n as i64,
+        &bytes(low),
+        &bytes(high),
+        &mut factor,
+        &mut vector,
+    );
+    Judged {
+        code,
+        factor: numbers(&factor),
+        vector: numbers(&vector),
+    }
+}
+
+/// Runs a generated call of the box.
+pub fn run_box(call: &mut BoxCall) -> i64 {
+    entries::enclose(
+        call.n,
+        &call.low,
+        &call.high,
+        &call.linear,
+        call.limit,
+        &call.centre,
+        &mut call.sides,
+    )
+}
+
+/// The box's return value and the sides.
+pub fn enclose(low: &[i64], high: &[i64], a: &[i64], limit: i64, c: &[i64]) -> (i64, Vec<i64>) {
+    let mut call = BoxCall {
+        n: a.len() as i64,
+        low: bytes(low),
+        high: bytes(high),
+        linear: bytes(a),
+        limit,
+        centre: bytes(c),
+        sides: bytes(&vec![UNWRITTEN; 2 * a.len()]),
+    };
+    let code = run_box(&mut call);
+    (code, numbers(&call.sides))
+}
+
+/// x'Mx for a table of numbers.
+pub fn quadratic_form(matrix: &[i64], x: &[i64]) -> i128 {
+    let n = x.len();
+    let mut sum = 0;
+    for (place, entry) in matrix.iter().enumerate() {
+        sum += i128::from(*entry) * i128::from(x[place / n]) * i128::from(x[place % n]);
+    }
+    sum
+}
+
+/// Every symmetric matrix with each entry at one of its bounds.
+pub fn corners(n: usize, low: &[i64], high: &[i64]) -> Vec<Vec<i64>> {
+    let mut list = vec![low.to_vec()];
+    for i in 0..n {
+        for j in i..n {
+            if low[i * n + j] == high[i * n + j] {
+                continue;
+            }
+            let mut raised = list.clone();
+            for matrix in &mut raised {
+                matrix[i * n + j] = high[i * n + j];
+                matrix[j * n + i] = high[i * n + j];
+            }
+            list.extend(raised);
+        }
+    }
+    list
+}
+
+/// Whether all leading minors are positive, by elimination without fractions.
+/// For orders up to 4 no number leaves 128 bits.
+pub fn minors_positive(n: usize, matrix: &[i64]) -> bool {
+    assert!(n <= 4);
+    let mut m: Vec<Vec<i128>> = matrix
+        .chunks(n)
+        .map(|row| row.iter().map(|entry| i128::from(*entry)).collect())
+        .collect();
+    let mut previous = 1;
+    for k in 0..n {
+        let pivot = m[k][k];
+        if pivot <= 0 {
+            return false;
+        }
+        let upper = m[k].clone();
+        for row in &mut m[k + 1..] {
+            let head = row[k];
+            for (entry, above) in row.iter_mut().zip(&upper) {
+                *entry = (*entry * pivot - head * above) / previous;
+            }
+        }
+        previous = pivot;
+    }
+    true
+}
