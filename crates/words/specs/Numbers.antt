@@ -1,0 +1,55 @@
+-- Numbers in lists of bytes: low byte first, signed numbers in two's complement. A number of width w takes `bytes w` bytes.
+use Prim.Native.Nat.{ℕ, zero, suc, _+_, _-_, _*_, _/_, _%_, _<_}
+use mathlib.Core.List.{List, [], _∷_, _++_}
+use lib.ListN.{take, drop, getD, replicate}
+use lib.IntN.{ℤ, pos}
+use mir.Syntax.{Width}
+use mir.Val.{bytes, toZ, ofZ, SFits}
+
+-- the unsigned number that the bytes are
+unfoldable pub fromLeBytes : List ℕ → ℕ
+fromLeBytes [] = 0
+fromLeBytes (b ∷ bs) = b + 256 * fromLeBytes bs
+
+-- the k low bytes of u
+unfoldable pub toLeBytes : ℕ → ℕ → List ℕ
+toLeBytes zero u = []
+toLeBytes (suc k) u = u % 256 ∷ toLeBytes k (u / 256)
+
+-- the unsigned number of the k bytes of s at `at`
+unfoldable pub unsignedAt : ℕ → List ℕ → ℕ → ℕ
+unsignedAt k s at = fromLeBytes (take k (drop at s))
+
+-- the signed number of width w in s at `at`
+unfoldable pub signedAt : Width → List ℕ → ℕ → ℤ
+signedAt w s at = toZ w (unsignedAt (bytes w) s at)
+
+-- s with the k low bytes of u at `at`
+unfoldable pub withUnsigned : ℕ → List ℕ → ℕ → ℕ → List ℕ
+withUnsigned k s at u = take at s ++ toLeBytes k u ++ drop (at + k) s
+
+-- s with the bytes of the signed number v of width w at `at`
+unfoldable pub withSigned : Width → List ℕ → ℕ → ℤ → List ℕ
+withSigned w s at v = withUnsigned (bytes w) s at (ofZ w v)
+
+-- the first k signed numbers of width w in s
+unfoldable pub numbersOf : Width → List ℕ → ℕ → List ℤ
+numbersOf w s zero = []
+numbersOf w s (suc k) = numbersOf w s k ++ (signedAt w s (k * bytes w) ∷ [])
+
+-- the same k numbers, and zeros up to n of them
+unfoldable pub paddedNumbersOf : Width → ℕ → List ℕ → ℕ → List ℤ
+paddedNumbersOf w n s k = numbersOf w s k ++ replicate (n - k) (pos 0)
+
+-- the bytes of the first k numbers of a, each of width w
+unfoldable pub bytesOf : Width → List ℤ → ℕ → List ℕ
+bytesOf w a zero = []
+bytesOf w a (suc k) = bytesOf w a k ++ toLeBytes (bytes w) (ofZ w (getD a k (pos 0)))
+
+-- every element is a byte (past the end `getD` reads 0)
+pub record AllBytes (s : List ℕ) : Type 0 where
+  pub each : (i : ℕ) → getD s i 0 < 256
+
+-- every element is a signed number of width w
+pub record AllFit (w : Width) (a : List ℤ) : Type 0 where
+  pub each : (i : ℕ) → SFits w (getD a i (pos 0))

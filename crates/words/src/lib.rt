@@ -1,0 +1,143 @@
+// Numbers in byte slices: low byte first, signed numbers in two's complement and 8 bytes.
+ghost use mathlib.Core.Path.{_≡_};
+ghost use mathlib.Core.List.{_++_};
+ghost use Prim.Native.Nat.{_+_, _*_, _<_, _≤_};
+ghost use lib.ListN.{length, drop};
+ghost use lib.IntN.{natAbs};
+ghost use mir.Syntax.{w64};
+ghost use mir.Val.{toZ, ofZ, bytes};
+ghost use Rattle.words.specs.Numbers.{unsignedAt, signedAt, withUnsigned, withSigned, numbersOf, paddedNumbersOf, bytesOf};
+
+// The bytes of an i64.
+const SIZE: usize = 8;
+
+// The bits of v.
+fn bits_of(v: i64) -> u64
+    ensures { λ r. ⌜ r ≡ ofZ w64 v ⌝ }
+{
+    if v >= 0 {
+        v as u64
+    } else {
+        0xffff_ffff_ffff_ffff - ((-1 - v) as u64)
+    }
+}
+
+// |v|, also of the least number.
+pub fn magnitude(v: i64) -> u64
+    ensures { λ r. ⌜ r ≡ natAbs v ⌝ }
+{
+    let u = bits_of(v);
+    if v >= 0 {
+        u
+    } else {
+        (0xffff_ffff_ffff_ffff - u) + 1
+    }
+}
+
+// The bits u, read as signed.
+fn signed_of(u: u64) -> i64
+    ensures { λ r. ⌜ r ≡ toZ w64 u ⌝ }
+{
+    if u < 0x8000_0000_0000_0000 {
+        u as i64
+    } else {
+        -1 - ((0xffff_ffff_ffff_ffff - u) as i64)
+    }
+}
+
+fn wide(x: u8) -> u64
+    ensures { λ r. ⌜ (r ≡ x) × (r < 256) ⌝ }
+{
+    x as u64
+}
+
+// The unsigned number of the k bytes at `at`.
+pub fn load_unsigned(b: &[u8], at: usize, k: usize) -> u64
+    requires { ⌜ (at + k ≤ length (now b)) × (k ≤ 8) ⌝ }
+    ensures { λ r. ⌜ r ≡ unsignedAt k (now (b .entry)) at ⌝ }
+{
+    let mut u = 0;
+    let mut i = k;
+    while 0 < i {
+        i -= 1;
+        let x = wide(b[at + i]);
+        u = u * 256 + x;
+    }
+    u
+}
+
+// The number at `at`.
+pub fn load_i64(b: &[u8], at: usize) -> i64
+    requires { ⌜ at + bytes w64 ≤ length (now b) ⌝ }
+    ensures { λ r. ⌜ r ≡ signedAt w64 (now (b .entry)) at ⌝ }
+{
+    signed_of(load_unsigned(b, at, SIZE))
+}
+
+// The k low bytes of u, to the place `at`.
+fn store_unsigned(b: &mut [u8], at: usize, k: usize, u: u64)
+    requires { ⌜ at + k ≤ length (now b) ⌝ }
+    ensures { λ _. ⌜ now (b .exit) ≡ withUnsigned k (now (b .entry)) at u ⌝ }
+{
+    let mut rest = u;
+    let mut i = 0;
+    while i < k {
+        b[at + i] = (rest % 256) as u8;
+        rest = rest / 256;
+        i += 1;
+    }
+}
+
+// v, to the place `at`.
+pub fn store_i64(b: &mut [u8], at: usize, v: i64)
+    requires { ⌜ at + bytes w64 ≤ length (now b) ⌝ }
+    ensures { λ _. ⌜ now (b .exit) ≡ withSigned w64 (now (b .entry)) at v ⌝ }
+{
+    store_unsigned(b, at, SIZE, bits_of(v));
+}
+
+// The first k numbers of b, to the start of out.
+pub fn load_numbers(b: &[u8], out: &mut [i64], k: usize)
+    requires { ⌜ (k * bytes w64 ≤ length (now b)) × (k ≤ length (now out)) ⌝ }
+    ensures { λ _. ⌜ now (out .exit) ≡ numbersOf w64 (now (b .entry)) k ++ drop k (now (out .entry)) ⌝ }
+{
+    let mut i = 0;
+    while i < k {
+        let v = load_i64(b, i * SIZE);
+        out[i] = v;
+        i += 1;
+    }
+}
+
+// The first k numbers of b, and zeros after them.
+pub fn load_table(b: &[u8], k: usize) -> [i64; 64]
+    requires { ⌜ (k * bytes w64 ≤ length (now b)) × (k ≤ 64) ⌝ }
+    ensures { λ r. ⌜ r ≡ paddedNumbersOf w64 64 (now (b .entry)) k ⌝ }
+{
+    let mut a = [0i64; 64];
+    load_numbers(b, &mut a, k);
+    a
+}
+
+// The first k numbers of b, and zeros after them.
+pub fn load_vector(b: &[u8], k: usize) -> [i64; 8]
+    requires { ⌜ (k * bytes w64 ≤ length (now b)) × (k ≤ 8) ⌝ }
+    ensures { λ r. ⌜ r ≡ paddedNumbersOf w64 8 (now (b .entry)) k ⌝ }
+{
+    let mut a = [0i64; 8];
+    load_numbers(b, &mut a, k);
+    a
+}
+
+// The first k numbers of a, to the start of out.
+pub fn store_numbers(a: &[i64], out: &mut [u8], k: usize)
+    requires { ⌜ (k ≤ length (now a)) × (k * bytes w64 ≤ length (now out)) ⌝ }
+    ensures { λ _. ⌜ now (out .exit) ≡ bytesOf w64 (now (a .entry)) k ++ drop (k * bytes w64) (now (out .entry)) ⌝ }
+{
+    let mut i = 0;
+    while i < k {
+        let v = a[i];
+        store_i64(out, i * SIZE, v);
+        i += 1;
+    }
+}
