@@ -2,10 +2,10 @@
 -- over them be a polynomial with only even monomials and no negative coefficient, which is computed and not searched for.
 --
 --   combined (a ∷ b ∷ c ∷ []) (pos-nonneg 2 ⊠ h ⊞ k) (search solver depth 40 fits 20000) tt
-use mathlib.Core.Path.{_≡_, refl, _∙_, subst}
+use mathlib.Core.Path.{_≡_, _∙_, subst}
 use mathlib.Core.Bool.{Bool, true, false}
 use mathlib.Core.List.{List, [], _∷_}
-use Prim.Native.Nat.{ℕ, zero, suc}
+use Prim.Native.Nat.{ℕ}
 use native.Mathlib.Omega.{arith}
 use lib.Dec.{T, eqb, eqb→eq}
 use lib.IntN.{ℤ, pos, negsuc, _+ℤ_, _-ℤ_, _*ℤ_}

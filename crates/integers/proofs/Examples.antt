@@ -8,9 +8,8 @@ use lib.Signed.{_≤ℤ_, _<ℤ_}
 use Rattle.integers.specs.Division.{floorDiv, ceilDiv}
 use Rattle.integers.specs.Root.{rootAbove, rootWithin, wholeRoot, leastRoot}
 use Rattle.integers.specs.Sum.{sum}
-use Rattle.integers.proofs.Parts.{square-nonneg, *ℤ-nonneg, gap-nonneg, pos-nonneg}
-use Rattle.integers.proofs.Solver.{_&_, none, ring, order, solver}
-use Rattle.integers.proofs.Sums.{sum-suc}
+use Rattle.integers.proofs.Parts.{square-nonneg, pos-nonneg}
+use Rattle.integers.proofs.Solver.{_&_, ring, order, solver}
 use Rattle.integers.proofs.Certificate.{combined, _⊞_, _⊠_}
 
 -- ---- equations

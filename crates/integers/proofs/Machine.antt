@@ -2,13 +2,14 @@
 --
 --   clean (c .fits .x)            a parameter x                     clean-result (c .callee)    a call's result
 --   clean-element z (c .. .given) an element z that was just read   clean (need c)              a sum or product whose own need is answered
---   lt-yes, lt-no, le-yes, le-no  what a test of two numbers says   same-bits                   what x == y says
+--   lt-yes, lt-no, le-yes, le-no  what a test of two numbers says   lt-holds, lt-fails          the same, of a loop's locals
+--   same-bits                     what x == y says
 --   as-usize, read-i64            casts                             fits, fits-within           that a result fits, from its size
 --
 -- Rewrite from the outside in: `clean (need c) ∙ simp (..)`. Sizes are in ℕ: `Within m x` says |x| ≤ m, and adds up by `within-+`, `within-*`, `within-sum`.
 use mathlib.Core.Path.{_≡_, refl, sym, _∙_, ap, subst}
 use mathlib.Core.Bool.{Bool, true, false, not, cond}
-use mathlib.Core.List.{List, [], _∷_}
+use mathlib.Core.List.{List}
 use Prim.Native.Nat.{ℕ, zero, suc, _+_, _*_, _-_, _^_, _≤_, _<_}
 use native.Mathlib.Nat.{lt-trans, mul-le-mul, div-le-self}
 use native.Mathlib.Omega.{arith}
@@ -26,15 +27,12 @@ use borrow.Table.Row.{Cx}
 use borrow.Table.Typed.{Mo}
 use borrow.Author.Tests.{leb-false}
 use Rattle.integers.specs.Sum.{sum}
-use Rattle.integers.specs.Numbers.{absℤ}
+use Rattle.integers.specs.Numbers.{Within}
 use Rattle.integers.specs.Division.{floorDiv}
-use Rattle.integers.proofs.Parts.{plus, minus, ≤-out, ≤-in, <-out, <-in, ≡-out, ≡-in}
+use Rattle.integers.proofs.Parts.{≤-out, ≤-in, <-out, <-in, ≡-out, ≡-in}
 use Rattle.integers.proofs.Division.{floor-size, flip}
 
 -- ---- sizes
-pub record Within (m : ℕ) (x : ℤ) : Type 0 where
-  pub size : natAbs x ≤ m
-
 size-neg : (x : ℤ) → natAbs (negℤ x) ≡ natAbs x
 size-neg (pos zero) = refl
 size-neg (pos (suc n)) = refl
@@ -126,13 +124,19 @@ pub clean-result : {n : ℕ} {ps : List (PK n)} {Q : Out n ps (rSNum w64)} {Γ :
     (k : Called ps (rSNum w64) Q Γ ar u) → toZ w64 (ofZ w64 (k .result)) ≡ k .result
 clean-result k = toZ-ofZ w64 (k .result) (record { sfits = k .ok })
 
--- ---- tests, of the numbers themselves
+-- ---- tests: of numbers as they stand, as a loop's locals are, and of numbers that the machine reads back
+pub lt-holds : {x y : ℤ} → ltZ x y ≡ true → x <ℤ y
+lt-holds t = record { lt = subst T (sym t) tt }
+
+pub lt-fails : {x y : ℤ} → ltZ x y ≡ false → y ≤ℤ x
+lt-fails t = ltZ-no (subst (λ (b : Bool). T (not b)) (sym t) tt)
+
 module _ {x y : ℤ} (f : SFits w64 x) (g : SFits w64 y) where
   pub lt-yes : ltZ (toZ w64 (ofZ w64 x)) (toZ w64 (ofZ w64 y)) ≡ true → x <ℤ y
-  lt-yes t = record { lt = subst T (sym (rw (clean f, clean g) at t)) tt }
+  lt-yes t = lt-holds (rw (clean f, clean g) at t)
 
   pub lt-no : ltZ (toZ w64 (ofZ w64 x)) (toZ w64 (ofZ w64 y)) ≡ false → y ≤ℤ x
-  lt-no t = ltZ-no (subst (λ (b : Bool). T (not b)) (sym (rw (clean f, clean g) at t)) tt)
+  lt-no t = lt-fails (rw (clean f, clean g) at t)
 
   pub le-yes : leZ (toZ w64 (ofZ w64 x)) (toZ w64 (ofZ w64 y)) ≡ true → x ≤ℤ y
   le-yes t = record { le = subst T (sym (rw (clean f, clean g) at t)) tt }

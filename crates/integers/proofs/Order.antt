@@ -1,5 +1,5 @@
 -- Orders of products, squares, absolute values, and of the smaller and the greater of two integers.
-use mathlib.Core.Path.{_≡_, refl, sym, ap, _∙_}
+use mathlib.Core.Path.{_≡_, refl}
 use mathlib.Core.Bool.{Bool, true, false}
 use mathlib.Core.Logic.{_⊎_, inl, inr}
 use mathlib.Core.List.{[], _∷_}
@@ -9,8 +9,8 @@ use lib.Dec.{T}
 use lib.IntN.{ℤ, pos, negsuc, negℤ, _+ℤ_, _-ℤ_, _*ℤ_}
 use lib.Signed.{_≤ℤ_, _<ℤ_, leZ, ≤ℤ-refl}
 use Rattle.integers.specs.Numbers.{absℤ, minℤ, maxℤ}
-use Rattle.integers.proofs.Parts.{≤-in, ≤-out, ≤ℤ-or-<ℤ, ≤ℤ-trans, *ℤ-nonneg, square-nonneg, gap-nonneg, pos-nonneg}
-use Rattle.integers.proofs.Solver.{_&_, none, order, solver}
+use Rattle.integers.proofs.Parts.{≤-in, ≤ℤ-or-<ℤ, ≤ℤ-trans, *ℤ-nonneg, square-nonneg, gap-nonneg, pos-nonneg}
+use Rattle.integers.proofs.Solver.{_&_, order, solver}
 
 -- x lies from a to b
 pub record Between (a x b : ℤ) : Type 0 where
@@ -18,12 +18,15 @@ pub record Between (a x b : ℤ) : Type 0 where
   pub high : x ≤ℤ b
 
 -- ---- orders of whole numbers
+pub <-≤ : {x y : ℤ} → x <ℤ y → x ≤ℤ y
+<-≤ {x} {y} h = order (x ∷ y ∷ []) h (search solver depth 40 fits 20000) (omega arith)
+
 pub ≤ℤ-total : (x y : ℤ) → (x ≤ℤ y) ⊎ (y ≤ℤ x)
 ≤ℤ-total x y = go (≤ℤ-or-<ℤ x y)
   where
     go : (x ≤ℤ y) ⊎ (y <ℤ x) → (x ≤ℤ y) ⊎ (y ≤ℤ x)
     go (inl h) = inl h
-    go (inr h) = inr (order (x ∷ y ∷ []) h (search solver depth 40 fits 20000) (omega arith))
+    go (inr h) = inr (<-≤ h)
 
 pub <-suc : {x y : ℤ} → x <ℤ y → (x +ℤ pos 1) ≤ℤ y
 <-suc {x} {y} h = order (x ∷ y ∷ []) h (search solver depth 40 fits 20000) (omega arith)
@@ -130,3 +133,9 @@ pub ≤-maxˡ : (x y : ℤ) → x ≤ℤ maxℤ x y
 
 pub ≤-maxʳ : (x y : ℤ) → y ≤ℤ maxℤ x y
 ≤-maxʳ x y = max-by x y (λ z. y ≤ℤ z) (λ h. ≤ℤ-refl y) (λ h. h)
+
+pub max-≤ : {x y m : ℤ} → x ≤ℤ m → y ≤ℤ m → maxℤ x y ≤ℤ m
+max-≤ {x} {y} {m} h k = max-by x y (λ z. z ≤ℤ m) (λ l. k) (λ l. h)
+
+pub ≤-min : {x y m : ℤ} → m ≤ℤ x → m ≤ℤ y → m ≤ℤ minℤ x y
+≤-min {x} {y} {m} h k = min-by x y (λ z. m ≤ℤ z) (λ l. h) (λ l. k)

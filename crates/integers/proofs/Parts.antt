@@ -1,14 +1,14 @@
 -- Integers by their positive and negative parts, in ℕ, where `omega` applies: the ring and order laws that lib.IntN and lib.Signed lack.
 -- Nothing outside this file takes an integer apart by `pos` and `negsuc` but for a definition's own cases.
-use mathlib.Core.Path.{_≡_, refl, sym, ap, subst}
+use mathlib.Core.Path.{_≡_, refl, ap, subst}
 use mathlib.Core.Bool.{Bool, true, false, not, cond}
 use mathlib.Core.Logic.{_⊎_, inl, inr}
 use Prim.Native.Nat.{ℕ, zero, suc, _+_, _*_, _-_, _<_, _≤_}
 use native.Mathlib.Omega.{arith}
 use native.Mathlib.Decide.{decLe}
 use lib.Dec.{T, ltb, lt→ltb, ltb→lt, nltb→le, leb→le, le→leb}
-use lib.IntN.{ℤ, pos, negsuc, negℤ, natAbs, subℕ, _+ℤ_, _-ℤ_, _*ℤ_}
-use lib.Signed.{_≤ℤ_, _<ℤ_}
+use lib.IntN.{ℤ, pos, negsuc, negℤ, subℕ, _+ℤ_, _-ℤ_, _*ℤ_}
+use lib.Signed.{_≤ℤ_, _<ℤ_, leZ, leZ-yes, clashℤ}
 
 -- x is plus x - minus x, and one of the two is 0
 abbrev pub plus : ℤ → ℕ
@@ -134,6 +134,21 @@ pub ≤ℤ-or-<ℤ : (x y : ℤ) → (x ≤ℤ y) ⊎ (y <ℤ x)
     go : Dec (plus x + minus y ≤ plus y + minus x) → (x ≤ℤ y) ⊎ (y <ℤ x)
     go (yes h) = inl (≤-in h)
     go (no h) = inr (<-in (omega arith))
+
+-- the test of an order
+pub leZ-true : {x y : ℤ} → x ≤ℤ y → leZ x y ≡ true
+leZ-true {x} {y} h = go (leZ x y) (h .le)
+  where
+    go : (b : Bool) → T b → b ≡ true
+    go true t = refl
+    go false t = absurd t
+
+pub leZ-false : {x y : ℤ} → y <ℤ x → leZ x y ≡ false
+leZ-false {x} {y} h = go (leZ x y) (λ t. clashℤ h (leZ-yes t))
+  where
+    go : (b : Bool) → (T b → ⊥) → b ≡ false
+    go true f = absurd (f tt)
+    go false f = refl
 
 pub +ℤ-mono : {x y z w : ℤ} → x ≤ℤ y → z ≤ℤ w → (x +ℤ z) ≤ℤ (y +ℤ w)
 +ℤ-mono {x} {y} {z} {w} h k = ≤-in (omega (arith, ≤-out h, ≤-out k, sum-parts x z .is, sum-parts y w .is))

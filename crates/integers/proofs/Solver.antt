@@ -15,8 +15,8 @@
 -- "no proof of `Problem`" means that an atom is missing from the list. An equation is not used inside a product: multiply it first, or `rw`.
 -- Past some 15 nonlinear facts use `combined` of Certificate.antt. Examples.antt has more, and the check runs them.
 use mathlib.Core.Path.{_≡_, refl, sym, ap, ap₂, _∙_, subst}
-use mathlib.Core.List.{List, [], _∷_, _++_}
-use Prim.Native.Nat.{ℕ, zero, suc, _+_, _*_, _≤_}
+use mathlib.Core.List.{List, [], _∷_}
+use Prim.Native.Nat.{ℕ, suc, _+_, _*_, _≤_}
 use native.Mathlib.Omega.{arith}
 use native.Mathlib.Numerals.{add-one}
 use lib.Dec.{eqb}

@@ -5,15 +5,15 @@ use mathlib.Core.Logic.{_≢_}
 use mathlib.Core.List.{[], _∷_}
 use Prim.Native.Nat.{ℕ, zero, suc, _+_, _≤_, _<_}
 use native.Mathlib.Omega.{arith}
-use native.Mathlib.Decide.{ℕ-discrete, decLt}
+use native.Mathlib.Decide.{ℕ-discrete}
 use native.Mathlib.Nat.{add-zero, add-suc}
 use lib.Dec.{T, eqb, eqb→eq, eqb-refl}
-use lib.IntN.{ℤ, pos, negsuc, negℤ, _+ℤ_, _-ℤ_, _*ℤ_, *ℤ-zero, zero-*ℤ, *ℤ-comm, +ℤ-idr}
+use lib.IntN.{ℤ, pos, _+ℤ_, _-ℤ_, _*ℤ_, *ℤ-zero, zero-*ℤ, *ℤ-comm, +ℤ-idr}
 use lib.Signed.{_≤ℤ_, ≤ℤ-refl}
 use Rattle.integers.specs.Numbers.{absℤ}
 use Rattle.integers.specs.Sum.{sum, only, except, sumExcept}
 use Rattle.integers.proofs.Parts.{≤ℤ-trans, +ℤ-mono}
-use Rattle.integers.proofs.Solver.{_&_, none, ring, order, solver}
+use Rattle.integers.proofs.Solver.{_&_, ring, order, solver}
 use Rattle.integers.proofs.Order.{abs-+}
 
 -- ---- the definition's two cases

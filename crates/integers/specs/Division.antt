@@ -1,5 +1,5 @@
 -- Quotients of an integer by a divisor from 1 up, rounded toward minus and toward plus infinity.
-use Prim.Native.Nat.{ℕ, _/_}
+use Prim.Native.Nat.{_/_}
 use lib.IntN.{ℤ, pos, negsuc, negℤ, natAbs}
 
 -- the only q with d q ≤ a < d (q + 1)

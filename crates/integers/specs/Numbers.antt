@@ -1,11 +1,16 @@
--- The absolute value, and the smaller and the greater of two integers.
+-- The size of an integer, and the smaller and the greater of two.
 use mathlib.Core.Bool.{true, false}
+use Prim.Native.Nat.{ℕ, _≤_}
 use lib.IntN.{ℤ, pos, natAbs}
 use lib.Signed.{leZ}
 
 -- |x|
 unfoldable pub absℤ : ℤ → ℤ
 absℤ x = pos (natAbs x)
+
+-- |x| ≤ m, in ℕ
+pub record Within (m : ℕ) (x : ℤ) : Type 0 where
+  pub size : natAbs x ≤ m
 
 unfoldable pub minℤ : ℤ → ℤ → ℤ
 minℤ x y = elim (leZ x y) [ true ↦ x | false ↦ y ]

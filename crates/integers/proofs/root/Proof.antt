@@ -1,6 +1,6 @@
 -- The loop's invariant: r is not below the root, and s is Newton's step from r. The measure is r.
 use mathlib.Core.Path.{_≡_}
-use Prim.Native.Nat.{ℕ, zero, suc, _+_, _*_, _/_, _^_, _≤_, _<_}
+use Prim.Native.Nat.{ℕ, zero, suc, _+_, _*_, _/_, _^_, _<_}
 use native.Mathlib.Nat.{div-le-self}
 use native.Mathlib.Omega.{arith}
 use Rattle.integers.proofs.Roots.{newton-above, newton-stops, root-small}

@@ -1,0 +1,143 @@
+-- The matrix H in its table: how large its entries get, and the walk of the code through a column.
+use mathlib.Core.Path.{_≡_, _∙_}
+use mathlib.Core.List.{List}
+use Prim.Native.Nat.{ℕ, suc, _+_, _*_, _^_, _≤_, _<_}
+use native.Mathlib.Omega.{arith}
+use native.Mathlib.Decide.{decLt}
+use lib.IntN.{ℤ, pos, _+ℤ_, _-ℤ_, _*ℤ_}
+use lib.Signed.{mag}
+use lib.ListN.{length, set, length-set}
+use mir.Syntax.{w64}
+use mir.Val.{SFits, toZ, ofZ}
+use Rattle.integers.specs.Numbers.{Within}
+use Rattle.integers.proofs.Machine.{within-more, within-+, within--, within-*, within-sum, fits-within, clean-element}
+use Rattle.integers.proofs.Sums.{only-by}
+use Rattle.tables.specs.Ranges.{greatestOrder}
+use Rattle.tables.specs.Matrix.{Matrix, rowWidth}
+use Rattle.tables.specs.Bounds.{Bounds}
+use Rattle.tables.proofs.Matrix.{inside, at-most-64}
+use Rattle.cholesky.specs.Scale.{halfScale, takeOff, scaled}
+use Rattle.cholesky.specs.Store.{upper, Heights}
+use Rattle.cholesky.specs.Scaling.{Ranged, Lent, Scaled}
+use Rattle.cholesky.proofs.ScaledMatrix.{take-off-suffices, scaled-top}
+use Rattle.cholesky.proofs.Store.{upper-same, upper-other}
+
+-- ---- where entry (i, j) stands in the tables of L and U
+pub record Placed (n i j : ℕ) (l u : List ℤ) : Type 0 where
+  pub low : i * n + j < length l
+  pub high : i * n + j < length u
+  pub small : i * n + j < 64
+
+pub placed : {n i j : ℕ} {l u : List ℤ} → Lent n l u → i < n → j < n → Placed n i j l u
+placed {n} {i} {j} a h k =
+    let p : i * n + j < n * n = inside h k in
+    record { low = omega (arith, a .low-length); high = omega (arith, a .high-length); small = omega (arith, at-most-64 (a .order)) }
+
+-- two entries that were just read, added up
+pub clean-sum : (x y : ℤ) → mag x < 2 ^ 63 → mag y < 2 ^ 63 → toZ w64 (ofZ w64 x) +ℤ toZ w64 (ofZ w64 y) ≡ x +ℤ y
+clean-sum x y f g = rw (clean-element x f, clean-element y g)
+
+-- ---- sizes
+numeral-within : (m : ℕ) → Within m (pos m)
+numeral-within m = record { size = omega arith }
+
+module _ {n : ℕ} {L U : Matrix} (o : n ≤ greatestOrder) (r : Ranged n L U) where
+  module _ {i j : ℕ} (h : i < n) (k : j < n) where
+    gap-within : Within (2 ^ 21) (U i j -ℤ L i j)
+    gap-within = within-more (omega arith) (within-- (r .high i j h k) (r .low i j h k))
+
+    pub gap-fits : SFits w64 (U i j -ℤ L i j)
+    gap-fits = fits-within gap-within (omega arith)
+
+    middle-within : Within (2 ^ 21) (L i j +ℤ U i j)
+    middle-within = within-more (omega arith) (within-+ (r .low i j h k) (r .high i j h k))
+
+    pub middle-fits : SFits w64 (L i j +ℤ U i j)
+    middle-fits = fits-within middle-within (omega arith)
+
+    doubled-within : Within (2 ^ 52) (halfScale *ℤ (L i j +ℤ U i j))
+    doubled-within = within-more (omega arith) (within-* (numeral-within (2 ^ 31)) middle-within)
+
+    pub doubled-fits : SFits w64 (halfScale *ℤ (L i j +ℤ U i j))
+    doubled-fits = fits-within doubled-within (omega arith)
+
+  module _ {i : ℕ} (h : i < n) where
+    -- w(i), and the sum before column m
+    widths-within : (m : ℕ) → m ≤ n → Within (2 ^ 24) (rowWidth m L U i)
+    unfolding rowWidth
+    widths-within m l = within-more (omega arith) (within-sum m (2 ^ 21) _ (λ j k. gap-within h (omega arith)))
+
+    pub width-fits : (m : ℕ) → m < n → SFits w64 (rowWidth m L U i +ℤ (U i m -ℤ L i m))
+    width-fits m l = fits-within (within-+ (widths-within m (omega arith)) (gap-within h l)) (omega arith)
+
+    scaled-width-within : Within (2 ^ 55) (halfScale *ℤ rowWidth n L U i)
+    scaled-width-within = within-more (omega arith) (within-* (numeral-within (2 ^ 31)) (widths-within n (omega arith)))
+
+    pub scaled-width-fits : SFits w64 (halfScale *ℤ rowWidth n L U i)
+    scaled-width-fits = fits-within scaled-width-within (omega arith)
+
+    taken-within : Within (2 ^ 29 + 2 ^ 55) (takeOff +ℤ halfScale *ℤ rowWidth n L U i)
+    taken-within = within-+ (numeral-within (2 ^ 29)) scaled-width-within
+
+    pub taken-fits : SFits w64 (takeOff +ℤ halfScale *ℤ rowWidth n L U i)
+    taken-fits = fits-within taken-within (omega arith)
+
+    module _ {j : ℕ} (k : j < n) where
+      on-within : Within (2 ^ 56) (halfScale *ℤ (L i j +ℤ U i j) -ℤ (takeOff +ℤ halfScale *ℤ rowWidth n L U i))
+      on-within = within-more (omega arith) (within-- (doubled-within h k) taken-within)
+
+      pub on-fits : SFits w64 (halfScale *ℤ (L i j +ℤ U i j) -ℤ (takeOff +ℤ halfScale *ℤ rowWidth n L U i))
+      on-fits = fits-within on-within (omega arith)
+
+  scaled-within : (i j : ℕ) → i < n → j < n → Within (2 ^ 56) (scaled takeOff n L U i j)
+  unfolding scaled
+  scaled-within i j h k =
+      only-by i j _ (λ z. Within (2 ^ 56) (halfScale *ℤ (L i j +ℤ U i j) -ℤ z))
+      (λ e. on-within h k)
+      (λ e. within-more (omega arith) (within-- (doubled-within h k) (numeral-within 0)))
+
+-- ---- H can be factored
+pub bounds-ranged : {n : ℕ} {L U : Matrix} → Bounds n L U → Ranged n L U
+bounds-ranged b = record { low = λ i j h k. record { size = b .low-range i j h k }; high = λ i j h k. record { size = b .high-range i j h k } }
+
+pub heights-scaled : {n : ℕ} {L U : Matrix} {h : List ℤ} → Bounds n L U → n ≤ 8 →
+    ((i j : ℕ) → i ≤ j → j < n → upper h i j ≡ scaled takeOff n L U i j) → Heights h n
+heights-scaled {n} {L} {U} b o e =
+    record {
+      order = o;
+      heights = λ i j l k. rw (e i j l k) (scaled-within o (bounds-ranged b) i j (omega arith) k);
+      top = λ j k. rw (e j j (omega arith) k) (scaled-top takeOff n L U b (take-off-suffices n o) j k);
+    }
+
+-- ---- the walk of the code: before row i of column j
+pub record Filling (n : ℕ) (L U : Matrix) (h : List ℤ) (j i : ℕ) : Type 0 where
+  pub before : Scaled n L U h j
+  pub here : (k : ℕ) → k < i → upper h k j ≡ scaled takeOff n L U k j
+
+module _ {n : ℕ} {L U : Matrix} {h : List ℤ} {j : ℕ} where
+  pub filling-start : Scaled n L U h j → Filling n L U h j 0
+  filling-start s = record { before = s; here = λ k l. absurd (omega arith) }
+
+  pub filling-row : {i : ℕ} {v : ℤ} → i ≤ j → j < 8 → v ≡ scaled takeOff n L U i j → Filling n L U h j i → Filling n L U (set h (8 * j + i) v) j (suc i)
+  filling-row {i} {v} l m e f =
+      record {
+        before = record {
+          size = length-set h (8 * j + i) v ∙ f .before .size;
+          entries = λ k c p q. upper-other h i j v k c (omega arith) ∙ f .before .entries k c p q;
+        };
+        here = λ k p. at k p (decLt k i);
+      }
+    where
+      at : (k : ℕ) → k < suc i → Dec (k < i) → upper (set h (8 * j + i) v) k j ≡ scaled takeOff n L U k j
+      at k p (yes q) = upper-other h i j v k j (omega arith) ∙ f .here k q
+      at k p (no q) =
+          let s = f .before .size in
+          let w : k ≡ i = omega arith in
+          rw (w, upper-same h i j v (omega arith)) e
+
+  pub filling-end : Filling n L U h j (suc j) → Scaled n L U h (suc j)
+  filling-end f = record { size = f .before .size; entries = λ k c p q. at k c p q (decLt c j) }
+    where
+      at : (k c : ℕ) → k ≤ c → c < suc j → Dec (c < j) → upper h k c ≡ scaled takeOff n L U k c
+      at k c p q (yes m) = f .before .entries k c p m
+      at k c p q (no m) = let w : c ≡ j = omega arith in rw w (f .here k (omega arith))

@@ -1,0 +1,12 @@
+pub mod Starred
+pub mod Factored
+pub mod ScaledMatrix
+pub mod Lists
+pub mod Loops
+pub mod Columns
+pub mod Extensional
+pub mod Store
+pub mod Sizes
+pub mod Walk
+pub mod Sweep
+pub mod Filling

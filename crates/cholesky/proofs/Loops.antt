@@ -1,0 +1,210 @@
+-- The loops of factoring: one law for each, over any claim, and one step of each. Nothing else meets their tests.
+use mathlib.Core.Path.{_≡_, refl, sym, ap, _∙_, subst}
+use mathlib.Core.Bool.{Bool, true, false, not, _&&_}
+use mathlib.Core.List.{List, [], _∷_, _++_}
+use Prim.Native.Nat.{ℕ, zero, suc, _+_, _≤_, _<_}
+use native.Mathlib.Omega.{arith}
+use lib.Dec.{T, leb, leb→le, le→leb}
+use lib.IntN.{ℤ, pos, natAbs, _-ℤ_, _*ℤ_}
+use lib.Signed.{_≤ℤ_, leZ}
+use lib.ListN.{length}
+use Rattle.integers.specs.Root.{wholeRoot}
+use Rattle.tables.specs.Ranges.{factorRange}
+use Rattle.tables.specs.Matrix.{Matrix}
+use Rattle.tables.specs.Checks.{within}
+use Rattle.cholesky.specs.Factoring.{Column, Factoring, nextEntry, goesOn, rows, nextColumn, columnsFrom}
+use Rattle.cholesky.specs.Store.{restAfter}
+use Rattle.cholesky.proofs.Lists.{length-snoc}
+
+not-both : (b : Bool) → T (not b) → T b → ⊥
+not-both true g t = absurd g
+not-both false g t = absurd t
+
+-- what the test of a row says
+pub record Passes (r rest : ℤ) : Type 0 where
+  pub small : natAbs r ≤ factorRange
+  pub some : pos 1 ≤ℤ rest
+
+pub passes : (r rest : ℤ) → T (goesOn r rest) → Passes r rest
+unfolding goesOn within
+passes r rest t = go (leb (natAbs r) factorRange) (leZ (pos 1) rest) (leb→le _ _) (λ s. record { le = s }) t
+  where
+    go : (a b : Bool) → (T a → natAbs r ≤ factorRange) → (T b → pos 1 ≤ℤ rest) → T (a && b) → Passes r rest
+    go true true f g t = record { small = f tt; some = g tt }
+    go true false f g t = absurd t
+    go false b f g t = absurd t
+
+pub goes-on : (r rest : ℤ) → Passes r rest → T (goesOn r rest)
+unfolding goesOn within
+goes-on r rest p = go (leb (natAbs r) factorRange) (leZ (pos 1) rest) (le→leb _ _ (p .small)) (p .some .le)
+  where
+    go : (a b : Bool) → T a → T b → T (a && b)
+    go true b s t = t
+    go false b s t = absurd s
+
+-- ---- one step
+module _ (H : Matrix) (cs : List (List ℤ)) (j k : ℕ) (rest : ℤ) (c : List ℤ) where
+  abbrev r : ℤ
+  r = nextEntry H cs j c
+
+  chosen : Bool → Column
+  chosen b = elim b [ true ↦ rows H cs j k (rest -ℤ r *ℤ r) (c ++ (r ∷ [])) | false ↦ record { done = false; column = c ++ (r ∷ []) } ]
+
+  pub rows-on : goesOn r (rest -ℤ r *ℤ r) ≡ true → rows H cs j (suc k) rest c ≡ rows H cs j k (rest -ℤ r *ℤ r) (c ++ (r ∷ []))
+  unfolding rows chosen
+  rows-on e = ap chosen e
+
+  pub rows-stop : goesOn r (rest -ℤ r *ℤ r) ≡ false → rows H cs j (suc k) rest c ≡ record { done = false; column = c ++ (r ∷ []) }
+  unfolding rows chosen
+  rows-stop e = ap chosen e
+
+  -- by cases on the test
+  rows-by : (P : Column → Type 0) → (T (goesOn r (rest -ℤ r *ℤ r)) → P (rows H cs j k (rest -ℤ r *ℤ r) (c ++ (r ∷ []))))
+      → (T (not (goesOn r (rest -ℤ r *ℤ r))) → P (record { done = false; column = c ++ (r ∷ []) })) → P (rows H cs j (suc k) rest c)
+  unfolding rows
+  rows-by P f g = go (goesOn r (rest -ℤ r *ℤ r)) f g
+    where
+      go : (b : Bool) → (T b → P (rows H cs j k (rest -ℤ r *ℤ r) (c ++ (r ∷ [])))) → (T (not b) → P (record { done = false; column = c ++ (r ∷ []) })) →
+          P (elim b as (λ z. Column) [ true ↦ rows H cs j k (rest -ℤ r *ℤ r) (c ++ (r ∷ [])) | false ↦ record { done = false; column = c ++ (r ∷ []) } ])
+      go true f g = f tt
+      go false f g = g tt
+
+-- ---- the rows of a column
+module _ (H : Matrix) (cs : List (List ℤ)) (j : ℕ) (P : ℤ → List ℤ → Type 0) where
+  -- what a row that passes keeps
+  abbrev pub RowStep : Type 0
+  RowStep = (rest : ℤ) (c : List ℤ) → length c < j → P rest c → (let r : ℤ = nextEntry H cs j c in Passes r (rest -ℤ r *ℤ r) → P (rest -ℤ r *ℤ r) (c ++ (r ∷ [])))
+
+  -- a claim that each row keeps holds where the column is done, before its diagonal entry
+  pub rows-ind : (Q : List ℤ → Type 0) → RowStep → ((rest : ℤ) (c : List ℤ) → length c ≡ j → P rest c → Q (c ++ (wholeRoot rest ∷ []))) →
+      (k : ℕ) (rest : ℤ) (c : List ℤ) → length c + k ≡ j → P rest c → T (rows H cs j k rest c .done) → Q (rows H cs j k rest c .column)
+  unfolding rows
+  rows-ind Q s e zero rest c h p t = e rest c (omega arith) p
+  rows-ind Q s e (suc k) rest c h p t =
+      rows-by H cs j k rest c (λ o. T (o .done) → Q (o .column))
+      (λ g. rows-ind Q s e k _ _ (omega (arith, length-snoc c (nextEntry H cs j c))) (s rest c (omega arith) p (passes _ _ g))) (λ g t. absurd t) t
+
+  -- where every row passes, the column is done
+  pub rows-done : RowStep → ((rest : ℤ) (c : List ℤ) → length c < j → P rest c → (let r : ℤ = nextEntry H cs j c in Passes r (rest -ℤ r *ℤ r))) →
+      (k : ℕ) (rest : ℤ) (c : List ℤ) → length c + k ≡ j → P rest c → T (rows H cs j k rest c .done)
+  unfolding rows
+  rows-done s a zero rest c h p = tt
+  rows-done s a (suc k) rest c h p =
+      rows-by H cs j k rest c (λ o. T (o .done))
+      (λ g. rows-done s a k _ _ (omega (arith, length-snoc c (nextEntry H cs j c))) (s rest c (omega arith) p (passes _ _ g)))
+      (λ g. not-both (goesOn (nextEntry H cs j c) (rest -ℤ nextEntry H cs j c *ℤ nextEntry H cs j c)) g (goes-on _ _ (a rest c (omega arith) p)))
+
+-- ---- a column
+module _ (H : Matrix) (cs : List (List ℤ)) where
+  pub column-ind : (Q : Column → Type 0) → (pos 1 ≤ℤ H (length cs) (length cs) → Q (rows H cs (length cs) (length cs) (H (length cs) (length cs)) [])) →
+      (T (not (leZ (pos 1) (H (length cs) (length cs)))) → Q (record { done = false; column = [] })) → Q (nextColumn H cs)
+  unfolding nextColumn
+  column-ind Q f g = go (leZ (pos 1) (H (length cs) (length cs))) (λ t. f (record { le = t })) g
+    where
+      go : (b : Bool) → (T b → Q (rows H cs (length cs) (length cs) (H (length cs) (length cs)) [])) → (T (not b) → Q (record { done = false; column = [] })) →
+          Q (elim b as (λ z. Column) [ true ↦ rows H cs (length cs) (length cs) (H (length cs) (length cs)) [] | false ↦ record { done = false; column = [] } ])
+      go true f g = f tt
+      go false f g = g tt
+
+-- ---- all columns
+module _ (H : Matrix) (k : ℕ) (cs : List (List ℤ)) where
+  pub columns-by : (Q : Factoring → Type 0) → (T (nextColumn H cs .done) → Q (columnsFrom H k (cs ++ (nextColumn H cs .column ∷ [])))) →
+      (T (not (nextColumn H cs .done)) → Q (record { ends = false; columns = cs; stopped = nextColumn H cs .column })) → Q (columnsFrom H (suc k) cs)
+  unfolding columnsFrom
+  columns-by Q f g = go (nextColumn H cs .done) f g
+    where
+      go : (b : Bool) → (T b → Q (columnsFrom H k (cs ++ (nextColumn H cs .column ∷ [])))) → (T (not b) → Q (record { ends = false; columns = cs; stopped = nextColumn H cs .column })) →
+          Q (elim b as (λ z. Factoring) [ true ↦ columnsFrom H k (cs ++ (nextColumn H cs .column ∷ [])) | false ↦ record { ends = false; columns = cs; stopped = nextColumn H cs .column } ])
+      go true f g = f tt
+      go false f g = g tt
+
+  swept : Bool → Factoring
+  swept b = elim b [ true ↦ columnsFrom H k (cs ++ (nextColumn H cs .column ∷ [])) | false ↦ record { ends = false; columns = cs; stopped = nextColumn H cs .column } ]
+
+  pub columns-on : nextColumn H cs .done ≡ true → columnsFrom H (suc k) cs ≡ columnsFrom H k (cs ++ (nextColumn H cs .column ∷ []))
+  unfolding columnsFrom swept
+  columns-on e = ap swept e
+
+  pub columns-stop : nextColumn H cs .done ≡ false → columnsFrom H (suc k) cs ≡ record { ends = false; columns = cs; stopped = nextColumn H cs .column }
+  unfolding columnsFrom swept
+  columns-stop e = ap swept e
+
+module _ (H : Matrix) (n : ℕ) (P : List (List ℤ) → Type 0) where
+  -- what a column that is done keeps
+  abbrev pub ColumnStep : Type 0
+  ColumnStep = (cs : List (List ℤ)) → length cs < n → P cs → T (nextColumn H cs .done) → P (cs ++ (nextColumn H cs .column ∷ []))
+
+  pub columns-ind : ColumnStep → (k : ℕ) (cs : List (List ℤ)) → length cs + k ≡ n → P cs → T (columnsFrom H k cs .ends) → P (columnsFrom H k cs .columns)
+  unfolding columnsFrom
+  columns-ind s zero cs h p t = p
+  columns-ind s (suc k) cs h p t =
+      columns-by H k cs (λ o. T (o .ends) → P (o .columns))
+      (λ g. columns-ind s k _ (omega (arith, length-snoc cs (nextColumn H cs .column))) (s cs (omega arith) p g)) (λ g t. absurd t) t
+
+  pub columns-end : ColumnStep → ((cs : List (List ℤ)) → length cs < n → P cs → T (nextColumn H cs .done)) →
+      (k : ℕ) (cs : List (List ℤ)) → length cs + k ≡ n → P cs → T (columnsFrom H k cs .ends)
+  unfolding columnsFrom
+  columns-end s a zero cs h p = tt
+  columns-end s a (suc k) cs h p =
+      columns-by H k cs (λ o. T (o .ends))
+      (λ g. columns-end s a k _ (omega (arith, length-snoc cs (nextColumn H cs .column))) (s cs (omega arith) p g))
+      (λ g. not-both (nextColumn H cs .done) g (a cs (omega arith) p))
+
+-- ---- the rows of a column as the code walks them: a rest below 1 is a stop
+unfoldable pub resume : Matrix → List (List ℤ) → ℕ → ℕ → ℤ → List ℤ → Column
+resume H cs j k rest c = elim (leZ (pos 1) rest) [ true ↦ rows H cs j k rest c | false ↦ record { done = false; column = c } ]
+
+pub column-start : (H : Matrix) (cs : List (List ℤ)) (j : ℕ) → length cs ≡ j → nextColumn H cs ≡ resume H cs j j (H j j) []
+unfolding nextColumn resume
+column-start H cs j e = subst (λ (m : ℕ). nextColumn H cs ≡ resume H cs m m (H m m) []) e refl
+
+module _ (H : Matrix) (cs : List (List ℤ)) (j k : ℕ) (rest : ℤ) (c : List ℤ) where
+  resumed : Bool → Column
+  resumed b = elim b [ true ↦ rows H cs j k rest c | false ↦ record { done = false; column = c } ]
+
+  pub resume-on : leZ (pos 1) rest ≡ true → resume H cs j k rest c ≡ rows H cs j k rest c
+  unfolding resume resumed
+  resume-on e = ap resumed e
+
+  pub resume-stop : leZ (pos 1) rest ≡ false → resume H cs j k rest c ≡ record { done = false; column = c }
+  unfolding resume resumed
+  resume-stop e = ap resumed e
+
+  -- a row more
+  row-more : (r : ℤ) (b : Bool) →
+      _≡_ {A = Column}
+      (elim (b && leZ (pos 1) (rest -ℤ r *ℤ r)) [ true ↦ rows H cs j k (rest -ℤ r *ℤ r) (c ++ (r ∷ [])) | false ↦ record { done = false; column = c ++ (r ∷ []) } ])
+      (let left : ℤ = elim b [ true ↦ rest -ℤ r *ℤ r | false ↦ pos 0 ] in
+      elim (leZ (pos 1) left) [ true ↦ rows H cs j k left (c ++ (r ∷ [])) | false ↦ record { done = false; column = c ++ (r ∷ []) } ])
+  row-more r true = refl
+  row-more r false = refl
+
+pub resume-row : (H : Matrix) (cs : List (List ℤ)) (j k : ℕ) (rest : ℤ) (c : List ℤ) → leZ (pos 1) rest ≡ true →
+    resume H cs j (suc k) rest c ≡ resume H cs j k (restAfter rest (nextEntry H cs j c)) (c ++ (nextEntry H cs j c ∷ []))
+unfolding resume rows goesOn restAfter
+resume-row H cs j k rest c e = resume-on H cs j (suc k) rest c e ∙ row-more H cs j k rest c (nextEntry H cs j c) (within factorRange (nextEntry H cs j c))
+
+-- what is left of the rest, by the test
+pub rest-after : (rest r : ℤ) → within factorRange r ≡ true → rest -ℤ r *ℤ r ≡ restAfter rest r
+unfolding restAfter
+rest-after rest r e = sym (ap (λ (b : Bool). elim b as (λ z. ℤ) [ true ↦ rest -ℤ r *ℤ r | false ↦ pos 0 ]) e)
+
+pub rest-none : (rest r : ℤ) → within factorRange r ≡ false → pos 0 ≡ restAfter rest r
+unfolding restAfter
+rest-none rest r e = sym (ap (λ (b : Bool). elim b as (λ z. ℤ) [ true ↦ rest -ℤ r *ℤ r | false ↦ pos 0 ]) e)
+
+-- by cases on the test
+pub rest-by : (rest r : ℤ) (P : ℤ → Type 0) → (within factorRange r ≡ true → P (rest -ℤ r *ℤ r)) → (within factorRange r ≡ false → P (pos 0)) → P (restAfter rest r)
+unfolding restAfter
+rest-by rest r P f g = go (within factorRange r) f g
+  where
+    go : (b : Bool) → (b ≡ true → P (rest -ℤ r *ℤ r)) → (b ≡ false → P (pos 0)) → P (elim b as (λ z. ℤ) [ true ↦ rest -ℤ r *ℤ r | false ↦ pos 0 ])
+    go true f g = f refl
+    go false f g = g refl
+
+-- a column that is done has all its entries
+pub column-length : (H : Matrix) (cs : List (List ℤ)) → nextColumn H cs .done ≡ true → length (nextColumn H cs .column) ≡ suc (length cs)
+column-length H cs e =
+    column-ind H cs (λ o. T (o .done) → length (o .column) ≡ suc (length cs))
+    (λ h. rows-ind H cs (length cs) (λ rest c. Unit {0}) (λ c. length c ≡ suc (length cs)) (λ rest c l u p. tt)
+    (λ rest c l u. length-snoc c (wholeRoot rest) ∙ ap suc l) (length cs) (H (length cs) (length cs)) [] (omega arith) tt) (λ g t. absurd t) (subst T (sym e) tt)

@@ -1,0 +1,4 @@
+pub mod Scale
+pub mod Factoring
+pub mod Store
+pub mod Scaling

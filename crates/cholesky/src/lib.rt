@@ -1,0 +1,3 @@
+// Factoring: the matrix H of a problem, and its Cholesky factor, in whole numbers.
+pub mod factoring;
+pub mod scaling;

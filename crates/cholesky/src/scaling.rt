@@ -1,0 +1,66 @@
+// Document 01, "Factoring": the matrix H that is factored, from the tables of L and U.
+// L and U lie row by row, entry (i, j) at n i + j. H lies column by column, entry (i, j) at 8 j + i, down to the diagonal.
+ghost use mathlib.Core.Path.{_≡_};
+ghost use Prim.Native.Nat.{suc, _<_};
+ghost use lib.ListN.{length};
+ghost use Rattle.tables.specs.Matrix.{at, rowWidth};
+ghost use Rattle.cholesky.specs.Scale.{takeOff, scaled};
+ghost use Rattle.cholesky.specs.Scaling.{Lent, Scaled};
+
+// H is 2^32 times the middle of L and U, so 2^31 times their sum.
+const HALF_SCALE: i64 = 1 << 31;
+
+// What is taken off each diagonal entry, besides the width of its row.
+const TAKE_OFF: i64 = 1 << 29;
+
+// w(i): the sum of U(i,k) - L(i,k) over all k, i included.
+fn row_width(n: usize, low: &[i64], high: &[i64], i: usize) -> i64
+    requires { ⌜ Lent n (now low) (now high) × (i < n) ⌝ }
+    ensures { λ r. ⌜ r ≡ rowWidth n (at n (now (low .entry))) (at n (now (high .entry))) i ⌝ }
+{
+    let start = i * n;
+    let mut w: i64 = 0;
+    let mut k = 0;
+    while k < n {
+        w += high[start + k] - low[start + k];
+        k += 1;
+    }
+    w
+}
+
+// H(i,j).
+fn scaled(n: usize, low: &[i64], high: &[i64], i: usize, j: usize) -> i64
+    requires { ⌜ Lent n (now low) (now high) × (i < n) × (j < n) ⌝ }
+    ensures { λ r. ⌜ r ≡ scaled takeOff n (at n (now (low .entry))) (at n (now (high .entry))) i j ⌝ }
+{
+    let at = i * n + j;
+    let middle = HALF_SCALE * (low[at] + high[at]);
+    if i == j {
+        return middle - (TAKE_OFF + HALF_SCALE * row_width(n, low, high, i));
+    }
+    middle
+}
+
+// Fills column j of h, after the columns before it.
+fn scale_column(n: usize, low: &[i64], high: &[i64], j: usize, h: &mut [i64; 64])
+    requires { ⌜ Lent n (now low) (now high) × (j < n) × Scaled n (at n (now low)) (at n (now high)) (now h) j ⌝ }
+    ensures { λ r. ⌜ Scaled n (at n (now (low .entry))) (at n (now (high .entry))) (now (h .exit)) (suc j) ⌝ }
+{
+    let mut i = 0;
+    while i <= j {
+        h[8 * j + i] = scaled(n, low, high, i, j);
+        i += 1;
+    }
+}
+
+// Fills h with the matrix H of order n: each entry once, down to the diagonal.
+pub fn scale(n: usize, low: &[i64], high: &[i64], h: &mut [i64; 64])
+    requires { ⌜ Lent n (now low) (now high) × (length (now h) ≡ 64) ⌝ }
+    ensures { λ r. ⌜ Scaled n (at n (now (low .entry))) (at n (now (high .entry))) (now (h .exit)) n ⌝ }
+{
+    let mut j = 0;
+    while j < n {
+        scale_column(n, low, high, j, h);
+        j += 1;
+    }
+}

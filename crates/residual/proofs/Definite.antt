@@ -1,0 +1,130 @@
+-- Demand 3: "Whatever factor is offered, and however it was come by, if the residual test accepts it, then x'Mx > 0 for every symmetric M
+-- of fractions between the bounds L and U and every nonzero vector x of fractions". For any order n.
+use mathlib.Core.Path.{_≡_, ap, ap₂, _∙_}
+use mathlib.Core.Logic.{_≢_, _⊎_, inl, inr}
+use mathlib.Core.List.{[], _∷_}
+use Prim.Native.Nat.{ℕ, zero, suc, _≤_, _<_}
+use native.Mathlib.Omega.{arith}
+use lib.Dec.{T}
+use lib.IntN.{ℤ, pos, negℤ, _+ℤ_, _-ℤ_, _*ℤ_, ℤ-discrete, *ℤ-zero, zero-*ℤ, +ℤ-idr}
+use lib.Signed.{_≤ℤ_, _<ℤ_}
+use Rattle.integers.specs.Numbers.{absℤ}
+use Rattle.integers.specs.Sum.{sum, sumExcept}
+use Rattle.integers.proofs.Parts.{≤ℤ-or-<ℤ, ≤ℤ-antisym, ≤ℤ-trans, square-nonneg, pos-nonneg}
+use Rattle.integers.proofs.Solver.{_&_, order, solver}
+use Rattle.integers.proofs.Order.{product-mono, *ℤ-mono, ≤-abs, neg-≤-abs, abs-≤, ≤-maxˡ, ≤-maxʳ}
+use Rattle.integers.proofs.Sums.{sum-suc, sum-ext, sum-single, sum-nonneg, sumExcept-mono, sumExcept-*}
+use Rattle.tables.specs.Matrix.{Matrix, form, gram}
+use Rattle.tables.specs.Members.{Member, Nonzero, PositiveDefinite}
+use Rattle.tables.proofs.Checks.{true-of, all-at, le-of}
+use Rattle.tables.proofs.Forms.{form-+, form-*, gram-symmetric, image, imageNorm, form-gram}
+use Rattle.tables.proofs.Dominance.{Dominant, dominant-nonneg}
+use Rattle.tables.proofs.Triangular.{UpperTriangular}
+use Rattle.cholesky.specs.Scale.{scale}
+use Rattle.residual.specs.Residual.{residual, radius, rowPasses, accepts}
+
+pub upper-prefix : {m n : ℕ} {R : Matrix} → m ≤ n → UpperTriangular n R → UpperTriangular m R
+upper-prefix h up = record { below = λ i j k l. up .below i j k (omega arith); diagonal = λ j k. up .diagonal j (omega arith) }
+
+-- ---- |Rx|² ≥ 1 for a nonzero x: at the last index k with x(k) ≠ 0, entry k of Rx is R(k,k) x(k)
+square-positive : {x : ℤ} → x ≢ pos 0 → pos 1 ≤ℤ (x *ℤ x)
+square-positive {x} h = go (≤ℤ-or-<ℤ x (pos 0)) (≤ℤ-or-<ℤ (pos 0) x)
+  where
+    go : (x ≤ℤ pos 0) ⊎ (pos 0 <ℤ x) → (pos 0 ≤ℤ x) ⊎ (x <ℤ pos 0) → pos 1 ≤ℤ (x *ℤ x)
+    go (inr p) q = order (x ∷ []) (square-nonneg (x -ℤ pos 1) & p) (search solver depth 40 fits 20000) (omega arith)
+    go (inl p) (inr q) = order (x ∷ []) (square-nonneg (x +ℤ pos 1) & q) (search solver depth 40 fits 20000) (omega arith)
+    go (inl p) (inl q) = absurd (h (≤ℤ-antisym p q))
+
+norm-positive : (n : ℕ) (R : Matrix) → UpperTriangular n R → (x : ℕ → ℤ) → Nonzero n x → pos 1 ≤ℤ imageNorm n R x
+unfolding imageNorm image
+norm-positive zero R up x z = absurd (omega (arith, z .inside))
+norm-positive (suc n) R up x z =
+    go (ℤ-discrete (x n) (pos 0)) (norm-positive n R (upper-prefix (omega arith) up) x)
+  where
+    squares : ℕ → ℤ
+    squares k = image (suc n) R x k *ℤ image (suc n) R x k
+
+    go : Dec (x n ≡ pos 0) → (Nonzero n x → pos 1 ≤ℤ imageNorm n R x) → pos 1 ≤ℤ sum (suc n) squares
+    go (yes e) ih =
+        order (sum (suc n) squares ∷ sum n squares ∷ imageNorm n R x ∷ image (suc n) R x n ∷ [])
+        (ih (record { index = z .index; inside = inside; differs = z .differs })
+        & sum-suc n squares & shorter & square-nonneg (image (suc n) R x n)) (search solver depth 40 fits 20000) (omega arith)
+      where
+        inside : z .index < n
+        inside = let d : z .index ≢ n = λ q. z .differs (ap x q ∙ e) in omega (arith, z .inside)
+
+        same : (k : ℕ) → image (suc n) R x k ≡ image n R x k
+        same k = sum-suc n _ ∙ rw (e, *ℤ-zero (R k n)) (+ℤ-idr _)
+
+        shorter : sum n squares ≡ imageNorm n R x
+        shorter = sum-ext n _ _ (λ k h. ap (λ (u : ℤ). u *ℤ u) (same k))
+    go (no e) ih =
+        order (sum (suc n) squares ∷ sum n squares ∷ R n n ∷ x n ∷ [])
+        (rw last at (sum-suc n squares) & sum-nonneg n squares (λ k h. square-nonneg (image (suc n) R x k)) & positive)
+        (search solver depth 40 fits 20000) (omega arith)
+      where
+        last : image (suc n) R x n ≡ R n n *ℤ x n
+        last =
+            sum-single (suc n) n (λ i. R n i *ℤ x i) (omega arith)
+            (λ i h d. rw (up .below n i (omega arith) (omega arith)) (zero-*ℤ (x i)))
+
+        positive : pos 1 ≤ℤ ((R n n *ℤ R n n) *ℤ (x n *ℤ x n))
+        positive =
+            let p = pos-nonneg 1 in
+            let r = up .diagonal n (omega arith) in
+            product-mono p p (product-mono p p r r) (square-positive e)
+
+-- ---- a member N over q: the residual F = 2^32 N - q P is dominated by its diagonal
+module _ (n : ℕ) (R L U : Matrix) (t : T (accepts n R L U)) where
+  row-passes : (i : ℕ) → i < n → sumExcept n i (radius n R L U i) ≤ℤ residual n R L i i
+  unfolding accepts rowPasses
+  row-passes i h = le-of _ _ (all-at (rowPasses n R L U) n (true-of (accepts n R L U) t) i h)
+
+  module _ (N : Matrix) (q : ℤ) (m : Member n L U N q) where
+    F : Matrix
+    F i j = scale *ℤ N i j +ℤ negℤ q *ℤ gram n R i j
+
+    q-nonneg : pos 0 ≤ℤ q
+    q-nonneg = ≤ℤ-trans (pos-nonneg 1) (m .whole)
+
+    -- |F(i,j)| is at most q times the greater of |2^32 L(i,j) - P(i,j)| and |2^32 U(i,j) - P(i,j)|
+    F-radius : (i j : ℕ) → i < n → j < n → absℤ (F i j) ≤ℤ (q *ℤ radius n R L U i j)
+    unfolding F residual radius
+    F-radius i j h k =
+        let low = absℤ (residual n R L i j) in
+        let high = absℤ (residual n R U i j) in
+        abs-≤
+        (order (N i j ∷ q ∷ gram n R i j ∷ U i j ∷ radius n R L U i j ∷ [])
+        (m .high i j h k & *ℤ-mono q-nonneg (≤ℤ-trans (≤-abs (residual n R U i j)) (≤-maxʳ low high)))
+        (search solver depth 40 fits 20000) (omega arith))
+        (order (N i j ∷ q ∷ gram n R i j ∷ L i j ∷ radius n R L U i j ∷ [])
+        (m .low i j h k & *ℤ-mono q-nonneg (≤ℤ-trans (neg-≤-abs (residual n R L i j)) (≤-maxˡ low high)))
+        (search solver depth 40 fits 20000) (omega arith))
+
+    F-row : (i : ℕ) → i < n → sumExcept n i (λ j. absℤ (F i j)) ≤ℤ (q *ℤ sumExcept n i (radius n R L U i))
+    F-row i h = rw (← sumExcept-* n i q (radius n R L U i)) (sumExcept-mono n i _ _ (λ j k e. F-radius i j h k))
+
+    F-dominant : Dominant n F
+    unfolding F residual
+    F-dominant = record {
+      symmetric = λ i j h k. ap₂ (λ (u v : ℤ). scale *ℤ u +ℤ negℤ q *ℤ v) (m .symmetric i j h k) (gram-symmetric n R i j);
+      dominates = λ i h.
+          order (sumExcept n i (λ j. absℤ (F i j)) ∷ q ∷ sumExcept n i (radius n R L U i) ∷ N i i ∷ L i i ∷ gram n R i i ∷ [])
+          (F-row i h & *ℤ-mono q-nonneg (row-passes i h) & m .low i i h h) (search solver depth 40 fits 20000) (omega arith);
+    }
+
+    -- x'Fx = 2^32 x'Nx - q |Rx|²
+    form-F : (x : ℕ → ℤ) → form n F x ≡ scale *ℤ form n N x +ℤ negℤ q *ℤ imageNorm n R x
+    unfolding F
+    form-F x =
+        form-+ n _ _ x
+        ∙ ap₂ (λ (u v : ℤ). u +ℤ v) (form-* n scale N x) (form-* n (negℤ q) (gram n R) x ∙ ap (λ (z : ℤ). negℤ q *ℤ z) (form-gram n R x))
+
+  pub accepted-definite : UpperTriangular n R → PositiveDefinite n L U
+  accepted-definite up = record {
+    positive = λ N q m x z.
+        let norm = norm-positive n R up x z in
+        order (form n N x ∷ q ∷ form n (F N q m) x ∷ imageNorm n R x ∷ [])
+        (dominant-nonneg n (F N q m) (F-dominant N q m) x & form-F N q m x & product-mono (pos-nonneg 1) (pos-nonneg 1) (m .whole) norm)
+        (search solver depth 40 fits 20000) (omega arith);
+  }

@@ -1,0 +1,6 @@
+pub mod Definite
+pub mod Meaning
+pub mod Slack
+pub mod Rows
+pub mod OfferedFactor
+pub mod Offers

@@ -1,0 +1,90 @@
+-- Demand 3, of an offered factor.
+use mathlib.Core.Path.{_≡_, refl, subst}
+use mathlib.Core.Bool.{Bool, true, false, not, _&&_}
+use mathlib.Core.List.{List}
+use Prim.Native.Nat.{ℕ, _≤_, _<_, compare, Ordering, Ordering·lt, Ordering·eq, Ordering·gt}
+use native.Mathlib.Omega.{arith}
+use lib.Dec.{T, isLe, isEq, eqb, leb→le, nleb→lt, eqb→eq, eqb-refl}
+use lib.IntN.{ℤ, pos, natAbs}
+use lib.Signed.{_≤ℤ_, leZ}
+use Rattle.tables.specs.Ranges.{factorRange}
+use Rattle.tables.specs.Matrix.{Matrix, at}
+use Rattle.tables.specs.Members.{PositiveDefinite}
+use Rattle.tables.specs.Checks.{within, same, orderOk, tableChecks}
+use Rattle.tables.specs.declared.Refusal.the-variants.{Order, Length}
+use Rattle.tables.specs.declared.Checked.{Checked}
+use Rattle.tables.specs.declared.Checked.the-variants.{Passed, Refused}
+use Rattle.tables.proofs.Checks.{true-of, of-true, and-left, all-at, le-of, same-of, first-passed, rest-passed}
+use Rattle.tables.proofs.Triangular.{UpperTriangular}
+use Rattle.residual.specs.Residual.{accepts}
+use Rattle.residual.specs.FactorTest.{factorEntry, factorShape, answerAfter, factorAnswer, threeTables, factorTest}
+use Rattle.residual.specs.declared.factor_test.FactorAnswer.{FactorAnswer}
+use Rattle.residual.specs.declared.factor_test.FactorAnswer.the-variants as Answer
+use Rattle.residual.proofs.Definite.{accepted-definite}
+
+-- ---- check 6, of an offered factor: the test of entry (i, j), by cases
+pub entry-by : (i j : ℕ) (x : ℤ) (P : Bool → Type 0) → (i < j → P (within factorRange x)) →
+    (i ≡ j → P (leZ (pos 1) x && leZ x (pos factorRange))) → (j < i → P (same x (pos 0))) → P (factorEntry i j x)
+unfolding factorEntry
+entry-by i j x P f g h =
+    go (compare i j) (leb→le i j) (nleb→lt i j) (eqb→eq i j) (λ e. subst (λ (k : ℕ). T (eqb i k)) e (eqb-refl i))
+  where
+    go : (o : Ordering) → (T (isLe o) → i ≤ j) → (T (not (isLe o)) → j < i) → (T (isEq o) → i ≡ j) → (i ≡ j → T (isEq o)) →
+        P (elim o as (λ z. Bool) [
+          | Ordering·lt ↦ within factorRange x
+          | Ordering·eq ↦ leZ (pos 1) x && leZ x (pos factorRange)
+          | Ordering·gt ↦ same x (pos 0)
+        ])
+    go Ordering·lt le gt to of = let l = le tt in let d : i ≡ j → ⊥ = of in f (omega arith)
+    go Ordering·eq le gt to of = g (to tt)
+    go Ordering·gt le gt to of = h (gt tt)
+
+module _ (n : ℕ) (R : Matrix) where
+  -- one that passes is upper triangular
+  pub shape-upper : T (factorShape n R) → UpperTriangular n R
+  unfolding factorShape
+  shape-upper t =
+      record {
+        below = λ i j l h.
+            entry-by i j (R i j) (λ b. b ≡ true → R i j ≡ pos 0) (λ m. absurd (omega arith)) (λ m. absurd (omega arith))
+            (λ m e. same-of (R i j) (pos 0) e) (entry i j h (omega arith));
+        diagonal = λ j h.
+            entry-by j j (R j j) (λ b. b ≡ true → pos 1 ≤ℤ R j j) (λ m. absurd (omega arith))
+            (λ m e. le-of (pos 1) (R j j) (and-left _ _ e)) (λ m. absurd (omega arith)) (entry j j h h);
+      }
+    where
+      entry : (i j : ℕ) → i < n → j < n → factorEntry i j (R i j) ≡ true
+      entry i j h k = all-at _ n (all-at _ n (true-of (factorShape n R) t) i h) j k
+
+-- ---- an offered factor
+-- "Whatever factor is offered, and however it was come by, if the residual test accepts it, then x'Mx > 0 for every symmetric M
+-- of fractions between the bounds L and U and every nonzero vector x of fractions"
+pub offered-definite : (n : ℕ) (R L U : Matrix) → T (factorShape n R) → T (accepts n R L U) → PositiveDefinite n L U
+offered-definite n R L U s t = accepted-definite n R L U t (shape-upper n R s)
+
+answered : (k : Checked) (b : Bool) → answerAfter k b ≡ Answer.Accepted → (k ≡ Passed) × (b ≡ true)
+unfolding answerAfter
+answered Passed true e = (refl, refl)
+answered Passed false e = (refl, cc)
+answered (Refused r) b e = (cc, cc)
+
+module _ (l u f : List ℤ) where
+  -- so it is where the factor test answers 'accepted'
+  pub answer-definite : (n : ℕ) → factorAnswer n l u f ≡ Answer.Accepted → PositiveDefinite n (at n l) (at n u)
+  unfolding factorAnswer tableChecks
+  answer-definite n e =
+      let p = answered _ _ e in
+      offered-definite n (at n f) (at n l) (at n u)
+      (of-true (first-passed _ _ (rest-passed _ _ (rest-passed _ _ (rest-passed _ _ (p .0)))))) (of-true (p .1))
+
+  pub test-definite : (n : ℤ) → factorTest n l u f ≡ Answer.Accepted → PositiveDefinite (natAbs n) (at (natAbs n) l) (at (natAbs n) u)
+  unfolding factorTest
+  test-definite n e = answer-definite (natAbs n) (go (orderOk n) (threeTables (natAbs n) l u f) e)
+    where
+      go : (a b : Bool) →
+          _≡_ {A = FactorAnswer}
+          (elim a [ true ↦ elim b [ true ↦ factorAnswer (natAbs n) l u f | false ↦ Answer.Refused Length ] | false ↦ Answer.Refused Order ])
+          Answer.Accepted → factorAnswer (natAbs n) l u f ≡ Answer.Accepted
+      go true true e = e
+      go true false e = cc
+      go false b e = cc

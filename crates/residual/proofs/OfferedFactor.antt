@@ -1,0 +1,135 @@
+-- Laws of an offered factor: of check 6, and of the table into which its columns are loaded.
+use mathlib.Core.Path.{_≡_, refl, sym, _∙_}
+use mathlib.Core.Bool.{true, false, _&&_}
+use mathlib.Core.List.{List}
+use Prim.Native.Nat.{ℕ, suc, _+_, _*_, _≤_, _<_, compare, Ordering, Ordering·lt, Ordering·eq, Ordering·gt}
+use native.Mathlib.Decide.{ℕ-discrete, decLt}
+use native.Mathlib.Omega.{arith}
+use borrow.Author.Tests.{eqb-true}
+use lib.Dec.{T, isLe, eqb, isEq, leb→le, le→leb, eqb→eq, eqb-refl}
+use lib.IntN.{ℤ, pos}
+use lib.Signed.{_≤ℤ_, _<ℤ_, leZ}
+use lib.ListN.{length, set, length-set}
+use mir.Syntax.{w64}
+use mir.Val.{SFits, ofZ}
+use Rattle.integers.specs.Numbers.{Within}
+use Rattle.integers.proofs.Parts.{≤ℤ-trans, leZ-true, leZ-false}
+use Rattle.integers.proofs.Machine.{within-in, same-bits, fits-literal}
+use Rattle.tables.specs.Ranges.{factorRange}
+use Rattle.tables.specs.Matrix.{Matrix}
+use Rattle.tables.specs.Checks.{within, same}
+use Rattle.tables.proofs.Checks.{all-at, and-left, and-right, and-first-false, le-of, within-of, bool-ext, same-of, same-true}
+use Rattle.residual.specs.FactorTest.{factorEntry, factorShape}
+use Rattle.cholesky.specs.Store.{upper, SmallColumn}
+use Rattle.residual.specs.Offered.{Loaded}
+use Rattle.cholesky.proofs.Store.{upper-same, upper-other}
+
+-- ---- an entry, by where it stands
+module _ (i j : ℕ) (x : ℤ) where
+  pub factor-entry-above : i < j → factorEntry i j x ≡ within factorRange x
+  unfolding factorEntry
+  factor-entry-above h = rw (go (compare i j) (le→leb i j (omega arith)) (eqb→eq i j), factorEntry)
+    where
+      go : (o : Ordering) → T (isLe o) → (T (isEq o) → i ≡ j) → o ≡ Ordering·lt
+      go Ordering·lt l f = refl
+      go Ordering·eq l f = absurd (omega (arith, f tt))
+      go Ordering·gt l f = absurd l
+
+  pub factor-entry-on : i ≡ j → factorEntry i j x ≡ (leZ (pos 1) x && leZ x (pos factorRange))
+  unfolding factorEntry
+  factor-entry-on h = rw (h, go (compare j j) (eqb-refl j), factorEntry)
+    where
+      go : (o : Ordering) → T (isEq o) → o ≡ Ordering·eq
+      go Ordering·lt t = absurd t
+      go Ordering·eq t = refl
+      go Ordering·gt t = absurd t
+
+  pub factor-entry-below : j < i → factorEntry i j x ≡ same x (pos 0)
+  unfolding factorEntry
+  factor-entry-below h = rw (go (compare i j) (leb→le i j), factorEntry)
+    where
+      go : (o : Ordering) → (T (isLe o) → i ≤ j) → o ≡ Ordering·gt
+      go Ordering·lt f = absurd (omega (arith, f tt))
+      go Ordering·eq f = absurd (omega (arith, f tt))
+      go Ordering·gt f = refl
+
+  -- on the diagonal: below 1, and from 1 up
+  pub factor-entry-low : i ≡ j → x <ℤ pos 1 → factorEntry i j x ≡ false
+  factor-entry-low h l = factor-entry-on h ∙ and-first-false _ (leZ-false l)
+
+  pub factor-entry-high : i ≡ j → pos 1 ≤ℤ x → factorEntry i j x ≡ leZ x (pos factorRange)
+  factor-entry-high h l = factor-entry-on h ∙ rw (leZ-true l)
+
+-- x == 0, as the code asks it
+pub zero-test : {x : ℤ} → SFits w64 x → eqb (ofZ w64 x) 0 ≡ same x (pos 0)
+zero-test {x} f =
+    bool-ext (eqb (ofZ w64 x) 0) (same x (pos 0)) (λ e. same-true (same-bits f (fits-literal tt) (eqb-true (ofZ w64 x) 0 e)))
+    (λ e. rw (same-of x (pos 0) e))
+
+-- ---- what check 6 says of a factor
+module _ (n : ℕ) (R : Matrix) (e : factorShape n R ≡ true) where
+  entry-ok : (i j : ℕ) → i < n → j < n → factorEntry i j (R i j) ≡ true
+  unfolding factorShape
+  entry-ok i j h k = all-at _ n (all-at _ n e i h) j k
+
+  pub factor-below : (i j : ℕ) → j < i → i < n → R i j ≡ pos 0
+  factor-below i j h k = same-of (R i j) (pos 0) (sym (factor-entry-below i j (R i j) h) ∙ entry-ok i j k (omega arith))
+
+  on-diagonal : (j : ℕ) → j < n → (leZ (pos 1) (R j j) && leZ (R j j) (pos factorRange)) ≡ true
+  on-diagonal j h = sym (factor-entry-on j j (R j j) refl) ∙ entry-ok j j h h
+
+  pub factor-diagonal : (j : ℕ) → j < n → pos 1 ≤ℤ R j j
+  factor-diagonal j h = le-of (pos 1) (R j j) (and-left (leZ (pos 1) (R j j)) _ (on-diagonal j h))
+
+  pub factor-diagonal-range : (j : ℕ) → j < n → R j j ≤ℤ pos factorRange
+  factor-diagonal-range j h = le-of (R j j) (pos factorRange) (and-right (leZ (pos 1) (R j j)) _ (on-diagonal j h))
+
+  pub factor-within : (i j : ℕ) → i < n → j < n → Within factorRange (R i j)
+  factor-within i j h k = go (decLt i j) (ℕ-discrete i j)
+    where
+      go : Dec (i < j) → Dec (i ≡ j) → Within factorRange (R i j)
+      go (yes l) d = within-of factorRange (R i j) (sym (factor-entry-above i j (R i j) l) ∙ entry-ok i j h k)
+      go (no l) (yes d) = rw d (within-in (≤ℤ-trans (record { le = tt }) (factor-diagonal j k)) (factor-diagonal-range j k))
+      go (no l) (no d) = rw (factor-below i j (omega arith) h) (record { size = omega arith })
+
+  -- of the table with its columns
+  module _ {t : List ℤ} (l : Loaded R n t) (j : ℕ) (h : j < n) where
+    pub loaded-small : SmallColumn t j (suc j)
+    loaded-small = record { small = λ i k. rw (l .entries i j (omega arith) h) (factor-within i j (omega arith) h) }
+
+    pub loaded-diagonal : pos 1 ≤ℤ upper t j j
+    loaded-diagonal = rw (l .entries j j (omega arith) h) (factor-diagonal j h)
+
+-- ---- loading: the columns before j, and the first m entries of column j
+pub record Loading (R : Matrix) (j m : ℕ) (t : List ℤ) : Type 0 where
+  pub before : Loaded R j t
+  pub rows : (i : ℕ) → i < m → upper t i j ≡ R i j
+
+module _ {R : Matrix} {t : List ℤ} where
+  pub loaded-none : length t ≡ 64 → Loaded R 0 t
+  loaded-none e = record { entries = λ i j h k. absurd (omega arith); size = e }
+
+  pub loading-start : {j : ℕ} → Loaded R j t → Loading R j 0 t
+  loading-start l = record { before = l; rows = λ i h. absurd (omega arith) }
+
+  pub loading-more : {j m : ℕ} → j < 8 → m ≤ j → Loading R j m t → Loading R j (suc m) (set t (8 * j + m) (R m j))
+  loading-more {j} {m} h k l =
+      record {
+        before =
+            record {
+              entries = λ a b p q. upper-other t m j (R m j) a b (omega arith) ∙ l .before .entries a b p q;
+              size = length-set t _ _ ∙ l .before .size;
+            };
+        rows = λ i p. go i p (ℕ-discrete i m);
+      }
+    where
+      go : (i : ℕ) → i < suc m → Dec (i ≡ m) → upper (set t (8 * j + m) (R m j)) i j ≡ R i j
+      go i p (yes e) = rw e (upper-same t m j (R m j) (omega (arith, l .before .size)))
+      go i p (no e) = upper-other t m j (R m j) i j (omega arith) ∙ l .rows i (omega arith)
+
+  pub loading-end : {j : ℕ} → Loading R j (suc j) t → Loaded R (suc j) t
+  loading-end {j} l = record { entries = λ a b p q. go a b p q (ℕ-discrete b j); size = l .before .size }
+    where
+      go : (a b : ℕ) → a ≤ b → b < suc j → Dec (b ≡ j) → upper t a b ≡ R a b
+      go a b p q (yes e) = rw e (l .rows a (omega arith))
+      go a b p q (no e) = l .before .entries a b p (omega arith)

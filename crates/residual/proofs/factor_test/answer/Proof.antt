@@ -1,0 +1,42 @@
+use mathlib.Core.Path.{_≡_, sym, _∙_}
+use mathlib.Core.Bool.{true}
+use borrow.Author.Needs.{needs}
+use Rattle.tables.specs.Matrix.{at}
+use Rattle.tables.specs.Checks.{firstRefusal, tableChecks}
+use Rattle.tables.specs.declared.Checked.the-variants.{Passed}
+use Rattle.tables.proofs.Checks.{call-false, call-true, passed-bounds}
+use Rattle.residual.specs.FactorTest.{factorShape}
+use Rattle.residual.proofs.Offers.{answer-refused, answer-shape, answer-accepted, answer-not}
+use Rattle.residual.proofs.factor_test.answer.Statement.{statement}
+use Rattle.residual.proofs.factor_test.answer.Tie as tie
+
+-- checks 3 to 5 passed
+passed : (c : tie.After-enum-told) → let a = c .before .before .before .args in firstRefusal (tableChecks (a .n) (a .low .now) (a .high .now)) ≡ Passed
+passed c = sym (c .before .before .check-tables .ensures) ∙ c .enum-told .given .1
+
+-- and check 6
+shaped : (c : tie.Else1) → let a = c .before .before .before .before .before .args in factorShape (a .n) (at (a .n) (a .factor .now)) ≡ true
+shaped c = call-true (c .before .factor-shape .ensures) (c .if1 .left)
+
+pub answer-spec : {M : Type 1} → statement M
+answer-spec =
+    tie.close
+    (tie.spec
+    (λ c κs. search needs)
+    (λ c. search needs)
+    (λ c. let m = c .before .before .before in answer-refused _ _ _ _ (c .before .checked .given .0 .0) (sym (m .check-tables .ensures) ∙ c .before .checked .given .1))
+    (λ c. search needs)
+    (λ c κs. search needs)
+    (λ c. answer-shape _ _ _ _ (passed (c .before .before)) (call-false (c .before .factor-shape .ensures) (c .if1 .taken)))
+    (λ c κs.
+    let p = c .before .before .before .before .before .pre in
+    record {
+      order = p .0;
+      low-size = p .1;
+      high-size = p .2;
+      factor-size = p .3;
+      bounds = passed-bounds _ _ _ (passed (c .before .before));
+      shape = shaped c;
+    })
+    (λ c. let e = c .before .before in answer-accepted _ _ _ _ (passed (e .before .before)) (shaped e) (sym (c .before .tested .ensures) ∙ c .if2 .taken))
+    (λ c. let e = c .before .before in answer-not _ _ _ _ (passed (e .before .before)) (shaped e) (sym (c .before .tested .ensures) ∙ c .if2 .left)))

@@ -1,0 +1,75 @@
+-- The loop's invariant: rows before i are charged.
+use mathlib.Core.Path.{_≡_}
+use Prim.Native.Nat.{_-_, _≤_}
+use native.Mathlib.Omega.{arith}
+use native.Mathlib.Numerals.{add-one}
+use mir.Syntax.{w64}
+use mir.Val.{toZ}
+use Rattle.integers.proofs.Machine.{clean, clean-element, clean-result}
+use Rattle.cholesky.proofs.Sizes.{shorter}
+use Rattle.residual.proofs.Slack.{Charging, charging-start, charging-row-fits, charging-own-fits, charging-next, charging-end}
+use Rattle.residual.proofs.row_test.charge.Statement.{statement}
+use Rattle.residual.proofs.row_test.charge.Tie as tie
+use Rattle.residual.proofs.row_test.charge.Reads as reads
+use Rattle.residual.proofs.row_test.charge.Lts as lts
+
+abbrev Inv-loop : tie.InvT-loop
+Inv-loop n low high c j over₀ own₀ i₀ over own i = (i ≤ j) × Charging n c low high j over₀ over (toZ w64 own) i
+
+abbrev μ-loop : tie.MeasureT-loop
+μ-loop n low high c j over₀ own₀ i₀ over own i = j - i
+
+diagonal-requires : tie.Need-diagonal-requires Inv-loop μ-loop
+diagonal-requires c κs =
+    let p = c .pre in
+    let s = p .0 in
+    (s .order, p .1, s .low-size, record { size = s .bounds .low-range _ _ (p .1) (p .1) }, shorter (s .columns _ (p .1)) (omega arith))
+
+loop-holds : tie.Need-loop-holds Inv-loop μ-loop
+loop-holds c =
+    let p = c .before .pre in
+    (omega arith, rw (clean-result (c .diagonal)) (charging-start (p .0) (p .1) (p .2) (c .diagonal .ensures)))
+
+sub-over : tie.Need-sub-over Inv-loop μ-loop
+sub-over c =
+    let b = c .before .before in
+    let p = b .before .before .before .pre in
+    rw (clean-element _ (c .over .given), clean-result (c .before .radius), c .before .radius .ensures) (charging-row-fits (p .0) (p .1) (p .2) (b .loop-test .taken) (b .before .loop .inv .1))
+
+sub-own : tie.Need-sub-own Inv-loop μ-loop
+sub-own c =
+    let b = c .before .before in
+    let p = b .before .before .before .pre in
+    rw (clean-result (c .before .radius), c .before .radius .ensures) (charging-own-fits (p .0) (p .1) (p .2) (b .loop-test .taken) (b .before .loop .inv .1))
+
+loop-again : tie.Need-loop-again Inv-loop μ-loop
+loop-again c =
+    let b = c .before .before in
+    let p = b .before .before .before .pre in
+    (omega arith, rw (clean (sub-over c), clean (sub-own c), clean-element _ (c .over .given), clean-result (c .before .radius), c .before .radius .ensures, add-one) (charging-next (p .0) (p .1) (p .2) (b .loop-test .taken) (b .before .loop .inv .1)))
+
+returns : tie.Need-returns Inv-loop μ-loop
+returns c =
+    let p = c .before .before .before .pre in
+    let l = c .before .loop in
+    let e : l .i ≡ c .before .before .before .args .j = omega arith in
+    charging-end (p .0) (p .1) (p .2) (rw e at (l .inv .1))
+
+pub charge-spec : {M : Type 1} → statement M
+charge-spec =
+    tie.close
+    (tie.spec Inv-loop μ-loop
+    diagonal-requires
+    loop-holds
+    (λ c κs. let p = c .before .before .before .pre in (p .0, c .loop-test .taken, p .1))
+    (λ c. let n8 = c .before .before .before .before .pre .0 .order in omega arith)
+    (λ c. let n8 = c .before .before .before .before .pre .0 .order in omega arith)
+    sub-over
+    (λ c. let n8 = c .before .before .before .before .before .pre .0 .order in omega arith)
+    sub-own
+    (λ c. omega arith)
+    (λ c. omega arith)
+    loop-again
+    (λ c. let n8 = c .before .before .before .pre .0 .order in omega arith)
+    (λ c. let n8 = c .before .before .before .pre .0 .order in omega arith)
+    returns)

@@ -1,0 +1,4 @@
+pub mod Residual
+pub mod Slack
+pub mod Offered
+pub mod FactorTest

@@ -1,0 +1,80 @@
+// An offered factor: check 6 of document 01, "Refused calls", and its columns as the residual test reads them.
+ghost use mathlib.Core.Path.{_≡_};
+ghost use Prim.Native.Nat.{suc, _*_, _≤_, _<_};
+ghost use lib.ListN.{length};
+ghost use Rattle.tables.specs.Ranges.{greatestOrder};
+ghost use Rattle.tables.specs.Matrix.{at};
+ghost use Rattle.tables.specs.Checks.{all};
+ghost use Rattle.residual.specs.FactorTest.{factorEntry, factorShape};
+ghost use Rattle.residual.specs.Offered.{Loaded};
+use tables::FACTOR_RANGE;
+
+// Whether x may stand at (i, j): 0 below the diagonal, 1 to 2^26 on it, within ±2^26 above it.
+fn entry_shape(i: usize, j: usize, x: i64) -> bool
+    ensures { λ r. ⌜ r ≡ factorEntry i j x ⌝ }
+{
+    if j < i {
+        return x == 0;
+    }
+    if i < j {
+        return tables::within(x, FACTOR_RANGE);
+    }
+    if x < 1 {
+        return false;
+    }
+    x <= FACTOR_RANGE
+}
+
+// Whether row i of a factor of order n has its shape.
+fn row_shape(n: usize, factor: &[i64], i: usize) -> bool
+    requires { ⌜ (n ≤ greatestOrder) × (i < n) × (n * n ≤ length (now factor)) ⌝ }
+    ensures { λ r. ⌜ r ≡ all n (λ j. factorEntry i j (at n (now (factor .entry)) i j)) ⌝ }
+{
+    let mut j = 0;
+    while j < n {
+        if !entry_shape(i, j, factor[i * n + j]) {
+            return false;
+        }
+        j += 1;
+    }
+    true
+}
+
+// Whether a factor of order n has its shape.
+pub fn factor_shape(n: usize, factor: &[i64]) -> bool
+    requires { ⌜ (n ≤ greatestOrder) × (n * n ≤ length (now factor)) ⌝ }
+    ensures { λ r. ⌜ r ≡ factorShape n (at n (now (factor .entry))) ⌝ }
+{
+    let mut i = 0;
+    while i < n {
+        if !row_shape(n, factor, i) {
+            return false;
+        }
+        i += 1;
+    }
+    true
+}
+
+// Loads column j of a factor of order n, down to the diagonal, after the columns before it.
+fn load_column(n: usize, factor: &[i64], j: usize, c: &mut [i64; 64])
+    requires { ⌜ (n ≤ 8) × (j < n) × (n * n ≤ length (now factor)) × Loaded (at n (now factor)) j (now c) ⌝ }
+    ensures { λ r. ⌜ Loaded (at n (now (factor .entry))) (suc j) (now (c .exit)) ⌝ }
+{
+    let mut i = 0;
+    while i <= j {
+        c[8 * j + i] = factor[i * n + j];
+        i += 1;
+    }
+}
+
+// Loads the upper triangle of a factor of order n: entry (i, j) to 8 j + i.
+pub fn load_columns(n: usize, factor: &[i64], c: &mut [i64; 64])
+    requires { ⌜ (n ≤ 8) × (n * n ≤ length (now factor)) × (length (now c) ≡ 64) ⌝ }
+    ensures { λ r. ⌜ Loaded (at n (now (factor .entry))) n (now (c .exit)) ⌝ }
+{
+    let mut k = 0;
+    while k < n {
+        load_column(n, factor, k, c);
+        k += 1;
+    }
+}

@@ -1,0 +1,5 @@
+pub mod Matrix
+pub mod Checks
+pub mod Forms
+pub mod Dominance
+pub mod Triangular

@@ -1,0 +1,6 @@
+pub mod Ranges
+pub mod Matrix
+pub mod Members
+pub mod Refusals
+pub mod Checks
+pub mod Bounds

@@ -1,0 +1,30 @@
+-- Document 01: "A member is a symmetric matrix M of fractions with L ≤ M ≤ U entry by entry", and what demand 3 says of members.
+-- Fractions are whole numbers over one denominator from 1 up, and what is said of them is multiplied out.
+use mathlib.Core.Path.{_≡_}
+use mathlib.Core.Logic.{_≢_}
+use Prim.Native.Nat.{ℕ, _<_}
+use lib.IntN.{ℤ, pos, _+ℤ_, _*ℤ_}
+use lib.Signed.{_≤ℤ_, _<ℤ_}
+use Rattle.integers.specs.Sum.{sum}
+use Rattle.tables.specs.Matrix.{Matrix, form, rowWidth}
+
+-- N over q is a member: q ≥ 1, N is symmetric, and q L ≤ N ≤ q U
+pub record Member (n : ℕ) (L U N : Matrix) (q : ℤ) : Type 0 where
+  pub whole : pos 1 ≤ℤ q
+  pub symmetric : (i j : ℕ) → i < n → j < n → N i j ≡ N j i
+  pub low : (i j : ℕ) → i < n → j < n → (q *ℤ L i j) ≤ℤ N i j
+  pub high : (i j : ℕ) → i < n → j < n → N i j ≤ℤ (q *ℤ U i j)
+
+-- x is not the zero vector
+pub record Nonzero (n : ℕ) (x : ℕ → ℤ) : Type 0 where
+  pub index : ℕ
+  pub inside : index < n
+  pub differs : x index ≢ pos 0
+
+-- demand 3: x'Mx > 0 for every member M and every nonzero x
+pub record PositiveDefinite (n : ℕ) (L U : Matrix) : Type 0 where
+  pub positive : (N : Matrix) (q : ℤ) → Member n L U N q → (x : ℕ → ℤ) → Nonzero n x → pos 0 <ℤ form n N x
+
+-- demand 3's margin: x'(L+U)x ≥ Σ (1 + w(i)) x(i)² for every whole-number x
+pub record Margin (n : ℕ) (L U : Matrix) : Type 0 where
+  pub room : (x : ℕ → ℤ) → sum n (λ i. (pos 1 +ℤ rowWidth n L U i) *ℤ (x i *ℤ x i)) ≤ℤ form n (λ i j. L i j +ℤ U i j) x

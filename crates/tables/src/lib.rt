@@ -1,0 +1,174 @@
+// Bounded symmetric matrices: refusals, and the checks 1 to 5 of a problem.
+ghost use mathlib.Core.Path.{_≡_};
+ghost use Prim.Native.Nat.{_*_, _≤_, _<_};
+ghost use lib.IntN.{pos, natAbs};
+ghost use lib.Signed.{_≤ℤ_};
+ghost use lib.ListN.{length};
+ghost use Rattle.tables.specs.Matrix.{at};
+ghost use Rattle.tables.specs.Ranges.{greatestOrder};
+ghost use Rattle.tables.specs.Refusals.{refusalNumber};
+ghost use Rattle.tables.specs.Checks.{orderOk, within, allWithin, nowhereCrossed, rowSymmetric, symmetric, tableChecks, firstRefusal};
+
+// Orders are 1 to 8.
+pub const GREATEST_ORDER: i64 = 8;
+
+// Entries of L and U are within ±2^20.
+pub const ENTRY_RANGE: i64 = 1 << 20;
+
+// Entries of a factor are within ±2^26.
+pub const FACTOR_RANGE: i64 = 1 << 26;
+
+// Document 01, "Refused calls", in the order of their numbers.
+pub enum Refusal {
+    Order,
+    Length,
+    Range,
+    Crossed,
+    Lopsided,
+    Factor,
+    Vector,
+    Flat,
+    Far,
+    Cut,
+    Tag,
+    Again,
+    Absent,
+    Size,
+    Long,
+}
+
+// What checks find: nothing to refuse, or the first refusal.
+pub enum Checked {
+    Passed,
+    Refused(Refusal),
+}
+
+// The number of document 01's table.
+pub fn refusal_number(r: Refusal) -> u8
+    ensures { λ k. ⌜ k ≡ refusalNumber r ⌝ }
+{
+    match r {
+        Refusal::Order => 1,
+        Refusal::Length => 2,
+        Refusal::Range => 3,
+        Refusal::Crossed => 4,
+        Refusal::Lopsided => 5,
+        Refusal::Factor => 6,
+        Refusal::Vector => 7,
+        Refusal::Flat => 8,
+        Refusal::Far => 9,
+        Refusal::Cut => 10,
+        Refusal::Tag => 11,
+        Refusal::Again => 12,
+        Refusal::Absent => 13,
+        Refusal::Size => 14,
+        Refusal::Long => 15,
+    }
+}
+
+// Entry (i, j) of a table of order n.
+pub fn entry(n: usize, t: &[i64], i: usize, j: usize) -> i64
+    requires { ⌜ (n ≤ greatestOrder) × (i < n) × (j < n) × (n * n ≤ length (now t)) ⌝ }
+    ensures { λ r. ⌜ r ≡ at n (now (t .entry)) i j ⌝ }
+{
+    t[i * n + j]
+}
+
+// Whether n is an order, 1 to 8.
+pub fn order_ok(n: i64) -> bool
+    ensures { λ r. ⌜ r ≡ orderOk n ⌝ }
+{
+    if n < 1 {
+        return false;
+    }
+    n <= GREATEST_ORDER
+}
+
+// Whether |x| is at most the bound.
+pub fn within(x: i64, bound: i64) -> bool
+    requires { ⌜ pos 0 ≤ℤ bound ⌝ }
+    ensures { λ r. ⌜ r ≡ within (natAbs bound) x ⌝ }
+{
+    if x < -bound {
+        return false;
+    }
+    x <= bound
+}
+
+// Whether the first numbers of x, count of them, are within the bound.
+pub fn all_within(x: &[i64], count: usize, bound: i64) -> bool
+    requires { ⌜ (count ≤ length (now x)) × (pos 0 ≤ℤ bound) ⌝ }
+    ensures { λ r. ⌜ r ≡ allWithin (natAbs bound) count (now (x .entry)) ⌝ }
+{
+    let mut k = 0;
+    while k < count {
+        if !within(x[k], bound) {
+            return false;
+        }
+        k += 1;
+    }
+    true
+}
+
+// Whether none of the first numbers of low, count of them, is above that of high.
+pub fn nowhere_crossed(low: &[i64], high: &[i64], count: usize) -> bool
+    requires { ⌜ (count ≤ length (now low)) × (count ≤ length (now high)) ⌝ }
+    ensures { λ r. ⌜ r ≡ nowhereCrossed count (now (low .entry)) (now (high .entry)) ⌝ }
+{
+    let mut k = 0;
+    while k < count {
+        if high[k] < low[k] {
+            return false;
+        }
+        k += 1;
+    }
+    true
+}
+
+// Whether row i of a table of order n, left of the diagonal, is column i above it.
+fn row_symmetric(n: usize, t: &[i64], i: usize) -> bool
+    requires { ⌜ (n ≤ greatestOrder) × (i < n) × (n * n ≤ length (now t)) ⌝ }
+    ensures { λ r. ⌜ r ≡ rowSymmetric n (now (t .entry)) i ⌝ }
+{
+    let mut j = 0;
+    while j < i {
+        if t[i * n + j] != t[j * n + i] {
+            return false;
+        }
+        j += 1;
+    }
+    true
+}
+
+// Whether a table of order n is symmetric.
+pub fn symmetric(n: usize, t: &[i64]) -> bool
+    requires { ⌜ (n ≤ greatestOrder) × (n * n ≤ length (now t)) ⌝ }
+    ensures { λ r. ⌜ r ≡ symmetric n (now (t .entry)) ⌝ }
+{
+    let mut i = 0;
+    while i < n {
+        if !row_symmetric(n, t, i) {
+            return false;
+        }
+        i += 1;
+    }
+    true
+}
+
+// Checks 3, 4 and 5 of a problem of order n, each over both tables before the next.
+pub fn check_tables(n: usize, low: &[i64], high: &[i64]) -> Checked
+    requires { ⌜ (n ≤ greatestOrder) × (n * n ≤ length (now low)) × (n * n ≤ length (now high)) ⌝ }
+    ensures { λ r. ⌜ r ≡ firstRefusal (tableChecks n (now (low .entry)) (now (high .entry))) ⌝ }
+{
+    let count = n * n;
+    if !all_within(low, count, ENTRY_RANGE) || !all_within(high, count, ENTRY_RANGE) {
+        return Checked::Refused(Refusal::Range);
+    }
+    if !nowhere_crossed(low, high, count) {
+        return Checked::Refused(Refusal::Crossed);
+    }
+    if !symmetric(n, low) || !symmetric(n, high) {
+        return Checked::Refused(Refusal::Lopsided);
+    }
+    Checked::Passed
+}
