@@ -14,8 +14,10 @@ use Rattle.integers.specs.Root.{wholeRoot}
 use Rattle.integers.proofs.Sums.{sum-ext}
 use Rattle.tables.specs.Matrix.{nth}
 use Rattle.tables.proofs.Matrix.{length-tabulate, getD-tabulate, nth-tabulate, tabulate-suc, tabulate-ext}
-use Rattle.cholesky.specs.Factoring.{entries, nextEntry}
-use Rattle.cholesky.specs.Store.{upper, columnOf, columnsOf, entryAt, finishedRows, finishedTable, Finished}
+use Rattle.cholesky.specs.Factoring.{Factoring, entries, nextEntry}
+use Rattle.cholesky.specs.declared.factoring.Outcome.{Outcome}
+use Rattle.cholesky.specs.declared.factoring.Outcome.the-variants.{Ends, Stops}
+use Rattle.cholesky.specs.Store.{upper, columnOf, columnsOf, entryAt, finishedRows, finishedTable, Finished, outcomeOf}
 
 -- ---- what is read
 pub length-columnOf : (t : List ℤ) (j m : ℕ) → length (columnOf t j m) ≡ m
@@ -93,3 +95,20 @@ module _ (t : List ℤ) (j : ℕ) (rest : ℤ) where
           P (elim b as (λ z. ℕ) [ true ↦ suc j | false ↦ j ]) (elim b as (λ z. List ℤ) [ true ↦ set t (8 * j + j) (wholeRoot rest) | false ↦ t ])
       go true f g = f refl
       go false f g = g refl
+
+-- ---- the outcome tells whether factoring ended
+pub outcome-ends : (f : Factoring) → outcomeOf f ≡ Ends → true ≡ f .ends
+unfolding outcomeOf
+outcome-ends f e = go (f .ends) e
+  where
+    go : (b : Bool) → _≡_ {A = Outcome} (elim b [ true ↦ Ends | false ↦ Stops (length (f .columns)) (length (f .stopped)) ]) Ends → true ≡ b
+    go true e = refl
+    go false e = cc
+
+pub outcome-stops : (f : Factoring) (j m : ℕ) → outcomeOf f ≡ Stops j m → false ≡ f .ends
+unfolding outcomeOf
+outcome-stops f j m e = go (f .ends) e
+  where
+    go : (b : Bool) → _≡_ {A = Outcome} (elim b [ true ↦ Ends | false ↦ Stops (length (f .columns)) (length (f .stopped)) ]) (Stops j m) → false ≡ b
+    go true e = cc
+    go false e = refl

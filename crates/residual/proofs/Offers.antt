@@ -109,18 +109,17 @@ module _ (n : ℤ) (l u f : List ℤ) where
   unfolding factorTest answering
   test-answer e k = sym (ap₂ answering e k)
 
--- three tables of the size that n calls for
+-- three lengths that are the size called for
 three : (a b c : Bool) → (a && (b && c)) ≡ true → (a ≡ true) × (b ≡ true) × (c ≡ true)
 three true true true e = (refl, refl, refl)
 three true true false e = (refl, refl, e)
 three true false c e = (refl, e, cc)
 three false b c e = (e, cc, cc)
 
-pub sizes : (n : ℕ) (l u f : List ℤ) → threeTables n l u f ≡ true → (n * n ≤ length l) × (n * n ≤ length u) × (n * n ≤ length f)
-unfolding threeTables
-sizes n l u f e =
-    let t = three (eqb (length l) (n * n)) (eqb (length u) (n * n)) (eqb (length f) (n * n)) e in
-    let a = eqb-true (length l) (n * n) (t .0) in
-    let b = eqb-true (length u) (n * n) (t .1) in
-    let d = eqb-true (length f) (n * n) (t .2) in
+pub three-sizes : (k a b c : ℕ) → (eqb a k && (eqb b k && eqb c k)) ≡ true → (k ≤ a) × (k ≤ b) × (k ≤ c)
+three-sizes k a b c e =
+    let t = three (eqb a k) (eqb b k) (eqb c k) e in
+    let p = eqb-true a k (t .0) in
+    let q = eqb-true b k (t .1) in
+    let r = eqb-true c k (t .2) in
     (omega arith, omega arith, omega arith)

@@ -17,7 +17,7 @@ use Rattle.residual.specs.FactorTest.{factorTest, threeTables}
 use Rattle.residual.specs.declared.factor_test.FactorAnswer.{FactorAnswer}
 use Rattle.residual.specs.declared.factor_test.FactorAnswer.the-variants as Answer
 use Rattle.residual.proofs.Meaning.{test-definite}
-use Rattle.residual.proofs.Offers.{test-order, test-length, test-answer, sizes}
+use Rattle.residual.proofs.Offers.{test-order, test-length, test-answer, three-sizes}
 use Rattle.residual.proofs.factor_test.test_factor.Statement.{statement}
 use Rattle.residual.proofs.factor_test.test_factor.Tie as tie
 
@@ -46,6 +46,7 @@ mul-size c =
     rw (clean (c .before .before .fits .n)) (record { fits = omega (arith, mul-le-mul k k) })
 
 pub test-factor-spec : {M : Type 1} → statement M
+unfolding threeTables
 test-factor-spec =
     tie.close
     (tie.spec
@@ -62,7 +63,7 @@ test-factor-spec =
     exactly (a .n) (a .low .now) (a .high .now) (a .factor .now) _ (test-length (a .n) _ _ _ (ordered (c .before .before)) (unsized c)))
     (λ c κs.
     let s = c .before .before .before .before in
-    rw (clean (s .fits .n)) (let z = sizes _ _ _ _ (sized c) in (order-of (ordered (c .before .before)) .1, z .0, z .1, z .2)))
+    rw (clean (s .fits .n)) (let z = three-sizes _ _ _ _ (sized c) in (order-of (ordered (c .before .before)) .1, z .0, z .1, z .2)))
     (λ c.
     let s = c .before .before .before .before .before in
     let a = s .args in

@@ -1,0 +1,34 @@
+// Factoring the problem of two tables.
+ghost use mathlib.Core.Path.{_≡_};
+ghost use lib.ListN.{length};
+ghost use Rattle.tables.specs.Matrix.{at};
+ghost use Rattle.cholesky.specs.Scale.{takeOff, scaled};
+ghost use Rattle.cholesky.specs.Factoring.{factoring};
+ghost use Rattle.cholesky.specs.Store.{Stored};
+ghost use Rattle.cholesky.specs.Scaling.{Checked};
+use crate::factoring::Outcome;
+use crate::factoring::factor;
+use crate::scaling::scale;
+
+// Factors H of the tables of L and U, of order n, into the columns of t.
+pub fn factor_tables(n: usize, low: &[i64], high: &[i64], t: &mut [i64; 64]) -> Outcome
+    requires { ⌜ Checked n (now low) (now high) × (length (now t) ≡ 64) ⌝ }
+    ensures { λ r. ⌜ Stored (factoring n (scaled takeOff n (at n (now (low .entry))) (at n (now (high .entry))))) r (now (t .exit)) ⌝ }
+{
+    let mut h = [0i64; 64];
+    scale(n, low, high, &mut h);
+    factor(&h, n, t)
+}
+
+// Whether factoring the tables of L and U, of order n, ends.
+pub fn ends(n: usize, low: &[i64], high: &[i64]) -> bool
+    requires { ⌜ Checked n (now low) (now high) ⌝ }
+    ensures { λ r. ⌜ r ≡ factoring n (scaled takeOff n (at n (now (low .entry))) (at n (now (high .entry)))) .ends ⌝ }
+{
+    let mut t = [0i64; 64];
+    let outcome = factor_tables(n, low, high, &mut t);
+    match outcome {
+        Outcome::Ends => true,
+        Outcome::Stops(_, _) => false,
+    }
+}

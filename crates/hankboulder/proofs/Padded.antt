@@ -1,0 +1,39 @@
+-- Zeros behind a table change no check and no answer: the code loads a buffer's n² numbers into 64.
+use mathlib.Core.Path.{_≡_, refl, sym, ap, ap₂, _∙_}
+use mathlib.Core.Bool.{Bool, _&&_}
+use mathlib.Core.List.{List, [], _∷_, _++_}
+use Prim.Native.Nat.{ℕ, _*_}
+use lib.IntN.{ℤ, pos}
+use lib.ListN.{replicate}
+use lib.Signed.{leZ}
+use Rattle.tables.specs.Ranges.{entryRange}
+use Rattle.tables.specs.Matrix.{Matrix, nth, at}
+use Rattle.tables.specs.Checks.{all, within, allWithin, nowhereCrossed, same, symmetric, Check, firstRefusal, tableChecks}
+use Rattle.tables.specs.declared.Refusal.the-variants.{Range, Crossed, Lopsided, Factor}
+use Rattle.tables.proofs.Matrix.{nth-padded, at-padded}
+use Rattle.residual.specs.Residual.{accepts}
+use Rattle.residual.specs.FactorTest.{factorShape, answerAfter, factorAnswer}
+
+abbrev zeros : ℕ → List ℤ
+zeros m = replicate m (pos 0)
+
+range-padded : (b m k : ℕ) (x : List ℤ) → allWithin b m (x ++ zeros k) ≡ allWithin b m x
+unfolding allWithin
+range-padded b m k x = ap (λ (f : ℕ → ℤ). all m (λ i. within b (f i))) (nth-padded x k)
+
+crossed-padded : (m j k : ℕ) (x y : List ℤ) → nowhereCrossed m (x ++ zeros j) (y ++ zeros k) ≡ nowhereCrossed m x y
+unfolding nowhereCrossed
+crossed-padded m j k x y = ap₂ (λ (f g : ℕ → ℤ). all m (λ i. leZ (f i) (g i))) (nth-padded x j) (nth-padded y k)
+
+symmetric-padded : (n k : ℕ) (x : List ℤ) → symmetric n (x ++ zeros k) ≡ symmetric n x
+unfolding symmetric
+symmetric-padded n k x = ap (λ (M : Matrix). all n (λ i. all i (λ j. same (M i j) (M j i)))) (at-padded n x k)
+
+checks-padded : (n i j : ℕ) (x y : List ℤ) → tableChecks n (x ++ zeros i) (y ++ zeros j) ≡ tableChecks n x y
+unfolding tableChecks
+checks-padded n i j x y =
+    rw (range-padded entryRange (n * n) i x, range-padded entryRange (n * n) j y, crossed-padded (n * n) i j x y, symmetric-padded n i x, symmetric-padded n j y)
+
+pub answer-padded : (n i j k : ℕ) (x y z : List ℤ) → factorAnswer n (x ++ zeros i) (y ++ zeros j) (z ++ zeros k) ≡ factorAnswer n x y z
+unfolding factorAnswer
+answer-padded n i j k x y z = rw (checks-padded n i j x y, at-padded n x i, at-padded n y j, at-padded n z k)

@@ -1,0 +1,107 @@
+/*
+ * hankboulder: the matrix judge of the range display, for C99, C11 and C++.
+ * Link with libhankboulder.a.
+ *
+ * NUMBERS AND TABLES
+ *
+ * A problem has an order n, from 1 to HB_MAX_ORDER, and two symmetric n by n tables, low and high: the bounds of a symmetric matrix, entry by entry.
+ *
+ * In a buffer each number is HB_NUMBER_BYTES = 8 bytes: signed, two's complement, low byte first. A table or a factor has n * n numbers, row by
+ * row (the entry of row i and column j, counted from 0, starts at byte 8 * (i * n + j)), so it is HB_TABLE_BYTES(n) bytes long. Where the processor stores
+ * the low byte first, an array of int64_t has this form already:
+ *
+ *     int64_t low[4] = {2, 1, 1, 2};
+ *     ... (const uint8_t *)low, sizeof low ...
+ *
+ * WHAT HOLDS FOR EVERY FUNCTION
+ *
+ * - Lengths are in bytes. A pointer must point to as many readable bytes as its length says. It may be null where the length is 0: that is an empty
+ *   buffer, and is refused by HB_REFUSED_LENGTH if n is good.
+ * - Any contents and any n are answered. What is wrong with them is named by a refusal.
+ * - Pointers need no alignment.
+ * - The buffers of one call must not overlap. Nothing is promised where they do.
+ * - A const buffer is only read. A refused call writes nothing at all.
+ * - No memory is allocated, nothing is kept between calls, and no lock is held. The functions are reentrant: they may be called from several threads or
+ *   interrupt handlers at once, as long as no one writes to a buffer during a call that has it.
+ * - No floating point is used.
+ */
+#ifndef HANKBOULDER_H
+#define HANKBOULDER_H
+
+#include <stddef.h>
+#include <stdint.h>
+
+#ifdef __cplusplus
+extern "C" {
+#endif
+
+/* The greatest order. */
+#define HB_MAX_ORDER 8
+
+/* Bytes of a number, and of a table or factor of order n. */
+#define HB_NUMBER_BYTES 8
+#define HB_TABLE_BYTES(n) ((size_t)HB_NUMBER_BYTES * (size_t)(n) * (size_t)(n))
+
+/* The greatest magnitude of an entry of low and high, 2^20, and of a factor, 2^26. Both ends of a range belong to it. */
+#define HB_ENTRY_RANGE 1048576L
+#define HB_FACTOR_RANGE 67108864L
+
+/*
+ * What a function returns. A number from 1 up is a refusal: 1 to 9 of a call, 10 to 15 of a summary file. A call's checks are made in rising order, each
+ * over the whole input before the next, and the first that fails is returned. Each function says which of them it makes.
+ */
+enum {
+    HB_NOT_ACCEPTED = -1,
+    HB_ACCEPTED = 0,
+
+    HB_REFUSED_ORDER = 1,    /* n is not 1 to 8 */
+    HB_REFUSED_LENGTH = 2,   /* a buffer has not exactly the size that n calls for */
+    HB_REFUSED_RANGE = 3,    /* an entry of low or high, a linear term, the limit or a centre entry is beyond its range */
+    HB_REFUSED_CROSSED = 4,  /* an entry of low is above its entry of high */
+    HB_REFUSED_LOPSIDED = 5, /* low or high is not symmetric */
+    HB_REFUSED_FACTOR = 6,   /* factor: nonzero below the diagonal, a diagonal entry not 1 to 2^26, or another beyond +-2^26 */
+    HB_REFUSED_VECTOR = 7,   /* vector: all zero, or an entry beyond +-2^15 */
+    HB_REFUSED_FLAT = 8,     /* box: t, the step that can be taken off the diagonal, is 0 */
+    HB_REFUSED_FAR = 9,      /* box: some g(k), the gradient bound at the centre, is above 2^20 */
+    HB_REFUSED_CUT = 10,     /* file: 1 or 2 bytes left at a field's start, or its length runs past the end */
+    HB_REFUSED_TAG = 11,     /* file: a tag that is not 01 to 06 */
+    HB_REFUSED_AGAIN = 12,   /* file: a tag already seen */
+    HB_REFUSED_ABSENT = 13,  /* file: one of the six tags is missing */
+    HB_REFUSED_SIZE = 14,    /* file: a field's length is not the one called for */
+    HB_REFUSED_LONG = 15     /* file: more than 4096 bytes */
+};
+
+/*
+ * hb_test_factor: does this factor show that every matrix between the bounds is positive definite?
+ *
+ *   n                   the order, 1 to 8
+ *   low, high           the bounds: HB_TABLE_BYTES(n) bytes each, entries within +-2^20, symmetric, no entry of low above its entry of high
+ *   factor              the offered Cholesky factor R, scaled by 2^16: HB_TABLE_BYTES(n) bytes, upper triangular (0 below the diagonal), diagonal
+ *                       entries 1 to 2^26, entries above the diagonal within +-2^26
+ *   low_len, high_len,  the lengths of the three buffers, in bytes
+ *   factor_len
+ *
+ * Let P(i,j) be the sum over k of R(k,i) * R(k,j). The factor is accepted exactly if for each row i
+ *
+ *     2^32 * low(i,i) - P(i,i)  >=  the sum over j other than i of the greater of |2^32 * low(i,j) - P(i,j)| and |2^32 * high(i,j) - P(i,j)|
+ *
+ * Returns
+ *
+ *   HB_ACCEPTED          it is accepted: every symmetric matrix from low to high, entry by entry, is positive definite
+ *   HB_NOT_ACCEPTED      it is not: this factor shows nothing, another one may
+ *   HB_REFUSED_ORDER     n is not 1 to 8; no length is looked at
+ *   HB_REFUSED_LENGTH    a length is not HB_TABLE_BYTES(n); too long is refused like too short
+ *   HB_REFUSED_RANGE     an entry of low or high is beyond +-2^20
+ *   HB_REFUSED_CROSSED   an entry of low is above its entry of high
+ *   HB_REFUSED_LOPSIDED  low or high is not symmetric
+ *   HB_REFUSED_FACTOR    the factor is not of the form above
+ *
+ * and nothing else. Nothing is written.
+ */
+int64_t hb_test_factor(int64_t n, const uint8_t *low, size_t low_len, const uint8_t *high, size_t high_len, const uint8_t *factor, size_t factor_len);
+
+#ifdef __cplusplus
+}
+#endif
+
+#endif

@@ -1,0 +1,7 @@
+//! Tests of the library's C entries. What is expected is the reference's
+//! answer, or a literal worked from the rules.
+
+mod acceptance;
+mod generated;
+mod refusals;
+mod support;
