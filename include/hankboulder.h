@@ -7,7 +7,7 @@
  * A problem has an order n, from 1 to HB_MAX_ORDER, and two symmetric n by n tables, low and high: the bounds of a symmetric matrix, entry by entry.
  *
  * In a buffer each number is HB_NUMBER_BYTES = 8 bytes: signed, two's complement, low byte first. A table or a factor has n * n numbers, row by
- * row (the entry of row i and column j, counted from 0, starts at byte 8 * (i * n + j)), so it is HB_TABLE_BYTES(n) bytes long. Where the processor stores
+ * row (the entry of row i and column j, counted from 0, starts at byte 8 * (i * n + j)), so it is HB_TABLE_BYTES(n) bytes long. A vector has n. Where the processor stores
  * the low byte first, an array of int64_t has this form already:
  *
  *     int64_t low[4] = {2, 1, 1, 2};
@@ -38,13 +38,15 @@ extern "C" {
 /* The greatest order. */
 #define HB_MAX_ORDER 8
 
-/* Bytes of a number, and of a table or factor of order n. */
+/* Bytes of a number, of a table or factor of order n, and of a vector of order n. */
 #define HB_NUMBER_BYTES 8
 #define HB_TABLE_BYTES(n) ((size_t)HB_NUMBER_BYTES * (size_t)(n) * (size_t)(n))
+#define HB_VECTOR_BYTES(n) ((size_t)HB_NUMBER_BYTES * (size_t)(n))
 
-/* The greatest magnitude of an entry of low and high, 2^20, and of a factor, 2^26. Both ends of a range belong to it. */
+/* The greatest magnitude of an entry of low and high, 2^20, of a factor, 2^26, and of a vector, 2^15. Both ends of a range belong to it. */
 #define HB_ENTRY_RANGE 1048576L
 #define HB_FACTOR_RANGE 67108864L
+#define HB_VECTOR_RANGE 32768L
 
 /*
  * What a function returns. A number from 1 up is a refusal: 1 to 9 of a call, 10 to 15 of a summary file. A call's checks are made in rising order, each
@@ -53,6 +55,9 @@ extern "C" {
 enum {
     HB_NOT_ACCEPTED = -1,
     HB_ACCEPTED = 0,
+
+    HB_NO = -1,
+    HB_YES = 0,
 
     HB_REFUSED_ORDER = 1,    /* n is not 1 to 8 */
     HB_REFUSED_LENGTH = 2,   /* a buffer has not exactly the size that n calls for */
@@ -99,6 +104,33 @@ enum {
  * and nothing else. Nothing is written.
  */
 int64_t hb_test_factor(int64_t n, const uint8_t *low, size_t low_len, const uint8_t *high, size_t high_len, const uint8_t *factor, size_t factor_len);
+
+/*
+ * hb_test_vector: does this vector show that not every matrix between the bounds is positive definite?
+ *
+ *   n                   the order, 1 to 8
+ *   low, high           the bounds: HB_TABLE_BYTES(n) bytes each, entries within +-2^20, symmetric, no entry of low above its entry of high
+ *   vector              the offered witness vector x: HB_VECTOR_BYTES(n) bytes, entries within +-2^15, not all zero
+ *   low_len, high_len,  the lengths of the three buffers, in bytes
+ *   vector_len
+ *
+ * The least value of x is the sum over all i and j of x(i) * x(j) * m(i,j), where m(i,j) is low(i,j) if i = j or x(i) * x(j) > 0, and high(i,j) if not.
+ * The answer is yes exactly if it is 0 or less.
+ *
+ * Returns
+ *
+ *   HB_YES               yes: some symmetric matrix M from low to high has x'Mx <= 0, so that not all of them are positive definite
+ *   HB_NO                no: x'Mx > 0 for all of them and this x; another vector may show it
+ *   HB_REFUSED_ORDER     n is not 1 to 8; no length is looked at
+ *   HB_REFUSED_LENGTH    a length is not HB_TABLE_BYTES(n), or HB_VECTOR_BYTES(n) for the vector; too long is refused like too short
+ *   HB_REFUSED_RANGE     an entry of low or high is beyond +-2^20
+ *   HB_REFUSED_CROSSED   an entry of low is above its entry of high
+ *   HB_REFUSED_LOPSIDED  low or high is not symmetric
+ *   HB_REFUSED_VECTOR    the vector is all zero, or an entry is beyond +-2^15
+ *
+ * and nothing else. Nothing is written.
+ */
+int64_t hb_test_vector(int64_t n, const uint8_t *low, size_t low_len, const uint8_t *high, size_t high_len, const uint8_t *vector, size_t vector_len);
 
 #ifdef __cplusplus
 }

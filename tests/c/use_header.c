@@ -71,9 +71,40 @@ static void run_factor_case(const struct factor_case *test)
     expect(test->what, hb_test_factor(test->n, low + 1, WHOLE, high + 1, WHOLE, factor + 1, test->factor_len), test->expected);
 }
 
+/* A call of the vector test of one table as low and high, and its expected answer. */
+struct vector_case {
+    const char *what;
+    int64_t table[ENTRIES];
+    int64_t vector[ORDER];
+    size_t vector_len;
+    int64_t expected;
+};
+
+#define WHOLE_VECTOR HB_VECTOR_BYTES(ORDER)
+
+static const struct vector_case vector_cases[] = {
+    {"(1, -1) of [1 2; 2 1]", {1, 2, 2, 1}, {1, -1}, WHOLE_VECTOR, HB_YES},
+    {"(1, -1) of [2 1; 1 2]", MATRIX, {1, -1}, WHOLE_VECTOR, HB_NO},
+    {"a vector one byte short", MATRIX, {1, -1}, WHOLE_VECTOR - 1, HB_REFUSED_LENGTH},
+    {"the zero vector", MATRIX, {0, 0}, WHOLE_VECTOR, HB_REFUSED_VECTOR},
+    {"an entry above the range of vectors", MATRIX, {0, HB_VECTOR_RANGE + 1}, WHOLE_VECTOR, HB_REFUSED_VECTOR},
+    {"an entry at its end", MATRIX, {0, HB_VECTOR_RANGE}, WHOLE_VECTOR, HB_NO},
+};
+
+static void run_vector_case(const struct vector_case *test)
+{
+    uint8_t low[1 + WHOLE], high[1 + WHOLE], vector[1 + WHOLE_VECTOR];
+    store(low + 1, test->table, ENTRIES);
+    store(high + 1, test->table, ENTRIES);
+    store(vector + 1, test->vector, ORDER);
+    expect(test->what, hb_test_vector(ORDER, low + 1, WHOLE, high + 1, WHOLE, vector + 1, test->vector_len), test->expected);
+}
+
 int main(void)
 {
     size_t k;
+    for (k = 0; k < sizeof vector_cases / sizeof vector_cases[0]; k++)
+        run_vector_case(&vector_cases[k]);
     for (k = 0; k < sizeof factor_cases / sizeof factor_cases[0]; k++)
         run_factor_case(&factor_cases[k]);
     expect("null buffers", hb_test_factor(1, NULL, 0, NULL, 0, NULL, 0), HB_REFUSED_LENGTH);

@@ -6,13 +6,14 @@ use Prim.Native.Nat.{ℕ, _*_}
 use lib.IntN.{ℤ, pos}
 use lib.ListN.{replicate}
 use lib.Signed.{leZ}
-use Rattle.tables.specs.Ranges.{entryRange}
+use Rattle.tables.specs.Ranges.{entryRange, vectorRange}
 use Rattle.tables.specs.Matrix.{Matrix, nth, at}
 use Rattle.tables.specs.Checks.{all, within, allWithin, nowhereCrossed, same, symmetric, Check, firstRefusal, tableChecks}
 use Rattle.tables.specs.declared.Refusal.the-variants.{Range, Crossed, Lopsided, Factor}
 use Rattle.tables.proofs.Matrix.{nth-padded, at-padded}
 use Rattle.residual.specs.Residual.{accepts}
 use Rattle.residual.specs.FactorTest.{factorShape, answerAfter, factorAnswer}
+use Rattle.vectors.specs.VectorTest.{vectorShape, vectorAnswer}
 
 abbrev zeros : ℕ → List ℤ
 zeros m = replicate m (pos 0)
@@ -34,6 +35,10 @@ unfolding tableChecks
 checks-padded n i j x y =
     rw (range-padded entryRange (n * n) i x, range-padded entryRange (n * n) j y, crossed-padded (n * n) i j x y, symmetric-padded n i x, symmetric-padded n j y)
 
-pub answer-padded : (n i j k : ℕ) (x y z : List ℤ) → factorAnswer n (x ++ zeros i) (y ++ zeros j) (z ++ zeros k) ≡ factorAnswer n x y z
+pub factor-padded : (n i j k : ℕ) (x y z : List ℤ) → factorAnswer n (x ++ zeros i) (y ++ zeros j) (z ++ zeros k) ≡ factorAnswer n x y z
 unfolding factorAnswer
-answer-padded n i j k x y z = rw (checks-padded n i j x y, at-padded n x i, at-padded n y j, at-padded n z k)
+factor-padded n i j k x y z = rw (checks-padded n i j x y, at-padded n x i, at-padded n y j, at-padded n z k)
+
+pub vector-padded : (n i j k : ℕ) (x y z : List ℤ) → vectorAnswer n (x ++ zeros i) (y ++ zeros j) (z ++ zeros k) ≡ vectorAnswer n x y z
+unfolding vectorAnswer vectorShape
+vector-padded n i j k x y z = rw (checks-padded n i j x y, at-padded n x i, at-padded n y j, range-padded vectorRange n k z, nth-padded z k)

@@ -11,6 +11,7 @@ mod act;
 mod counts;
 mod guarded;
 pub mod test_factor;
+pub mod test_vector;
 mod variation;
 
 pub use act::{Act, Call};

@@ -6,12 +6,16 @@ use crate::act::Call;
 
 const NUMBER: usize = 8;
 
-/// The ends of the ranges of entries and of factors, numbers beside them, and
-/// the ends of 64 bits.
-const CHOICES: [i64; 13] = [
+/// The ends of the ranges of vectors, entries and factors, numbers beside
+/// them, and the ends of 64 bits.
+const CHOICES: [i64; 17] = [
     0,
     1,
     -1,
+    1 << 15,
+    -(1 << 15),
+    (1 << 15) + 1,
+    -(1 << 15) - 1,
     1 << 20,
     -(1 << 20),
     (1 << 20) + 1,

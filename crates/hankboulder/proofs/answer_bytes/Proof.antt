@@ -7,7 +7,7 @@ use lib.ListN.{length}
 use Rattle.words.specs.Numbers.{paddedNumbersOf}
 use Rattle.words.proofs.Laws.{length-paddedNumbersOf}
 use Rattle.tables.proofs.Matrix.{at-most-64}
-use Rattle.hankboulder.proofs.Padded.{answer-padded}
+use Rattle.hankboulder.proofs.Padded.{factor-padded}
 use Rattle.hankboulder.proofs.answer_bytes.Statement.{statement}
 use Rattle.hankboulder.proofs.answer_bytes.Tie as tie
 
@@ -32,7 +32,7 @@ unfolding paddedNumbersOf start
 returns c =
     let t = c .before .before .before .before in
     let z = 64 - start (c .before) .args .n * start (c .before) .args .n in
-    c .answer .ensures ∙ rw (t .before .before .load-table .ensures, t .before .load-table2 .ensures, t .load-table3 .ensures) (answer-padded _ z z z _ _ _)
+    c .answer .ensures ∙ rw (t .before .before .load-table .ensures, t .before .load-table2 .ensures, t .load-table3 .ensures) (factor-padded _ z z z _ _ _)
 
 pub answer-bytes-spec : {M : Type 1} → statement M
 answer-bytes-spec =

@@ -2,12 +2,13 @@
 //! same buffers after, and no byte beside a buffer written.
 
 use hankboulder_compare::test_factor::TEST_FACTOR;
+use hankboulder_compare::test_vector::TEST_VECTOR;
 use hankboulder_compare::Act;
 
 /// Calls that each order must have had.
 const CALLS_PER_ORDER: usize = 100_000;
 /// Calls in all: orders are drawn evenly, and some calls are damaged in n.
-const CALLS: usize = 850_000;
+const CALLS: usize = 900_000;
 
 /// Whether an act can give an answer at an order from 1 to 8.
 fn possible(act: &Act, order: i64, answer: i64) -> bool {
@@ -34,4 +35,9 @@ fn agrees_on_generated_calls(act: &Act, seed: u64) {
 #[test]
 fn the_factor_test_agrees_with_the_reference_at_every_order() {
     agrees_on_generated_calls(&TEST_FACTOR, 1);
+}
+
+#[test]
+fn the_vector_test_agrees_with_the_reference_at_every_order() {
+    agrees_on_generated_calls(&TEST_VECTOR, 2);
 }

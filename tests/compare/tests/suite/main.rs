@@ -5,3 +5,4 @@ mod acceptance;
 mod generated;
 mod refusals;
 mod support;
+mod vectors;

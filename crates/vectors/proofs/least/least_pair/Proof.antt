@@ -1,0 +1,43 @@
+use mathlib.Core.Path.{_∙_}
+use borrow.Author.Needs.{needs}
+use Rattle.integers.proofs.Machine.{clean, clean-element, clean-result}
+use Rattle.vectors.specs.VectorTest.{leastPair}
+use Rattle.vectors.proofs.Values.{low-within, high-within, product-within, product-fits}
+use Rattle.vectors.proofs.least.least_pair.Statement.{statement}
+use Rattle.vectors.proofs.least.least_pair.Tie as tie
+
+product : tie.Need-mul-least-term-3
+product c =
+    let p = c .before .before .before .before .pre in
+    rw (clean-element _ (c .before .least-term-arg .given), clean-element _ (c .least-term-arg2 .given)) (product-fits (p .0) (p .1) (p .2))
+
+asked : tie.Need-least-term-requires
+asked c κs =
+    let e2 = c .before .before in
+    let e1 = e2 .before in
+    let p = e1 .before .pre in
+    rw (clean-result (e1 .entry), clean-result (e2 .entry2), e1 .entry .ensures, e2 .entry2 .ensures, clean (product c), clean-element _ (c .before .least-term-arg .given), clean-element _ (c .least-term-arg2 .given))
+    (low-within (p .0) (p .1) (p .2), high-within (p .0) (p .1) (p .2), product-within (p .0) (p .1) (p .2))
+
+returns : tie.Need-returns
+unfolding leastPair
+returns c =
+    let a = c .before in
+    let e2 = a .before .before in
+    let e1 = e2 .before in
+    clean-result (c .least-term) ∙ c .least-term .ensures
+    ∙ rw (clean-result (e1 .entry), clean-result (e2 .entry2), e1 .entry .ensures, e2 .entry2 .ensures, clean (product a), clean-element _ (a .before .least-term-arg .given), clean-element _ (a .least-term-arg2 .given))
+
+pub least-pair-spec : {M : Type 1} → statement M
+least-pair-spec =
+    tie.close
+    (tie.spec
+    (λ c κs. search needs)
+    (λ c κs. search needs)
+    (λ c. search needs)
+    (λ c. search needs)
+    (λ c. search needs)
+    (λ c. search needs)
+    product
+    asked
+    returns)

@@ -1,0 +1,32 @@
+-- Document 01, "Showing a vector": the least value of a vector over the members, and the vectors that show 'not definite'.
+use mathlib.Core.Bool.{Bool, true, false, not, _&&_, _||_}
+use Prim.Native.Nat.{ℕ}
+use lib.Dec.{eqb}
+use lib.IntN.{ℤ, pos, _*ℤ_}
+use lib.Signed.{_≤ℤ_, leZ, ltZ}
+use Rattle.tables.specs.Matrix.{Matrix, form}
+use Rattle.tables.specs.Members.{Member, Nonzero}
+use Rattle.tables.specs.Checks.{all, same}
+
+-- "L on the diagonal and where x(i)·x(j) > 0, U elsewhere"
+unfoldable pub leastMember : Matrix → Matrix → (ℕ → ℤ) → Matrix
+leastMember L U x i j = elim (eqb i j || ltZ (pos 0) (x i *ℤ x j)) [ true ↦ L i j | false ↦ U i j ]
+
+-- "the least x'Mx over members"
+unfoldable pub leastValue : ℕ → Matrix → Matrix → (ℕ → ℤ) → ℤ
+leastValue n L U x = form n (leastMember L U x) x
+
+unfoldable pub nonzero : ℕ → (ℕ → ℤ) → Bool
+nonzero n x = not (all n (λ i. same (x i) (pos 0)))
+
+-- "x shows 'not definite' exactly if it is nonzero and its least value is 0 or less"
+unfoldable pub shows : ℕ → Matrix → Matrix → (ℕ → ℤ) → Bool
+shows n L U x = nonzero n x && leZ (leastValue n L U x) (pos 0)
+
+-- x is nonzero, and some member M has x'Mx ≤ 0
+pub record Flat (n : ℕ) (L U : Matrix) (x : ℕ → ℤ) : Type 0 where
+  pub differs : Nonzero n x
+  pub matrix : Matrix
+  pub denominator : ℤ
+  pub member : Member n L U matrix denominator
+  pub low : form n matrix x ≤ℤ pos 0

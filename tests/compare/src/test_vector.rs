@@ -1,0 +1,64 @@
+//! The vector test.
+
+use hankboulder_reference::entries;
+use hankboulder_reference::generate::Generator;
+
+use crate::act::{Act, Call};
+use crate::guarded::Lent;
+
+extern "C" {
+    fn hb_test_vector(
+        n: i64,
+        low: *const u8,
+        low_len: usize,
+        high: *const u8,
+        high_len: usize,
+        vector: *const u8,
+        vector_len: usize,
+    ) -> i64;
+}
+
+/// The vector test.
+pub const TEST_VECTOR: Act = Act {
+    name: "hb_test_vector",
+    answers: &[0, -1, 1, 2, 3, 4, 5, 7],
+    // A table of order 1 is symmetric.
+    not_at_order_1: &[5],
+    generate,
+    reference,
+    library,
+};
+
+fn generate(generator: &mut Generator) -> Call {
+    let call = generator.vector_call();
+    Call {
+        n: call.n,
+        limit: 0,
+        buffers: vec![call.low, call.high, call.vector],
+    }
+}
+
+fn reference(call: &mut Call) -> i64 {
+    let [low, high, vector] = &call.buffers[..] else {
+        unreachable!("the vector test has three buffers");
+    };
+    entries::test_vector(call.n, low, high, vector)
+}
+
+fn library(n: i64, _limit: i64, lent: &[Lent]) -> i64 {
+    let [low, high, vector] = lent else {
+        unreachable!("the vector test has three buffers");
+    };
+    // SAFETY: each pointer has its length in readable bytes, and no two overlap.
+    unsafe {
+        hb_test_vector(
+            n,
+            low.pointer,
+            low.length,
+            high.pointer,
+            high.length,
+            vector.pointer,
+            vector.length,
+        )
+    }
+}
