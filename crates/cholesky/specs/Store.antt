@@ -11,7 +11,7 @@ use Rattle.integers.specs.Numbers.{Within}
 use Rattle.integers.specs.Sum.{sum}
 use Rattle.integers.specs.Division.{floorDiv}
 use Rattle.integers.specs.Root.{wholeRoot}
-use Rattle.tables.specs.Ranges.{factorRange}
+use Rattle.tables.specs.Ranges.{greatestOrder, factorRange}
 use Rattle.tables.specs.Matrix.{Matrix, nth, tabulate}
 use Rattle.tables.specs.Checks.{within}
 use Rattle.cholesky.specs.Factoring.{Column, Factoring}
@@ -54,7 +54,7 @@ pub record SmallColumn (t : List ℤ) (j m : ℕ) : Type 0 where
 
 -- the columns of H of order n are within 2^56, and its diagonal at most 2^52
 pub record Heights (h : List ℤ) (n : ℕ) : Type 0 where
-  pub order : n ≤ 8
+  pub order : n ≤ greatestOrder
   pub heights : (i j : ℕ) → i ≤ j → j < n → Within (2 ^ 56) (upper h i j)
   pub top : (j : ℕ) → j < n → upper h j j ≤ℤ pos (factorRange * factorRange)
 

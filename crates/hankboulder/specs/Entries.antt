@@ -14,7 +14,7 @@ use Rattle.tables.specs.Checks.{orderOk, firstRefusal}
 use Rattle.tables.specs.declared.Refusal.the-variants.{Order, Length}
 use Rattle.residual.specs.FactorTest.{factorTest, factorCode}
 use Rattle.residual.specs.declared.factor_test.FactorAnswer.the-variants as Answer
-use Rattle.vectors.specs.Least.{Flat}
+use Rattle.vectors.specs.Least.{Witness}
 use Rattle.vectors.specs.VectorTest.{after, vectorAnswer, vectorCode}
 
 -- the table of order n that a buffer spells: n² numbers of 8 bytes, signed, low byte first
@@ -56,5 +56,5 @@ testVectorEntry n l u v =
 
 -- what its answer means: 0 that some member M has x'Mx ≤ 0, for the x that is offered, which is nonzero; -1 that none has
 pub record VectorMeaning (r n : ℤ) (l u v : List ℕ) : Type 0 where
-  pub yes : r ≡ pos 0 → Flat (natAbs n) (at (natAbs n) (tableOf (natAbs n) l)) (at (natAbs n) (tableOf (natAbs n) u)) (nth (vectorOf (natAbs n) v))
-  pub no : r ≡ negsuc 0 → Flat (natAbs n) (at (natAbs n) (tableOf (natAbs n) l)) (at (natAbs n) (tableOf (natAbs n) u)) (nth (vectorOf (natAbs n) v)) → ⊥
+  pub yes : r ≡ pos 0 → Witness (natAbs n) (at (natAbs n) (tableOf (natAbs n) l)) (at (natAbs n) (tableOf (natAbs n) u)) (nth (vectorOf (natAbs n) v))
+  pub no : r ≡ negsuc 0 → Witness (natAbs n) (at (natAbs n) (tableOf (natAbs n) l)) (at (natAbs n) (tableOf (natAbs n) u)) (nth (vectorOf (natAbs n) v)) → ⊥

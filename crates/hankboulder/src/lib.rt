@@ -14,9 +14,7 @@ ghost use Rattle.hankboulder.specs.Entries.{tableOf, testFactorEntry, ve
 use residual::factor_test::FactorAnswer;
 use tables::Refusal;
 use vectors::vector_test::VectorAnswer;
-
-// The bytes of a number.
-const NUMBER: usize = 8;
+use words::SIZE;
 
 // An answer's number: 0 accepted, -1 not accepted, else the refusal's.
 fn factor_code(a: FactorAnswer) -> i64
@@ -51,7 +49,7 @@ pub extern "C" fn hb_test_factor(n: i64, low: &[u8], high: &[u8], factor: &[u8])
         return factor_code(FactorAnswer::Refused(Refusal::Order));
     }
     let m = n as usize;
-    let size = m * m * NUMBER;
+    let size = m * m * SIZE;
     if !residual::factor_test::three_of(size, low.len(), high.len(), factor.len()) {
         return factor_code(FactorAnswer::Refused(Refusal::Length));
     }
@@ -74,8 +72,8 @@ fn vector_buffers(n: usize, low: usize, high: usize, vector: usize) -> bool
     requires { ⌜ n ≤ greatestOrder ⌝ }
     ensures { λ r. ⌜ r ≡ vectorBuffers n low high vector ⌝ }
 {
-    let size = n * n * NUMBER;
-    low == size && (high == size && vector == n * NUMBER)
+    let size = n * n * SIZE;
+    low == size && (high == size && vector == n * SIZE)
 }
 
 // Checks 3, 4, 5 and 7, and what the vector shows, of buffers of n² numbers and of n.

@@ -18,7 +18,7 @@ use Rattle.tables.specs.Checks.{Check, firstRefusal, orderOk, tableChecks}
 use Rattle.tables.specs.declared.Refusal.{Refusal}
 use Rattle.tables.specs.declared.Refusal.the-variants.{Order, Length, Factor}
 use Rattle.tables.specs.declared.Checked.the-variants.{Passed, Refused}
-use Rattle.tables.proofs.Checks.{all-ext, first-passes, first-refuses, first-none, more-checks, no-more-checks}
+use Rattle.tables.proofs.Checks.{and-left, and-right, all-ext, first-passes, first-refuses, first-none, more-checks, no-more-checks}
 use Rattle.cholesky.specs.Scale.{scale}
 use Rattle.residual.specs.Residual.{residual, radius, rowPasses, accepts}
 use Rattle.residual.specs.Slack.{triangle, Sound}
@@ -110,16 +110,10 @@ module _ (n : ℤ) (l u f : List ℤ) where
   test-answer e k = sym (ap₂ answering e k)
 
 -- three lengths that are the size called for
-three : (a b c : Bool) → (a && (b && c)) ≡ true → (a ≡ true) × (b ≡ true) × (c ≡ true)
-three true true true e = (refl, refl, refl)
-three true true false e = (refl, refl, e)
-three true false c e = (refl, e, cc)
-three false b c e = (e, cc, cc)
-
 pub three-sizes : (k a b c : ℕ) → (eqb a k && (eqb b k && eqb c k)) ≡ true → (k ≤ a) × (k ≤ b) × (k ≤ c)
 three-sizes k a b c e =
-    let t = three (eqb a k) (eqb b k) (eqb c k) e in
-    let p = eqb-true a k (t .0) in
-    let q = eqb-true b k (t .1) in
-    let r = eqb-true c k (t .2) in
+    let t = and-right (eqb a k) _ e in
+    let p = eqb-true a k (and-left _ _ e) in
+    let q = eqb-true b k (and-left _ _ t) in
+    let r = eqb-true c k (and-right (eqb b k) _ t) in
     (omega arith, omega arith, omega arith)

@@ -7,7 +7,7 @@ use lib.Dec.{eqb}
 use lib.IntN.{ℤ, pos, negsuc, natAbs}
 use lib.Signed.{leZ}
 use lib.ListN.{length}
-use Rattle.tables.specs.Ranges.{factorRange}
+use Rattle.tables.specs.Ranges.{greatestOrder, factorRange}
 use Rattle.tables.specs.Matrix.{Matrix, at}
 use Rattle.tables.specs.Bounds.{Bounds}
 use Rattle.tables.specs.Refusals.{refusalNumber}
@@ -63,7 +63,7 @@ factorCode (Answer.Refused r) = pos (refusalNumber r)
 
 -- tables and a factor of order n that passed the checks
 pub record Offer (n : ℕ) (l u f : List ℤ) : Type 0 where
-  pub order : n ≤ 8
+  pub order : n ≤ greatestOrder
   pub low-size : n * n ≤ length l
   pub high-size : n * n ≤ length u
   pub factor-size : n * n ≤ length f

@@ -8,6 +8,7 @@ use lib.IntN.{ℤ, pos, _-ℤ_, _*ℤ_}
 use lib.ListN.{length}
 use Rattle.integers.specs.Numbers.{Within, absℤ, maxℤ}
 use Rattle.integers.specs.Sum.{sum}
+use Rattle.tables.specs.Ranges.{greatestOrder}
 use Rattle.tables.specs.Matrix.{Matrix, nth, at}
 use Rattle.tables.specs.Bounds.{Bounds}
 use Rattle.cholesky.specs.Scale.{scale}
@@ -30,7 +31,7 @@ radiusAt n c l u i j = spread (at n l i j) (at n u i j) (gramAt c i j)
 
 -- what the code asks of the tables l and u of order n, and of the columns c
 pub record Sound (n : ℕ) (c l u : List ℤ) : Type 0 where
-  pub order : n ≤ 8
+  pub order : n ≤ greatestOrder
   pub low-size : n * n ≤ length l
   pub high-size : n * n ≤ length u
   pub bounds : Bounds n (at n l) (at n u)

@@ -57,7 +57,7 @@ pub fn factor_shape(n: usize, factor: &[i64]) -> bool
 
 // Loads column j of a factor of order n, down to the diagonal, after the columns before it.
 fn load_column(n: usize, factor: &[i64], j: usize, c: &mut [i64; 64])
-    requires { ⌜ (n ≤ 8) × (j < n) × (n * n ≤ length (now factor)) × Loaded (at n (now factor)) j (now c) ⌝ }
+    requires { ⌜ (n ≤ greatestOrder) × (j < n) × (n * n ≤ length (now factor)) × Loaded (at n (now factor)) j (now c) ⌝ }
     ensures { λ r. ⌜ Loaded (at n (now (factor .entry))) (suc j) (now (c .exit)) ⌝ }
 {
     let mut i = 0;
@@ -69,7 +69,7 @@ fn load_column(n: usize, factor: &[i64], j: usize, c: &mut [i64; 64])
 
 // Loads the upper triangle of a factor of order n: entry (i, j) to 8 j + i.
 pub fn load_columns(n: usize, factor: &[i64], c: &mut [i64; 64])
-    requires { ⌜ (n ≤ 8) × (n * n ≤ length (now factor)) × (length (now c) ≡ 64) ⌝ }
+    requires { ⌜ (n ≤ greatestOrder) × (n * n ≤ length (now factor)) × (length (now c) ≡ 64) ⌝ }
     ensures { λ r. ⌜ Loaded (at n (now (factor .entry))) n (now (c .exit)) ⌝ }
 {
     let mut k = 0;

@@ -6,7 +6,7 @@ ghost use lib.IntN.{pos, _-ℤ_, _*ℤ_};
 ghost use lib.Signed.{_≤ℤ_, leZ};
 ghost use lib.ListN.{length};
 ghost use Rattle.integers.specs.Numbers.{Within};
-ghost use Rattle.tables.specs.Ranges.{entryRange};
+ghost use Rattle.tables.specs.Ranges.{greatestOrder, entryRange};
 ghost use Rattle.tables.specs.Matrix.{at, nth};
 ghost use Rattle.tables.specs.Checks.{all};
 ghost use Rattle.cholesky.specs.Scale.{scale};
@@ -40,7 +40,7 @@ fn radius(n: usize, low: &[i64], high: &[i64], c: &[i64; 64], i: usize, j: usize
 
 // 2^32 L(j,j) - P(j,j).
 fn diagonal(n: usize, low: &[i64], c: &[i64; 64], j: usize) -> i64
-    requires { ⌜ (n ≤ 8) × (j < n) × (n * n ≤ length (now low)) × Within entryRange (at n (now low) j j) × SmallColumn (now c) j (j + 1) ⌝ }
+    requires { ⌜ (n ≤ greatestOrder) × (j < n) × (n * n ≤ length (now low)) × Within entryRange (at n (now low) j j) × SmallColumn (now c) j (j + 1) ⌝ }
     ensures { λ r. ⌜ r ≡ scale *ℤ at n (now (low .entry)) j j -ℤ gramAt (now (c .entry)) j j ⌝ }
 {
     let l = tables::entry(n, low, j, j);
@@ -65,7 +65,7 @@ fn charge(n: usize, low: &[i64], high: &[i64], c: &[i64; 64], j: usize, over: &m
 
 // Whether none of the first numbers, n of them, is negative.
 fn nonnegative(over: &[i64; 8], n: usize) -> bool
-    requires { ⌜ n ≤ 8 ⌝ }
+    requires { ⌜ n ≤ greatestOrder ⌝ }
     ensures { λ r. ⌜ r ≡ all n (λ i. leZ (pos 0) (nth (now (over .entry)) i)) ⌝ }
 {
     let mut i = 0;

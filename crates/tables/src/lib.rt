@@ -18,6 +18,9 @@ pub const ENTRY_RANGE: i64 = 1 << 20;
 // Entries of a factor are within ±2^26.
 pub const FACTOR_RANGE: i64 = 1 << 26;
 
+// Entries of a vector are within ±2^15.
+pub const VECTOR_RANGE: i64 = 1 << 15;
+
 // Document 01, "Refused calls", in the order of their numbers.
 pub enum Refusal {
     Order,

@@ -22,7 +22,7 @@ use Rattle.vectors.specs.Least.{leastValue, nonzero, shows}
 use Rattle.vectors.specs.VectorTest.{vectorShape, after, verdict, vectorAnswer, vectorSizes, vectorTest, Asked, Meaning}
 use Rattle.vectors.specs.declared.vector_test.VectorAnswer.{VectorAnswer}
 use Rattle.vectors.specs.declared.vector_test.VectorAnswer.the-variants as Answer
-use Rattle.vectors.proofs.Showing.{shows-flat, flat-shows}
+use Rattle.vectors.proofs.Showing.{shows-witness, witness-shows}
 
 -- ---- the refusal, or else the answer
 pub after-refused : {k : Checked} (r : Refusal) (a : VectorAnswer) → k ≡ Refused r → Answer.Refused r ≡ after k a
@@ -127,8 +127,8 @@ answer-means n l u v =
     record {
       yes = λ e.
           let a = after-is _ _ true e in
-          shows-flat (passed-bounds _ l u (prefix-passed _ _ (a .0))) (verdict-yes _ (a .1));
-      no = λ e f. false≢true (sym (verdict-no _ (after-is _ _ false e .1)) ∙ flat-shows f);
+          shows-witness (passed-bounds _ l u (prefix-passed _ _ (a .0))) (verdict-yes _ (a .1));
+      no = λ e f. false≢true (sym (verdict-no _ (after-is _ _ false e .1)) ∙ witness-shows f);
     }
 
 -- checks that are made first change nothing of it

@@ -19,7 +19,7 @@ use Rattle.tables.specs.Bounds.{Bounds}
 use Rattle.tables.specs.Checks.{all, same}
 use Rattle.tables.proofs.Checks.{and-left, and-right, and-of, all-false, le-of, same-true, same-false}
 use Rattle.tables.proofs.Forms.{form-*}
-use Rattle.vectors.specs.Least.{leastMember, leastValue, nonzero, shows, Flat}
+use Rattle.vectors.specs.Least.{leastMember, leastValue, nonzero, shows, Witness}
 
 -- ---- entry (i, j) of the member that attains the least value, by cases: "L on the diagonal and where x(i)·x(j) > 0, U elsewhere"
 module _ (L U : Matrix) (x : ℕ → ℤ) where
@@ -114,9 +114,9 @@ module _ {n : ℕ} {x : ℕ → ℤ} where
 
 -- ---- "x shows 'not definite' exactly if it is nonzero and its least value is 0 or less": exactly if some member M has x'Mx ≤ 0
 module _ {n : ℕ} {L U : Matrix} {x : ℕ → ℤ} where
-  pub shows-flat : Bounds n L U → shows n L U x ≡ true → Flat n L U x
+  pub shows-witness : Bounds n L U → shows n L U x ≡ true → Witness n L U x
   unfolding shows leastValue
-  shows-flat b e = record {
+  shows-witness b e = record {
     differs = nonzero-of (and-left _ _ e);
     matrix = leastMember L U x;
     denominator = pos 1;
@@ -124,9 +124,9 @@ module _ {n : ℕ} {L U : Matrix} {x : ℕ → ℤ} where
     low = le-of _ _ (and-right (nonzero n x) _ e);
   }
 
-  pub flat-shows : Flat n L U x → shows n L U x ≡ true
+  pub witness-shows : Witness n L U x → shows n L U x ≡ true
   unfolding shows
-  flat-shows f = and-of (nonzero-true (f .differs)) (leZ-true (*ℤ-cancel (f .denominator) (f .member .whole) below))
+  witness-shows f = and-of (nonzero-true (f .differs)) (leZ-true (*ℤ-cancel (f .denominator) (f .member .whole) below))
     where
       below : (f .denominator *ℤ leastValue n L U x) ≤ℤ (f .denominator *ℤ pos 0)
       below = rw (*ℤ-zero (f .denominator)) (≤ℤ-trans (least-below (f .member) x) (f .low))
@@ -134,5 +134,5 @@ module _ {n : ℕ} {L U : Matrix} {x : ℕ → ℤ} where
 -- a vector that shows it refutes that every member is positive definite
 pub shows-not-definite : {n : ℕ} {L U : Matrix} (x : ℕ → ℤ) → Bounds n L U → shows n L U x ≡ true → PositiveDefinite n L U → ⊥
 shows-not-definite {n} {L} {U} x b e p =
-    let f : Flat n L U x = shows-flat b e in
+    let f : Witness n L U x = shows-witness b e in
     clashℤ (p .positive (f .matrix) (f .denominator) (f .member) x (f .differs)) (f .low)

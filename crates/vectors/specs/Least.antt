@@ -24,7 +24,7 @@ unfoldable pub shows : ℕ → Matrix → Matrix → (ℕ → ℤ) → Bool
 shows n L U x = nonzero n x && leZ (leastValue n L U x) (pos 0)
 
 -- x is nonzero, and some member M has x'Mx ≤ 0
-pub record Flat (n : ℕ) (L U : Matrix) (x : ℕ → ℤ) : Type 0 where
+pub record Witness (n : ℕ) (L U : Matrix) (x : ℕ → ℤ) : Type 0 where
   pub differs : Nonzero n x
   pub matrix : Matrix
   pub denominator : ℤ

@@ -17,7 +17,7 @@ use Rattle.tables.specs.Checks.{allWithin, firstRefusal, orderOk, tableChecks}
 use Rattle.tables.specs.declared.Refusal.the-variants.{Order, Length, Vector}
 use Rattle.tables.specs.declared.Checked.{Checked}
 use Rattle.tables.specs.declared.Checked.the-variants.{Passed, Refused}
-use Rattle.vectors.specs.Least.{nonzero, shows, Flat}
+use Rattle.vectors.specs.Least.{nonzero, shows, Witness}
 use Rattle.vectors.specs.declared.vector_test.VectorAnswer.{VectorAnswer}
 use Rattle.vectors.specs.declared.vector_test.VectorAnswer.the-variants as Answer
 
@@ -62,8 +62,8 @@ vectorCode (Answer.Refused r) = pos (refusalNumber r)
 
 -- what an answer means: 'yes' exactly if some member M has x'Mx ≤ 0, for this x, which is nonzero; 'no' if none has
 pub record Meaning (r : VectorAnswer) (n : ℕ) (l u v : List ℤ) : Type 0 where
-  pub yes : r ≡ Answer.Yes → Flat n (at n l) (at n u) (nth v)
-  pub no : r ≡ Answer.No → Flat n (at n l) (at n u) (nth v) → ⊥
+  pub yes : r ≡ Answer.Yes → Witness n (at n l) (at n u) (nth v)
+  pub no : r ≡ Answer.No → Witness n (at n l) (at n u) (nth v) → ⊥
 
 -- ---- the least value, pair by pair
 -- what a pair of entries with product p adds, once

@@ -10,9 +10,7 @@ ghost use Rattle.vectors.specs.VectorTest.{vectorShape, vectorAnswer, ve
 use crate::least::least_value;
 use tables::Checked;
 use tables::Refusal;
-
-// Entries of a vector are within ±2^15.
-pub const VECTOR_RANGE: i64 = 1 << 15;
+use tables::VECTOR_RANGE;
 
 // What the vector test answers: the vector shows 'not definite', or not.
 pub enum VectorAnswer {

@@ -9,7 +9,7 @@ ghost use mir.Val.{toZ, ofZ, bytes};
 ghost use Rattle.words.specs.Numbers.{unsignedAt, signedAt, withUnsigned, withSigned, numbersOf, paddedNumbersOf, bytesOf};
 
 // The bytes of an i64.
-const SIZE: usize = 8;
+pub const SIZE: usize = 8;
 
 // The bits of v.
 fn bits_of(v: i64) -> u64

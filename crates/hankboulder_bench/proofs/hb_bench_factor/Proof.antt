@@ -16,15 +16,6 @@ use Rattle.hankboulder_bench.specs.Timed.{endsCode, timed}
 use Rattle.hankboulder_bench.proofs.hb_bench_factor.Statement.{statement}
 use Rattle.hankboulder_bench.proofs.hb_bench_factor.Tie as tie
 
-second : (a b c : Bool) → b ≡ false → (a && (b && c)) ≡ false
-second true b c e = rw e
-second false b c e = refl
-
-third : (a b c : Bool) → c ≡ false → (a && (b && c)) ≡ false
-third true true c e = e
-third true false c e = refl
-third false b c e = refl
-
 module _ (n : ℕ) (l u : List ℤ) where
   code : Bool → ℤ
   code b = elim b [ true ↦ endsCode n l u (firstRefusal (tableChecks n l u)) | false ↦ pos 2 ]
@@ -33,14 +24,6 @@ module _ (n : ℕ) (l u : List ℤ) where
   unfolding timed code
   by b e = sym (ap code e)
 
-  low-short : leb (n * n) (length l) ≡ false → pos 2 ≡ timed n l u
-  unfolding code
-  low-short e = by false (second (leb n greatestOrder) (leb (n * n) (length l)) (leb (n * n) (length u)) e)
-
-  high-short : leb (n * n) (length u) ≡ false → pos 2 ≡ timed n l u
-  unfolding code
-  high-short e = by false (third (leb n greatestOrder) (leb (n * n) (length l)) (leb (n * n) (length u)) e)
-
 pub hb-bench-factor-spec : {M : Type 1} → statement M
 unfolding code
 hb-bench-factor-spec =
@@ -48,8 +31,8 @@ hb-bench-factor-spec =
     (tie.spec
     (λ c. by _ _ _ false (rw (lt-leb _ _ (c .if1 .taken))))
     (λ c. let h = c .if1 .left in record { fits = omega (arith, mul-le-mul h h) })
-    (λ c. low-short _ _ _ (lt-leb _ _ (c .if2 .taken)))
-    (λ c. high-short _ _ _ (lt-leb _ _ (c .if3 .taken)))
+    (λ c. by _ _ _ false (rw (le-leb _ _ (c .before .if1 .left), lt-leb _ _ (c .if2 .taken))))
+    (λ c. by _ _ _ false (rw (le-leb _ _ (c .before .before .if1 .left), le-leb _ _ (c .before .if2 .left), lt-leb _ _ (c .if3 .taken))))
     (λ c κs. search needs)
     (λ c.
     let e = c .before in
