@@ -1,8 +1,14 @@
 #include "plain.h"
 
 #include <math.h>
+#include <string.h>
 
 #define ENTRY_RANGE ((int64_t)1 << 20)
+#define LINEAR_RANGE ((int64_t)1 << 36)
+#define LIMIT_RANGE ((int64_t)1 << 54)
+#define CENTRE_RANGE ((int64_t)1 << 12)
+#define GRADIENT_RANGE ((int64_t)1 << 20)
+#define VECTOR_RANGE ((int64_t)1 << 15)
 #define FACTOR_RANGE ((int64_t)1 << 26)
 #define SCALE ((int64_t)1 << 32)
 #define HALF_SCALE ((int64_t)1 << 31)
@@ -59,16 +65,30 @@ static int64_t diagonal(int64_t n, const int64_t *low, const int64_t *high, int6
     return HALF_SCALE * (low[j * n + j] + high[j * n + j]) - (MARGIN + HALF_SCALE * width);
 }
 
-/* Inlined into each caller, so that its root is no call through a pointer */
-static inline __attribute__((always_inline)) int64_t factor_by(int64_t (*root)(int64_t), int64_t n, const int64_t *low, const int64_t *high,
-                                                               int64_t *factor)
+/* Where factoring stops: the column, from 0, and how many of its rows were worked out */
+struct stop {
+    int64_t column;
+    int64_t rows;
+};
+
+static int64_t stopped(struct stop *stop, int64_t column, int64_t rows)
+{
+    stop->column = column;
+    stop->rows = rows;
+    return -1;
+}
+
+/* Inlined into each caller, so that what it is given is no call through a pointer */
+#define INLINED static inline __attribute__((always_inline))
+
+INLINED int64_t factor_by(int64_t (*root)(int64_t), int64_t n, const int64_t *low, const int64_t *high, int64_t *factor, struct stop *stop)
 {
     for (int64_t place = 0; place < n * n; place++)
         factor[place] = 0;
     for (int64_t j = 0; j < n; j++) {
         int64_t rest = diagonal(n, low, high, j);
         if (rest < 1)
-            return -1;
+            return stopped(stop, j, 0);
         for (int64_t i = 0; i < j; i++) {
             int64_t numerator = HALF_SCALE * (low[i * n + j] + high[i * n + j]);
             for (int64_t k = 0; k < i; k++)
@@ -76,10 +96,10 @@ static inline __attribute__((always_inline)) int64_t factor_by(int64_t (*root)(i
             int64_t entry = floor_quotient(numerator, factor[i * n + i]);
             factor[i * n + j] = entry;
             if (!within(entry, FACTOR_RANGE))
-                return -1;
+                return stopped(stop, j, i + 1);
             rest -= entry * entry;
             if (rest < 1)
-                return -1;
+                return stopped(stop, j, i + 1);
         }
         factor[j * n + j] = root(rest);
     }
@@ -88,13 +108,14 @@ static inline __attribute__((always_inline)) int64_t factor_by(int64_t (*root)(i
 
 int64_t plain_factor(int64_t n, const int64_t *low, const int64_t *high, int64_t *factor)
 {
-    return factor_by(whole_root, n, low, high, factor);
+    struct stop stop;
+    return factor_by(whole_root, n, low, high, factor, &stop);
 }
 
-static int in_range(const int64_t *table, int64_t count)
+static int in_range(const int64_t *numbers, int64_t count, int64_t range)
 {
     for (int64_t place = 0; place < count; place++)
-        if (!within(table[place], ENTRY_RANGE))
+        if (!within(numbers[place], range))
             return 0;
     return 1;
 }
@@ -162,11 +183,15 @@ static int rows_hold(int64_t n, const int64_t *low, const int64_t *high, const i
     return 1;
 }
 
-/* Checks 3 to 5: 0, or the number of the refusal */
-static int64_t check_tables(int64_t n, const int64_t *low, const int64_t *high)
+/* Check 3 of the tables */
+static int tables_in_range(int64_t n, const int64_t *low, const int64_t *high)
 {
-    if (!in_range(low, n * n) || !in_range(high, n * n))
-        return 3;
+    return in_range(low, n * n, ENTRY_RANGE) && in_range(high, n * n, ENTRY_RANGE);
+}
+
+/* Checks 4 and 5: 0, or the number of the refusal */
+static int64_t check_shape(int64_t n, const int64_t *low, const int64_t *high)
+{
     if (crossed(low, high, n * n))
         return 4;
     if (!symmetric(low, n) || !symmetric(high, n))
@@ -174,16 +199,23 @@ static int64_t check_tables(int64_t n, const int64_t *low, const int64_t *high)
     return 0;
 }
 
+/* Checks 3 to 5 of an act on the tables alone: 0, or the number of the refusal */
+static int64_t check_tables(int64_t n, const int64_t *low, const int64_t *high)
+{
+    return tables_in_range(n, low, high) ? check_shape(n, low, high) : 3;
+}
+
 int64_t plain_checked_factor(int64_t n, const int64_t *low, const int64_t *high, int64_t *factor)
 {
     int64_t refusal = check_tables(n, low, high);
-    return refusal ? refusal : factor_by(whole_root, n, low, high, factor);
+    return refusal ? refusal : plain_factor(n, low, high, factor);
 }
 
 int64_t plain_floating_factor(int64_t n, const int64_t *low, const int64_t *high, int64_t *factor)
 {
+    struct stop stop;
     int64_t refusal = check_tables(n, low, high);
-    return refusal ? refusal : factor_by(floating_root, n, low, high, factor);
+    return refusal ? refusal : factor_by(floating_root, n, low, high, factor, &stop);
 }
 
 int64_t plain_test_factor(int64_t n, const int64_t *low, size_t low_count, const int64_t *high, size_t high_count, const int64_t *factor,
@@ -200,4 +232,269 @@ int64_t plain_test_factor(int64_t n, const int64_t *low, size_t low_count, const
     if (!proper_factor(factor, n))
         return 6;
     return rows_hold(n, low, high, factor) ? 0 : -1;
+}
+
+/* What x(i) x(j) m adds at its least, for an m from low to high */
+static int64_t least_term(int64_t product, int64_t low, int64_t high)
+{
+    return product * (product > 0 ? low : high);
+}
+
+/* The least value of x: L on the diagonal and where x(i) x(j) > 0, U elsewhere, over all i and j */
+static int64_t whole_form(int64_t n, const int64_t *low, const int64_t *high, const int64_t *x)
+{
+    int64_t sum = 0;
+    for (int64_t i = 0; i < n; i++)
+        for (int64_t j = 0; j < n; j++)
+            sum += least_term(x[i] * x[j], low[i * n + j], high[i * n + j]);
+    return sum;
+}
+
+/* The same, each pair i < j once */
+static int64_t pairs_form(int64_t n, const int64_t *low, const int64_t *high, const int64_t *x)
+{
+    int64_t sum = 0;
+    for (int64_t i = 0; i < n; i++) {
+        int64_t pairs = 0;
+        for (int64_t j = 0; j < i; j++)
+            pairs += least_term(x[i] * x[j], low[i * n + j], high[i * n + j]);
+        sum += 2 * pairs + x[i] * x[i] * low[i * n + i];
+    }
+    return sum;
+}
+
+static int nonzero(int64_t n, const int64_t *x)
+{
+    for (int64_t i = 0; i < n; i++)
+        if (x[i] != 0)
+            return 1;
+    return 0;
+}
+
+/* not all zero, the entries within 2^15 */
+static int proper_vector(int64_t n, const int64_t *x)
+{
+    for (int64_t i = 0; i < n; i++)
+        if (!within(x[i], VECTOR_RANGE))
+            return 0;
+    return nonzero(n, x);
+}
+
+int64_t plain_test_vector(int64_t n, const int64_t *low, size_t low_count, const int64_t *high, size_t high_count, const int64_t *vector,
+                          size_t vector_count)
+{
+    if (n < 1 || n > PLAIN_MAX_ORDER)
+        return 1;
+    size_t count = (size_t)(n * n);
+    if (low_count != count || high_count != count || vector_count != (size_t)n)
+        return 2;
+    int64_t refusal = check_tables(n, low, high);
+    if (refusal)
+        return refusal;
+    if (!proper_vector(n, vector))
+        return 7;
+    return pairs_form(n, low, high, vector) <= 0 ? 0 : -1;
+}
+
+/* One of the two forms above */
+typedef int64_t form(int64_t n, const int64_t *low, const int64_t *high, const int64_t *x);
+
+/* The next tried vector: counting from the last entry, each goes from 0 to 1, then to -1, then to 0 and the one before it goes on. 0 after the last. */
+static int next_tried(int64_t n, int64_t *x)
+{
+    for (int64_t i = n - 1; i >= 0; i--) {
+        if (x[i] != -1) {
+            x[i] = x[i] == 0 ? 1 : -1;
+            return 1;
+        }
+        x[i] = 0;
+    }
+    return 0;
+}
+
+/* Whether a tried vector shows 'not definite'; x is the first that does */
+INLINED int tried_by(form *least, int64_t n, const int64_t *low, const int64_t *high, int64_t *x)
+{
+    memset(x, 0, (size_t)n * sizeof *x);
+    while (next_tried(n, x))
+        if (least(n, low, high, x) <= 0)
+            return 1;
+    return 0;
+}
+
+/* Whether there is a solved vector of scale s; x is it */
+static int solve(int64_t n, const int64_t *factor, const struct stop *stop, int64_t s, int64_t *x)
+{
+    memset(x, 0, (size_t)n * sizeof *x);
+    x[stop->column] = s;
+    for (int64_t i = stop->rows - 1; i >= 0; i--) {
+        int64_t t = 0;
+        for (int64_t k = i + 1; k <= stop->column; k++)
+            t += factor[i * n + k] * x[k];
+        x[i] = -floor_quotient(2 * t + factor[i * n + i], 2 * factor[i * n + i]);
+        if (!within(x[i], VECTOR_RANGE))
+            return 0;
+    }
+    return 1;
+}
+
+INLINED int64_t judge_by(form *least, int64_t n, const int64_t *low, size_t low_count, const int64_t *high, size_t high_count, int64_t *factor,
+                         size_t factor_count, int64_t *vector, size_t vector_count)
+{
+    int64_t table[PLAIN_MAX_ORDER * PLAIN_MAX_ORDER], x[PLAIN_MAX_ORDER];
+    struct stop stop;
+    if (n < 1 || n > PLAIN_MAX_ORDER)
+        return 1;
+    size_t count = (size_t)(n * n);
+    if (low_count != count || high_count != count || factor_count != count || vector_count != (size_t)n)
+        return 2;
+    int64_t refusal = check_tables(n, low, high);
+    if (refusal)
+        return refusal;
+    if (factor_by(whole_root, n, low, high, table, &stop) == 0) {
+        memcpy(factor, table, count * sizeof *factor);
+        return 0;
+    }
+    int shown = tried_by(least, n, low, high, x);
+    for (int64_t s = 1; !shown && s <= 64; s *= 64)
+        shown = solve(n, table, &stop, s, x) && least(n, low, high, x) <= 0;
+    if (!shown)
+        return -2;
+    memcpy(vector, x, (size_t)n * sizeof *vector);
+    return -1;
+}
+
+int64_t plain_judge(int64_t n, const int64_t *low, size_t low_count, const int64_t *high, size_t high_count, int64_t *factor, size_t factor_count,
+                    int64_t *vector, size_t vector_count)
+{
+    return judge_by(whole_form, n, low, low_count, high, high_count, factor, factor_count, vector, vector_count);
+}
+
+int64_t plain_pairs_judge(int64_t n, const int64_t *low, size_t low_count, const int64_t *high, size_t high_count, int64_t *factor,
+                          size_t factor_count, int64_t *vector, size_t vector_count)
+{
+    return judge_by(pairs_form, n, low, low_count, high, high_count, factor, factor_count, vector, vector_count);
+}
+
+/* The tables that the box makes its trials with, and what the trials start from */
+struct trial {
+    int64_t n;
+    const int64_t *low;
+    const int64_t *high;
+    int64_t less_low[PLAIN_MAX_ORDER * PLAIN_MAX_ORDER];
+    int64_t less_high[PLAIN_MAX_ORDER * PLAIN_MAX_ORDER];
+};
+
+static void start_trials(struct trial *trial, int64_t n, const int64_t *low, const int64_t *high)
+{
+    trial->n = n;
+    trial->low = low;
+    trial->high = high;
+    memcpy(trial->less_low, low, (size_t)(n * n) * sizeof *low);
+    memcpy(trial->less_high, high, (size_t)(n * n) * sizeof *high);
+}
+
+/* Sets the diagonal entries first to last - 1 to the bounds' less step. Whether those of low stay above 0. */
+static int take_off(struct trial *trial, int64_t first, int64_t last, int64_t step)
+{
+    int above = 1;
+    for (int64_t i = first; i < last; i++) {
+        int64_t place = i * trial->n + i;
+        trial->less_low[place] = trial->low[place] - step;
+        trial->less_high[place] = trial->high[place] - step;
+        above &= trial->less_low[place] > 0;
+    }
+    return above;
+}
+
+/* t or t(k): what can be taken off the diagonal entries first to last - 1, bit by bit. The tables are left as they were. */
+static int64_t greatest_step(struct trial *trial, int64_t first, int64_t last)
+{
+    int64_t factor[PLAIN_MAX_ORDER * PLAIN_MAX_ORDER];
+    int64_t step = 0;
+    for (int64_t bit = (int64_t)1 << 19; bit > 0; bit /= 2)
+        if (take_off(trial, first, last, step + bit) && plain_factor(trial->n, trial->less_low, trial->less_high, factor) == 0)
+            step += bit;
+    take_off(trial, first, last, 0);
+    return step;
+}
+
+/* g(k): the greatest magnitude of M(k)c + a(k) over the bounds */
+static int64_t gradient(int64_t n, const int64_t *low, const int64_t *high, const int64_t *centre, int64_t linear)
+{
+    int64_t least = linear, greatest = linear;
+    for (int64_t j = 0; j < n; j++) {
+        int64_t from_low = low[j] * centre[j], from_high = high[j] * centre[j];
+        least += from_low < from_high ? from_low : from_high;
+        greatest += from_low < from_high ? from_high : from_low;
+    }
+    return magnitude(least) > magnitude(greatest) ? magnitude(least) : magnitude(greatest);
+}
+
+static int64_t inner_product(int64_t n, const int64_t *x, const int64_t *y)
+{
+    int64_t sum = 0;
+    for (int64_t i = 0; i < n; i++)
+        sum += x[i] * y[i];
+    return sum;
+}
+
+/* a / d rounded up; d is positive */
+static int64_t ceiling_quotient(int64_t a, int64_t d)
+{
+    return a / d + (a % d > 0);
+}
+
+/* The least whole s >= 0 with step s^2 >= bound; step is positive */
+static int64_t least_radius(int64_t step, int64_t bound)
+{
+    if (bound <= 0)
+        return 0;
+    int64_t square = ceiling_quotient(bound, step);
+    int64_t root = whole_root(square);
+    return root + (root * root < square);
+}
+
+int64_t plain_box(int64_t n, const int64_t *low, size_t low_count, const int64_t *high, size_t high_count, const int64_t *linear, size_t linear_count,
+                  int64_t limit, const int64_t *centre, size_t centre_count, int64_t *sides, size_t sides_count)
+{
+    struct trial trial;
+    int64_t g[PLAIN_MAX_ORDER], y[PLAIN_MAX_ORDER];
+    if (n < 1 || n > PLAIN_MAX_ORDER)
+        return 1;
+    size_t order = (size_t)n, count = order * order;
+    if (low_count != count || high_count != count || linear_count != order || centre_count != order || sides_count != 2 * order)
+        return 2;
+    if (!tables_in_range(n, low, high) || !in_range(linear, n, LINEAR_RANGE) || !within(limit, LIMIT_RANGE) || !in_range(centre, n, CENTRE_RANGE))
+        return 3;
+    int64_t refusal = check_shape(n, low, high);
+    if (refusal)
+        return refusal;
+    start_trials(&trial, n, low, high);
+    int64_t t = greatest_step(&trial, 0, n);
+    if (t == 0)
+        return 8;
+    for (int64_t k = 0; k < n; k++) {
+        g[k] = gradient(n, low + k * n, high + k * n, centre, linear[k]);
+        if (g[k] > GRADIENT_RANGE)
+            return 9;
+    }
+    int64_t d = limit - 2 * inner_product(n, linear, centre) - pairs_form(n, low, high, centre);
+    int64_t b = d + ceiling_quotient(inner_product(n, g, g), t);
+    if (b < 0)
+        return -1;
+    int64_t s = least_radius(t, b);
+    for (int64_t k = 0; k < n; k++)
+        y[k] = ceiling_quotient(g[k], t) + s;
+    int64_t b2 = d + 2 * inner_product(n, g, y);
+    if (b2 < 0)
+        return -1;
+    for (int64_t k = 0; k < n; k++) {
+        int64_t step = greatest_step(&trial, k, k + 1);
+        int64_t z = step > 0 ? least_radius(step, b2) : y[k];
+        int64_t h = z < y[k] ? z : y[k];
+        sides[2 * k] = centre[k] - h;
+        sides[2 * k + 1] = centre[k] + h;
+    }
+    return 0;
 }

@@ -20,4 +20,26 @@ int64_t plain_floating_factor(int64_t n, const int64_t *low, const int64_t *high
 int64_t plain_test_factor(int64_t n, const int64_t *low, size_t low_count, const int64_t *high, size_t high_count, const int64_t *factor,
                           size_t factor_count);
 
+/* The vector test with its checks, each pair of entries worked out once. 0 yes, -1 no, or the number of the refusal. */
+int64_t plain_test_vector(int64_t n, const int64_t *low, size_t low_count, const int64_t *high, size_t high_count, const int64_t *vector,
+                          size_t vector_count);
+
+/*
+ * The judge with its checks: 0 definite, and the factor is written; -1 not definite, and the vector is; -2 undecided; or the number of the refusal.
+ * The tried vectors are taken one by one, and each has its whole quadratic form worked out, all n * n terms.
+ */
+int64_t plain_judge(int64_t n, const int64_t *low, size_t low_count, const int64_t *high, size_t high_count, int64_t *factor, size_t factor_count,
+                    int64_t *vector, size_t vector_count);
+
+/* The same with each pair of entries worked out once in a form, so n * (n + 1) / 2 terms. */
+int64_t plain_pairs_judge(int64_t n, const int64_t *low, size_t low_count, const int64_t *high, size_t high_count, int64_t *factor,
+                          size_t factor_count, int64_t *vector, size_t vector_count);
+
+/*
+ * The box with its checks: 0, and the sides are written, low and high for each k; -1 empty; or the number of the refusal.
+ * The tables are copied once; each trial sets diagonal entries of the copies and factors them whole.
+ */
+int64_t plain_box(int64_t n, const int64_t *low, size_t low_count, const int64_t *high, size_t high_count, const int64_t *linear, size_t linear_count,
+                  int64_t limit, const int64_t *centre, size_t centre_count, int64_t *sides, size_t sides_count);
+
 #endif

@@ -5,24 +5,27 @@
  * NUMBERS AND TABLES
  *
  * A problem has an order n, from 1 to HB_MAX_ORDER, and two symmetric n by n tables, low and high: the bounds of a symmetric matrix, entry by entry.
+ * That of an ellipsoid has n linear terms, a limit and a centre of n entries besides.
  *
  * In a buffer each number is HB_NUMBER_BYTES = 8 bytes: signed, two's complement, low byte first. A table or a factor has n * n numbers, row by
- * row (the entry of row i and column j, counted from 0, starts at byte 8 * (i * n + j)), so it is HB_TABLE_BYTES(n) bytes long. A vector has n. Where the processor stores
- * the low byte first, an array of int64_t has this form already:
+ * row (the entry of row i and column j, counted from 0, starts at byte 8 * (i * n + j)), so it is HB_TABLE_BYTES(n) bytes long. A vector, the linear
+ * terms and a centre have n, and are HB_VECTOR_BYTES(n) bytes long. The sides of a box have 2 * n (the low and the high of side 0, those of side 1,
+ * and so on), and are HB_SIDES_BYTES(n) bytes long. Where the processor stores the low byte first, an array of int64_t has this form already:
  *
  *     int64_t low[4] = {2, 1, 1, 2};
  *     ... (const uint8_t *)low, sizeof low ...
  *
  * WHAT HOLDS FOR EVERY FUNCTION
  *
- * - Lengths are in bytes. A pointer must point to as many readable bytes as its length says. It may be null where the length is 0: that is an empty
- *   buffer, and is refused by HB_REFUSED_LENGTH if n is good.
+ * - Lengths are in bytes. A pointer must point to as many readable bytes as its length says, and writable ones where it is not const. It may be null
+ *   where the length is 0: that is an empty buffer, and is refused by HB_REFUSED_LENGTH if n is good.
  * - Any contents and any n are answered. What is wrong with them is named by a refusal.
  * - Pointers need no alignment.
  * - The buffers of one call must not overlap. Nothing is promised where they do.
- * - A const buffer is only read. A refused call writes nothing at all.
+ * - A const buffer is only read. A buffer that is not const is written whole, or kept as it was: each function says when. A refused call writes
+ *   nothing at all. Nothing is ever written outside of a buffer.
  * - No memory is allocated, nothing is kept between calls, and no lock is held. The functions are reentrant: they may be called from several threads or
- *   interrupt handlers at once, as long as no one writes to a buffer during a call that has it.
+ *   interrupt handlers at once, as long as no one else writes to a buffer, or reads one that is not const, during a call that has it.
  * - No floating point is used.
  */
 #ifndef HANKBOULDER_H
@@ -38,26 +41,40 @@ extern "C" {
 /* The greatest order. */
 #define HB_MAX_ORDER 8
 
-/* Bytes of a number, of a table or factor of order n, and of a vector of order n. */
+/* Bytes of a number; and of order n: of a table or factor, of a vector, linear terms or a centre, and of the sides of a box. */
 #define HB_NUMBER_BYTES 8
 #define HB_TABLE_BYTES(n) ((size_t)HB_NUMBER_BYTES * (size_t)(n) * (size_t)(n))
 #define HB_VECTOR_BYTES(n) ((size_t)HB_NUMBER_BYTES * (size_t)(n))
+#define HB_SIDES_BYTES(n) ((size_t)2 * HB_NUMBER_BYTES * (size_t)(n))
 
-/* The greatest magnitude of an entry of low and high, 2^20, of a factor, 2^26, and of a vector, 2^15. Both ends of a range belong to it. */
+/*
+ * The greatest magnitude of an entry of low and high, 2^20, of a factor, 2^26, of a vector, 2^15, of a linear term, 2^36, of the limit, 2^54, and of an
+ * entry of a centre, 2^12. Both ends of a range belong to it.
+ */
 #define HB_ENTRY_RANGE 1048576L
 #define HB_FACTOR_RANGE 67108864L
 #define HB_VECTOR_RANGE 32768L
+#define HB_LINEAR_RANGE 68719476736LL
+#define HB_LIMIT_RANGE 18014398509481984LL
+#define HB_CENTRE_RANGE 4096L
 
 /*
  * What a function returns. A number from 1 up is a refusal: 1 to 9 of a call, 10 to 15 of a summary file. A call's checks are made in rising order, each
  * over the whole input before the next, and the first that fails is returned. Each function says which of them it makes.
  */
 enum {
+    HB_UNDECIDED = -2,
+    HB_NOT_DEFINITE = -1,
+    HB_DEFINITE = 0,
+
     HB_NOT_ACCEPTED = -1,
     HB_ACCEPTED = 0,
 
     HB_NO = -1,
     HB_YES = 0,
+
+    HB_EMPTY = -1,
+    HB_BOX = 0,
 
     HB_REFUSED_ORDER = 1,    /* n is not 1 to 8 */
     HB_REFUSED_LENGTH = 2,   /* a buffer has not exactly the size that n calls for */
@@ -75,6 +92,42 @@ enum {
     HB_REFUSED_SIZE = 14,    /* file: a field's length is not the one called for */
     HB_REFUSED_LONG = 15     /* file: more than 4096 bytes */
 };
+
+/*
+ * hb_judge: is every matrix between the bounds positive definite?
+ *
+ *   n                       the order, 1 to 8
+ *   low, high               the bounds: HB_TABLE_BYTES(n) bytes each, entries within +-2^20, symmetric, no entry of low above its entry of high
+ *   factor                  HB_TABLE_BYTES(n) bytes, written where the answer is HB_DEFINITE and kept as they were where it is any other
+ *   vector                  HB_VECTOR_BYTES(n) bytes, written where the answer is HB_NOT_DEFINITE and kept as they were where it is any other
+ *   low_len, high_len,      the lengths of the four buffers, in bytes. All four have their full size in every call: which of the two outputs will be
+ *   factor_len, vector_len  written is not known before
+ *
+ * The middle of the bounds, less a margin for their width, is factored in whole numbers. Where that ends, the answer is 'definite'. Where it stops,
+ * vectors are looked for whose least value (see hb_test_vector) is 0 or less: first all with entries 0, 1 and -1, in a fixed order, then two that are
+ * solved for from the columns factored so far. The first found is the answer 'not definite'. Where there is none, the answer is 'undecided'. The same
+ * input has the same answer always, and what is written depends on n, low and high alone.
+ *
+ * Returns
+ *
+ *   HB_DEFINITE          every symmetric matrix from low to high, entry by entry, is positive definite. factor has the Cholesky factor R, scaled by 2^16:
+ *                        upper triangular, row by row, 0 below the diagonal, diagonal entries 1 to 2^26, entries above it within +-2^26. hb_test_factor
+ *                        accepts it
+ *   HB_NOT_DEFINITE      not every one is: vector has a witness vector x, not all zero, entries within +-2^15, and some symmetric matrix M from low to
+ *                        high has x'Mx <= 0. hb_test_vector says yes of it
+ *   HB_UNDECIDED         neither was shown. Bounds that are close to the edge of definiteness end so, some definite ones among them: 1 3 / 3 10 is one
+ *   HB_REFUSED_ORDER     n is not 1 to 8; no length is looked at
+ *   HB_REFUSED_LENGTH    a length is not HB_TABLE_BYTES(n), or HB_VECTOR_BYTES(n) for the vector; too long is refused like too short
+ *   HB_REFUSED_RANGE     an entry of low or high is beyond +-2^20
+ *   HB_REFUSED_CROSSED   an entry of low is above its entry of high
+ *   HB_REFUSED_LOPSIDED  low or high is not symmetric
+ *
+ * and nothing else. What factor and vector hold before the call plays no part.
+ *
+ * Time: the longest calls are those of order 8 in which no vector with entries 0, 1 and -1 is found: all 6560 of them are looked at.
+ */
+int64_t hb_judge(int64_t n, const uint8_t *low, size_t low_len, const uint8_t *high, size_t high_len, uint8_t *factor, size_t factor_len,
+                 uint8_t *vector, size_t vector_len);
 
 /*
  * hb_test_factor: does this factor show that every matrix between the bounds is positive definite?
@@ -131,6 +184,51 @@ int64_t hb_test_factor(int64_t n, const uint8_t *low, size_t low_len, const uint
  * and nothing else. Nothing is written.
  */
 int64_t hb_test_vector(int64_t n, const uint8_t *low, size_t low_len, const uint8_t *high, size_t high_len, const uint8_t *vector, size_t vector_len);
+
+/*
+ * hb_box: between which numbers does each coordinate of the ellipsoid lie?
+ *
+ *   n                        the order, 1 to 8
+ *   low, high                the bounds: HB_TABLE_BYTES(n) bytes each, entries within +-2^20, symmetric, no entry of low above its entry of high
+ *   linear                   the linear terms a: HB_VECTOR_BYTES(n) bytes, each within +-2^36
+ *   limit                    the limit, a number within +-2^54
+ *   centre                   the centre c, where the box is to have its middle: HB_VECTOR_BYTES(n) bytes, entries within +-2^12
+ *   sides                    HB_SIDES_BYTES(n) bytes, written where the answer is HB_BOX and kept as they were where it is any other
+ *   low_len, high_len,       the lengths of the five buffers, in bytes. sides has its full size in every call
+ *   linear_len, centre_len,
+ *   sides_len
+ *
+ * The ellipsoid is every x, of n fractions, for which some symmetric matrix M from low to high has x'Mx + 2a'x <= limit. The centre need not be in
+ * it: the box holds the ellipsoid from any centre that is not refused. One near its middle, so where Mc + a is near 0, gives a small box.
+ *
+ * A whole number t is looked for, bit by bit, that can be taken off every diagonal entry of low and high so that what is left can still be factored,
+ * and for each k a t(k) that can be taken off entry (k,k) alone. g(k) is the greatest magnitude of Mc + a in row k, over all M from low to high. From
+ * these half of the width of each side is worked out, every quotient and root rounded up, and side k has c(k) in its middle. The same input has the
+ * same answer always.
+ *
+ * Returns
+ *
+ *   HB_BOX               every x of the ellipsoid is in the box: for each k, counted from 0, x(k) lies from the low to the high of side k, both
+ *                        included. Smaller boxes may hold it too, and the ellipsoid may be empty all the same
+ *   HB_EMPTY             the ellipsoid is empty: x'Mx + 2a'x > limit for every x and every M from low to high. Nothing is written
+ *   HB_REFUSED_ORDER     n is not 1 to 8; no length is looked at
+ *   HB_REFUSED_LENGTH    a length is not HB_TABLE_BYTES(n) for low and high, HB_VECTOR_BYTES(n) for linear and centre, HB_SIDES_BYTES(n) for sides; too
+ *                        long is refused like too short
+ *   HB_REFUSED_RANGE     an entry of low or high is beyond +-2^20, a linear term beyond +-2^36, the limit beyond +-2^54, or an entry of the centre
+ *                        beyond +-2^12
+ *   HB_REFUSED_CROSSED   an entry of low is above its entry of high
+ *   HB_REFUSED_LOPSIDED  low or high is not symmetric
+ *   HB_REFUSED_FLAT      t is 0: not every matrix from low to high is positive definite, or by too little to take off 1. linear, limit and centre play
+ *                        no part in it
+ *   HB_REFUSED_FAR       some g(k) is above 2^20: the centre is too far from the ellipsoid's middle, or the bounds are too far apart. Another centre
+ *                        may do
+ *
+ * and nothing else. Every refusal comes before 'empty'. What sides holds before the call plays no part.
+ *
+ * Time: up to 20 factorings for t and 20 for each t(k), so 180 at order 8.
+ */
+int64_t hb_box(int64_t n, const uint8_t *low, size_t low_len, const uint8_t *high, size_t high_len, const uint8_t *linear, size_t linear_len,
+               int64_t limit, const uint8_t *centre, size_t centre_len, uint8_t *sides, size_t sides_len);
 
 #ifdef __cplusplus
 }

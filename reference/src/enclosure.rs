@@ -8,11 +8,22 @@ use crate::problem::{
 use crate::refusal::{require, Refusal};
 use crate::vectors::least_value;
 
+/// Side k, with the t(k) that it was found by.
+#[derive(Clone, Debug, PartialEq, Eq)]
+pub struct Side {
+    /// t(k)
+    pub step: i128,
+    /// c(k) − h
+    pub low: i128,
+    /// c(k) + h
+    pub high: i128,
+}
+
 /// The answer of the box.
 #[derive(Clone, Debug, PartialEq, Eq)]
 pub enum Enclosure {
-    /// The low and the high of each side
-    Sides(Vec<(i128, i128)>),
+    /// Each side
+    Sides(Vec<Side>),
     /// 'empty'
     Empty,
 }
@@ -115,7 +126,11 @@ fn sides(problem: &Problem, t: i128, g: &[i128]) -> Enclosure {
         // "Side k runs from c(k) − h to c(k) + h, h the smaller of Y(k) and
         // Z(k)."
         let h = y[k].min(z);
-        (problem.centre[k] - h, problem.centre[k] + h)
+        Side {
+            step: tk,
+            low: problem.centre[k] - h,
+            high: problem.centre[k] + h,
+        }
     };
     let steps = single_steps(&problem.bounds);
     Enclosure::Sides(steps.into_iter().enumerate().map(side).collect())
@@ -142,9 +157,9 @@ pub fn enclose(
     ])?;
     let problem = Problem::read(order, low, high, linear, limit, centre)?;
     let answer = enclosure(&problem)?;
-    if let Enclosure::Sides(pairs) = &answer {
+    if let Enclosure::Sides(list) = &answer {
         // "low then high for each k"
-        let numbers: Vec<i128> = pairs.iter().flat_map(|(l, h)| [*l, *h]).collect();
+        let numbers: Vec<i128> = list.iter().flat_map(|s| [s.low, s.high]).collect();
         write_numbers(&numbers, sides);
     }
     Ok(answer)

@@ -46,18 +46,22 @@ fn test_code(answer: Result<bool, Refusal>) -> i64 {
     }
 }
 
-fn verdict_code(verdict: &Verdict) -> i64 {
-    match verdict {
-        Verdict::Definite(_) => POSITIVE,
-        Verdict::NotDefinite(_) => NEGATIVE,
-        Verdict::Undecided => UNDECIDED,
+/// The judge's return value.
+pub fn judge_code(answer: &Result<Verdict, Refusal>) -> i64 {
+    match answer {
+        Ok(Verdict::Definite(_)) => POSITIVE,
+        Ok(Verdict::NotDefinite(..)) => NEGATIVE,
+        Ok(Verdict::Undecided) => UNDECIDED,
+        Err(refusal) => refusal.number(),
     }
 }
 
-fn enclosure_code(answer: &Enclosure) -> i64 {
+/// The box's return value.
+pub fn enclosure_code(answer: &Result<Enclosure, Refusal>) -> i64 {
     match answer {
-        Enclosure::Sides(_) => POSITIVE,
-        Enclosure::Empty => NEGATIVE,
+        Ok(Enclosure::Sides(_)) => POSITIVE,
+        Ok(Enclosure::Empty) => NEGATIVE,
+        Err(refusal) => refusal.number(),
     }
 }
 
@@ -89,25 +93,28 @@ pub fn test_vector(n: i64, low: &[u8], high: &[u8], vector: &[u8]) -> i64 {
 
 /// The judge.
 pub fn judge(n: i64, low: &[u8], high: &[u8], factor: &mut [u8], vector: &mut [u8]) -> i64 {
-    let act = || {
-        let buffers = [
-            (low, table_size as Count),
-            (high, table_size),
-            (&*factor, table_size),
-            (&*vector, LIST),
-        ];
-        let [low, high, mut rows, mut x] = read(n, buffers)?;
-        let verdict = judging::judge(n, &low, &high, &mut rows, &mut x)?;
-        Ok((verdict_code(&verdict), rows, x))
-    };
-    match act() {
-        Ok((code, rows, x)) => {
-            write(&rows, factor);
-            write(&x, vector);
-            code
-        }
-        Err(refusal) => Refusal::number(refusal),
-    }
+    judge_code(&judged(n, low, high, factor, vector))
+}
+
+/// The judge, with all that its return value leaves out.
+pub fn judged(
+    n: i64,
+    low: &[u8],
+    high: &[u8],
+    factor: &mut [u8],
+    vector: &mut [u8],
+) -> Result<Verdict, Refusal> {
+    let buffers = [
+        (low, table_size as Count),
+        (high, table_size),
+        (&*factor, table_size),
+        (&*vector, LIST),
+    ];
+    let [low, high, mut rows, mut x] = read(n, buffers)?;
+    let verdict = judging::judge(n, &low, &high, &mut rows, &mut x)?;
+    write(&rows, factor);
+    write(&x, vector);
+    Ok(verdict)
 }
 
 /// The box.
@@ -120,23 +127,28 @@ pub fn enclose(
     centre: &[u8],
     sides: &mut [u8],
 ) -> i64 {
-    let act = || {
-        let buffers = [
-            (low, table_size as Count),
-            (high, table_size),
-            (linear, LIST),
-            (centre, LIST),
-            (&*sides, sides_size),
-        ];
-        let [low, high, linear, centre, mut pairs] = read(n, buffers)?;
-        let answer = enclosure::enclose(n, &low, &high, &linear, limit, &centre, &mut pairs)?;
-        Ok((enclosure_code(&answer), pairs))
-    };
-    match act() {
-        Ok((code, pairs)) => {
-            write(&pairs, sides);
-            code
-        }
-        Err(refusal) => Refusal::number(refusal),
-    }
+    enclosure_code(&enclosed(n, low, high, linear, limit, centre, sides))
+}
+
+/// The box, with all that its return value leaves out.
+pub fn enclosed(
+    n: i64,
+    low: &[u8],
+    high: &[u8],
+    linear: &[u8],
+    limit: i64,
+    centre: &[u8],
+    sides: &mut [u8],
+) -> Result<Enclosure, Refusal> {
+    let buffers = [
+        (low, table_size as Count),
+        (high, table_size),
+        (linear, LIST),
+        (centre, LIST),
+        (&*sides, sides_size),
+    ];
+    let [low, high, linear, centre, mut pairs] = read(n, buffers)?;
+    let answer = enclosure::enclose(n, &low, &high, &linear, limit, &centre, &mut pairs)?;
+    write(&pairs, sides);
+    Ok(answer)
 }

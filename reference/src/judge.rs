@@ -10,10 +10,19 @@ use crate::vectors::{shows, solved_vector, tried_vectors, SCALES};
 pub enum Verdict {
     /// 'definite', with the factor
     Definite(Table),
-    /// 'not definite', with the vector that shows it
-    NotDefinite(Vec<i128>),
+    /// 'not definite', with the vector that shows it and the list it is from
+    NotDefinite(List, Vec<i128>),
     /// 'undecided'
     Undecided,
+}
+
+/// The list that a witness vector is from.
+#[derive(Clone, Copy, Debug, PartialEq, Eq, PartialOrd, Ord)]
+pub enum List {
+    /// The tried vectors
+    Tried,
+    /// The solved vectors, with the scale s
+    Solved(i128),
 }
 
 /// Judges interval bounds.
@@ -25,19 +34,30 @@ pub fn verdict(bounds: &Bounds) -> Verdict {
             column,
             last_row,
             partial,
-        } => {
-            // "Otherwise the first of the tried, then the solved vectors that
-            // shows it": 'not definite'. "Otherwise 'undecided'".
-            let solved = SCALES
-                .into_iter()
-                .filter_map(|s| solved_vector(column, last_row, &partial, s));
-            tried_vectors(bounds.order)
-                .into_iter()
-                .chain(solved)
-                .find(|x| shows(bounds, x))
-                .map_or(Verdict::Undecided, Verdict::NotDefinite)
-        }
+        } => match witness(bounds, column, last_row, &partial) {
+            Some((list, x)) => Verdict::NotDefinite(list, x),
+            // "Otherwise 'undecided'"
+            None => Verdict::Undecided,
+        },
     }
+}
+
+/// "Otherwise the first of the tried, then the solved vectors that shows it": the
+/// vector and its list, for factoring stopped with the column and last row.
+fn witness(
+    bounds: &Bounds,
+    column: usize,
+    last_row: usize,
+    partial: &Table,
+) -> Option<(List, Vec<i128>)> {
+    let mut tried = tried_vectors(bounds.order).iter();
+    if let Some(x) = tried.find(|x| shows(bounds, x)) {
+        return Some((List::Tried, x.clone()));
+    }
+    SCALES.into_iter().find_map(|s| {
+        let x = solved_vector(column, last_row, partial, s)?;
+        shows(bounds, &x).then_some((List::Solved(s), x))
+    })
 }
 
 /// The judge: checks 1 to 5, then the verdict. 'Definite' writes the factor,
@@ -60,7 +80,7 @@ pub fn judge(
     let verdict = verdict(&Bounds::read(order, low, high)?);
     match &verdict {
         Verdict::Definite(rows) => write_numbers(&rows.concat(), factor),
-        Verdict::NotDefinite(x) => write_numbers(x, vector),
+        Verdict::NotDefinite(_, x) => write_numbers(x, vector),
         Verdict::Undecided => {}
     }
     Ok(verdict)

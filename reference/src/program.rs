@@ -1,6 +1,6 @@
 //! The output of the program "judge": document 01, "Summary file and program".
 
-use crate::enclosure::{enclosure, Enclosure};
+use crate::enclosure::{enclosure, Enclosure, Side};
 use crate::judge::{verdict, Verdict};
 use crate::problem::{Bounds, Problem};
 use crate::summary::read_problem;
@@ -21,7 +21,7 @@ pub fn verdict_lines(bounds: &Bounds) -> String {
             let rows = factor.iter().map(|row| line("row", row));
             "definite\n".to_string() + &rows.collect::<String>()
         }
-        Verdict::NotDefinite(x) => "not\n".to_string() + &line("vector", &x),
+        Verdict::NotDefinite(_, x) => "not\n".to_string() + &line("vector", &x),
         Verdict::Undecided => "undecided\n".to_string(),
     }
 }
@@ -31,8 +31,8 @@ pub fn verdict_lines(bounds: &Bounds) -> String {
 pub fn box_lines(problem: &Problem) -> String {
     match enclosure(problem) {
         Ok(Enclosure::Sides(sides)) => {
-            let lines = sides.iter().map(|(low, high)| line("side", &[*low, *high]));
-            lines.collect()
+            let text = |side: &Side| line("side", &[side.low, side.high]);
+            sides.iter().map(text).collect()
         }
         Ok(Enclosure::Empty) => "empty\n".to_string(),
         Err(refusal) => format!("box refused {}\n", refusal.number()),

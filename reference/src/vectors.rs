@@ -1,8 +1,10 @@
 //! Witness vectors: document 01, "Showing a vector".
 
+use std::sync::OnceLock;
+
 use crate::factoring::floor_quotient;
 use crate::problem::{
-    check_lengths, check_order, pairs, table_size, widen, Bounds, Table, VECTOR_RANGE,
+    check_lengths, check_order, table_size, widen, Bounds, Table, MAX_ORDER, VECTOR_RANGE,
 };
 use crate::refusal::{require, Refusal};
 
@@ -12,16 +14,20 @@ pub const SCALES: [i128; 2] = [1, 64];
 /// "The least value of x is the least x'Mx over members: L on the diagonal and
 /// where x(i)·x(j) > 0, U elsewhere."
 pub fn least_value(bounds: &Bounds, x: &[i128]) -> i128 {
-    pairs(bounds.order)
-        .map(|(i, j)| {
-            let entry = if i == j || x[i] * x[j] > 0 {
-                bounds.low[i][j]
+    let row = |i: usize| -> i128 {
+        let (low, high) = (&bounds.low[i], &bounds.high[i]);
+        let entry = |j: usize| {
+            if i == j || x[i] * x[j] > 0 {
+                low[j]
             } else {
-                bounds.high[i][j]
-            };
-            x[i] * entry * x[j]
-        })
-        .sum()
+                high[j]
+            }
+        };
+        (0..bounds.order).map(|j| entry(j) * x[j]).sum()
+    };
+    // A row with x(i) = 0 adds nothing.
+    let rows = (0..bounds.order).filter(|i| x[*i] != 0);
+    rows.map(|i| x[i] * row(i)).sum()
 }
 
 /// "x shows 'not definite' exactly if it is nonzero and its least value is 0
@@ -60,10 +66,15 @@ pub fn test_vector(n: i64, low: &[i64], high: &[i64], vector: &[i64]) -> Result<
 /// "The tried vectors of order n are those of order n − 1 with one entry put
 /// in front: first all with 0 in front, then 1, then −1. Order 0 has the empty
 /// vector only. The zero vector is skipped."
-pub fn tried_vectors(order: usize) -> Vec<Vec<i128>> {
-    let mut list = unit_entry_vectors(order);
-    list.retain(|x| nonzero(x));
-    list
+pub fn tried_vectors(order: usize) -> &'static [Vec<i128>] {
+    // Each order's list is made once.
+    static LISTS: OnceLock<Vec<Vec<Vec<i128>>>> = OnceLock::new();
+    let list = |order| {
+        let mut list = unit_entry_vectors(order);
+        list.retain(|x| nonzero(x));
+        list
+    };
+    &LISTS.get_or_init(|| (0..=MAX_ORDER as usize).map(list).collect())[order]
 }
 
 fn unit_entry_vectors(order: usize) -> Vec<Vec<i128>> {

@@ -2,6 +2,7 @@
 #include "hankboulder.h"
 
 #include <stdio.h>
+#include <string.h>
 
 #define ORDER 2
 #define ENTRIES (ORDER * ORDER)
@@ -26,6 +27,18 @@ static void store(uint8_t *buffer, const int64_t *numbers, size_t count)
     for (k = 0; k < count; k++)
         for (byte = 0; byte < HB_NUMBER_BYTES; byte++)
             buffer[k * HB_NUMBER_BYTES + byte] = (uint8_t)((uint64_t)numbers[k] >> (8 * byte));
+}
+
+/* Reads numbers back from a buffer, on any processor. */
+static void load(int64_t *numbers, const uint8_t *buffer, size_t count)
+{
+    size_t k, byte;
+    for (k = 0; k < count; k++) {
+        uint64_t bits = 0;
+        for (byte = HB_NUMBER_BYTES; byte > 0; byte--)
+            bits = bits << 8 | buffer[k * HB_NUMBER_BYTES + byte - 1];
+        numbers[k] = bits >> 63 ? -(int64_t)~bits - 1 : (int64_t)bits;
+    }
 }
 
 /* A call of the factor test and its expected answer. low and high are lent whole, the factor with factor_len bytes. */
@@ -100,15 +113,175 @@ static void run_vector_case(const struct vector_case *test)
     expect(test->what, hb_test_vector(ORDER, low + 1, WHOLE, high + 1, WHOLE, vector + 1, test->vector_len), test->expected);
 }
 
+/* A call of the judge, the answer it gives, and the numbers it writes: those of the factor where it is 0, those of the vector where it is -1. */
+struct judge_case {
+    const char *what;
+    int64_t n;
+    int64_t low[ENTRIES];
+    int64_t high[ENTRIES];
+    size_t vector_len;
+    int64_t expected;
+    int64_t written[ENTRIES];
+};
+
+static const struct judge_case judge_cases[] = {
+    {"judge [2 1; 1 2]", 2, MATRIX, MATRIX, WHOLE_VECTOR, HB_DEFINITE, FACTOR},
+    {"judge [2 -1; -1 2]", 2, {2, -1, -1, 2}, {2, -1, -1, 2}, WHOLE_VECTOR, HB_DEFINITE, {89738, -47862, 0, 75909}},
+    {"judge [1 2; 2 1]", 2, {1, 2, 2, 1}, {1, 2, 2, 1}, WHOLE_VECTOR, HB_NOT_DEFINITE, {1, -1}},
+    {"judge [1 0; 0 1] to [1 2; 2 1]", 2, {1, 0, 0, 1}, {1, 2, 2, 1}, WHOLE_VECTOR, HB_NOT_DEFINITE, {1, -1}},
+    {"judge [1 1000; 1000 10000]", 2, {1, 1000, 1000, 10000}, {1, 1000, 1000, 10000}, WHOLE_VECTOR, HB_NOT_DEFINITE, {-1143, 1}},
+    {"judge [100 37; 37 13]", 2, {100, 37, 37, 13}, {100, 37, 37, 13}, WHOLE_VECTOR, HB_NOT_DEFINITE, {-24, 64}},
+    {"judge [1 3; 3 10]", 2, {1, 3, 3, 10}, {1, 3, 3, 10}, WHOLE_VECTOR, HB_UNDECIDED, {0}},
+    {"judge at order 0", 0, MATRIX, MATRIX, WHOLE_VECTOR, HB_REFUSED_ORDER, {0}},
+    {"judge at order 9", 9, MATRIX, MATRIX, WHOLE_VECTOR, HB_REFUSED_ORDER, {0}},
+    {"judge with a vector one byte short", 2, MATRIX, MATRIX, WHOLE_VECTOR - 1, HB_REFUSED_LENGTH, {0}},
+    {"judge with a vector as long as a table", 2, MATRIX, MATRIX, WHOLE, HB_REFUSED_LENGTH, {0}},
+    {"judge an entry above the range", 2, MATRIX, {2, 1, 1, HB_ENTRY_RANGE + 1}, WHOLE_VECTOR, HB_REFUSED_RANGE, {0}},
+    {"judge low above high", 2, {2, 2, 2, 2}, MATRIX, WHOLE_VECTOR, HB_REFUSED_CROSSED, {0}},
+    {"judge high lopsided", 2, MATRIX, {2, 1, 2, 2}, WHOLE_VECTOR, HB_REFUSED_LOPSIDED, {0}},
+};
+
+/* What every output holds before a call */
+#define KEPT 0x5A
+
+/* Whether count numbers at a buffer are the expected ones. */
+static int holds(const uint8_t *buffer, const int64_t *expected, size_t count)
+{
+    int64_t numbers[ENTRIES];
+    load(numbers, buffer, count);
+    return memcmp(numbers, expected, count * sizeof *numbers) == 0;
+}
+
+/* Whether every byte of a buffer is as it was. */
+static int kept(const uint8_t *buffer, size_t size)
+{
+    size_t k;
+    for (k = 0; k < size; k++)
+        if (buffer[k] != KEPT)
+            return 0;
+    return 1;
+}
+
+/* Judges, and then has what was written tested by the other two functions. */
+static void run_judge_case(const struct judge_case *test)
+{
+    uint8_t low[1 + WHOLE], high[1 + WHOLE], factor[1 + WHOLE + 1], vector[1 + WHOLE + 1];
+    int64_t answer;
+    store(low + 1, test->low, ENTRIES);
+    store(high + 1, test->high, ENTRIES);
+    memset(factor, KEPT, sizeof factor);
+    memset(vector, KEPT, sizeof vector);
+    answer = hb_judge(test->n, low + 1, WHOLE, high + 1, WHOLE, factor + 1, WHOLE, vector + 1, test->vector_len);
+    expect(test->what, answer, test->expected);
+    switch (answer) {
+    case HB_DEFINITE:
+        expect("the factor is written", holds(factor + 1, test->written, ENTRIES), 1);
+        expect("no byte beside it is", kept(factor, 1) && kept(factor + 1 + WHOLE, 1), 1);
+        expect("the vector is kept", kept(vector, sizeof vector), 1);
+        expect("the factor is accepted", hb_test_factor(ORDER, low + 1, WHOLE, high + 1, WHOLE, factor + 1, WHOLE), HB_ACCEPTED);
+        break;
+    case HB_NOT_DEFINITE:
+        expect("the vector is written", holds(vector + 1, test->written, ORDER), 1);
+        expect("no byte beside it is", kept(vector, 1) && kept(vector + 1 + WHOLE_VECTOR, sizeof vector - 1 - WHOLE_VECTOR), 1);
+        expect("the factor is kept", kept(factor, sizeof factor), 1);
+        expect("the vector shows it", hb_test_vector(ORDER, low + 1, WHOLE, high + 1, WHOLE, vector + 1, WHOLE_VECTOR), HB_YES);
+        break;
+    default:
+        expect("both outputs are kept", kept(factor, sizeof factor) && kept(vector, sizeof vector), 1);
+    }
+}
+
+/* A call of the box of one table as low and high, the answer it gives, and the sides it writes where that is 0. */
+struct box_case {
+    const char *what;
+    int64_t n;
+    int64_t table[ENTRIES];
+    int64_t linear[ORDER];
+    int64_t limit;
+    int64_t centre[ORDER];
+    size_t sides_len;
+    int64_t expected;
+    int64_t sides[2 * ORDER];
+};
+
+#define WHOLE_SIDES HB_SIDES_BYTES(ORDER)
+#define ROUND {5, 1, 1, 5}
+#define ZEROS {0, 0}
+
+static const struct box_case box_cases[] = {
+    {"box of [5 1; 1 5] from (1, 0)", 2, ROUND, {1, 1}, 12, {1, 0}, WHOLE_SIDES, HB_BOX, {-4, 6, -4, 4}},
+    {"box of [4 0; 0 100]", 2, {4, 0, 0, 100}, ZEROS, 400, ZEROS, WHOLE_SIDES, HB_BOX, {-12, 12, -3, 3}},
+    {"box of limit 0", 2, ROUND, ZEROS, 0, ZEROS, WHOLE_SIDES, HB_BOX, {0, 0, 0, 0}},
+    {"box of limit -1", 2, ROUND, ZEROS, -1, ZEROS, WHOLE_SIDES, HB_EMPTY, {0}},
+    {"box of the least limit", 2, ROUND, ZEROS, -HB_LIMIT_RANGE, ZEROS, WHOLE_SIDES, HB_EMPTY, {0}},
+    {"box at order 0", 0, ROUND, ZEROS, 0, ZEROS, WHOLE_SIDES, HB_REFUSED_ORDER, {0}},
+    {"box at order 9", 9, ROUND, ZEROS, 0, ZEROS, WHOLE_SIDES, HB_REFUSED_ORDER, {0}},
+    {"box with sides one byte short", 2, ROUND, ZEROS, 0, ZEROS, WHOLE_SIDES - 1, HB_REFUSED_LENGTH, {0}},
+    {"box with sides one number long", 2, ROUND, ZEROS, 0, ZEROS, WHOLE_SIDES + HB_NUMBER_BYTES, HB_REFUSED_LENGTH, {0}},
+    {"box of an entry above the range", 2, {HB_ENTRY_RANGE + 1, 1, 1, 5}, ZEROS, 0, ZEROS, WHOLE_SIDES, HB_REFUSED_RANGE, {0}},
+    {"box of a linear term above the range", 2, ROUND, {0, HB_LINEAR_RANGE + 1}, 0, ZEROS, WHOLE_SIDES, HB_REFUSED_RANGE, {0}},
+    {"box of a limit above the range", 2, ROUND, ZEROS, HB_LIMIT_RANGE + 1, ZEROS, WHOLE_SIDES, HB_REFUSED_RANGE, {0}},
+    {"box of the least 64-bit limit", 2, ROUND, ZEROS, INT64_MIN, ZEROS, WHOLE_SIDES, HB_REFUSED_RANGE, {0}},
+    {"box from a centre beyond the range", 2, ROUND, ZEROS, 0, {0, -HB_CENTRE_RANGE - 1}, WHOLE_SIDES, HB_REFUSED_RANGE, {0}},
+    {"box of a lopsided table", 2, {5, 1, 2, 5}, ZEROS, 0, ZEROS, WHOLE_SIDES, HB_REFUSED_LOPSIDED, {0}},
+    {"box of [1 2; 2 1]", 2, {1, 2, 2, 1}, ZEROS, 0, ZEROS, WHOLE_SIDES, HB_REFUSED_FLAT, {0}},
+    {"box of the same, and far", 2, {1, 2, 2, 1}, {HB_LINEAR_RANGE, 0}, 0, ZEROS, WHOLE_SIDES, HB_REFUSED_FLAT, {0}},
+    {"box of a linear term at its end", 2, ROUND, {0, -HB_LINEAR_RANGE}, 0, ZEROS, WHOLE_SIDES, HB_REFUSED_FAR, {0}},
+};
+
+static void run_box_case(const struct box_case *test)
+{
+    uint8_t low[1 + WHOLE], high[1 + WHOLE], linear[1 + WHOLE_VECTOR], centre[1 + WHOLE_VECTOR];
+    uint8_t sides[1 + WHOLE_SIDES + HB_NUMBER_BYTES + 1];
+    int64_t answer;
+    store(low + 1, test->table, ENTRIES);
+    store(high + 1, test->table, ENTRIES);
+    store(linear + 1, test->linear, ORDER);
+    store(centre + 1, test->centre, ORDER);
+    memset(sides, KEPT, sizeof sides);
+    answer = hb_box(test->n, low + 1, WHOLE, high + 1, WHOLE, linear + 1, WHOLE_VECTOR, test->limit, centre + 1, WHOLE_VECTOR, sides + 1,
+                    test->sides_len);
+    expect(test->what, answer, test->expected);
+    if (answer == HB_BOX) {
+        expect("the sides are written", holds(sides + 1, test->sides, 2 * ORDER), 1);
+        expect("no byte beside them is", kept(sides, 1) && kept(sides + 1 + WHOLE_SIDES, sizeof sides - 1 - WHOLE_SIDES), 1);
+    } else {
+        expect("the sides are kept", kept(sides, sizeof sides), 1);
+    }
+}
+
+/* Case P of the rules as firmware would have it: one coefficient, 4 x^2 - 16 x <= 0, so x from 0 to 4, boxed from the centre 2. */
+static void run_box_of_order_1(void)
+{
+    const int64_t matrix[1] = {4}, linear[1] = {-8}, centre[1] = {2}, expected[2] = {-1, 5};
+    uint8_t table[HB_TABLE_BYTES(1)], terms[HB_VECTOR_BYTES(1)], middle[HB_VECTOR_BYTES(1)], sides[HB_SIDES_BYTES(1)];
+    uint8_t same[HB_TABLE_BYTES(1)];
+    store(table, matrix, 1);
+    store(same, matrix, 1);
+    store(terms, linear, 1);
+    store(middle, centre, 1);
+    expect("case P", hb_box(1, table, sizeof table, same, sizeof same, terms, sizeof terms, 0, middle, sizeof middle, sides, sizeof sides), HB_BOX);
+    expect("its side", holds(sides, expected, 2), 1);
+}
+
 int main(void)
 {
     size_t k;
+    for (k = 0; k < sizeof box_cases / sizeof box_cases[0]; k++)
+        run_box_case(&box_cases[k]);
+    run_box_of_order_1();
+    for (k = 0; k < sizeof judge_cases / sizeof judge_cases[0]; k++)
+        run_judge_case(&judge_cases[k]);
     for (k = 0; k < sizeof vector_cases / sizeof vector_cases[0]; k++)
         run_vector_case(&vector_cases[k]);
     for (k = 0; k < sizeof factor_cases / sizeof factor_cases[0]; k++)
         run_factor_case(&factor_cases[k]);
     expect("null buffers", hb_test_factor(1, NULL, 0, NULL, 0, NULL, 0), HB_REFUSED_LENGTH);
     expect("null buffers and order 0", hb_test_factor(0, NULL, 0, NULL, 0, NULL, 0), HB_REFUSED_ORDER);
+    expect("null buffers of the judge", hb_judge(1, NULL, 0, NULL, 0, NULL, 0, NULL, 0), HB_REFUSED_LENGTH);
+    expect("the same and order 9", hb_judge(9, NULL, 0, NULL, 0, NULL, 0, NULL, 0), HB_REFUSED_ORDER);
+    expect("null buffers of the box", hb_box(1, NULL, 0, NULL, 0, NULL, 0, 0, NULL, 0, NULL, 0), HB_REFUSED_LENGTH);
+    expect("the same and order -1", hb_box(-1, NULL, 0, NULL, 0, NULL, 0, 0, NULL, 0, NULL, 0), HB_REFUSED_ORDER);
     printf("%d passed, %d failed\n", passed, failed);
     return failed != 0;
 }

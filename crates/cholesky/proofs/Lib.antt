@@ -1,4 +1,4 @@
-pub mod Starred
+pub mod Examples
 pub mod Factored
 pub mod ScaledMatrix
 pub mod Lists

@@ -1,3 +1,5 @@
 pub mod Padded
 pub mod Codes
-pub mod VectorCodes
+pub mod Stores
+pub mod Judging
+pub mod Boxing

@@ -6,14 +6,16 @@ use Prim.Native.Nat.{ℕ, _*_}
 use lib.IntN.{ℤ, pos}
 use lib.ListN.{replicate}
 use lib.Signed.{leZ}
-use Rattle.tables.specs.Ranges.{entryRange, vectorRange}
+use Rattle.tables.specs.Ranges.{entryRange, vectorRange, linearRange, centreRange}
 use Rattle.tables.specs.Matrix.{Matrix, nth, at}
 use Rattle.tables.specs.Checks.{all, within, allWithin, nowhereCrossed, same, symmetric, Check, firstRefusal, tableChecks}
 use Rattle.tables.specs.declared.Refusal.the-variants.{Range, Crossed, Lopsided, Factor}
 use Rattle.tables.proofs.Matrix.{nth-padded, at-padded}
 use Rattle.residual.specs.Residual.{accepts}
-use Rattle.residual.specs.FactorTest.{factorShape, answerAfter, factorAnswer}
+use Rattle.residual.specs.FactorTest.{factorShape, factorAnswer}
 use Rattle.vectors.specs.VectorTest.{vectorShape, vectorAnswer}
+use Rattle.verdict.specs.Judge.{judgement}
+use Rattle.enclosure.specs.Box.{boxChecks, boxAnswer}
 
 abbrev zeros : ℕ → List ℤ
 zeros m = replicate m (pos 0)
@@ -42,3 +44,12 @@ factor-padded n i j k x y z = rw (checks-padded n i j x y, at-padded n x i, at-p
 pub vector-padded : (n i j k : ℕ) (x y z : List ℤ) → vectorAnswer n (x ++ zeros i) (y ++ zeros j) (z ++ zeros k) ≡ vectorAnswer n x y z
 unfolding vectorAnswer vectorShape
 vector-padded n i j k x y z = rw (checks-padded n i j x y, at-padded n x i, at-padded n y j, range-padded vectorRange n k z, nth-padded z k)
+
+pub judgement-padded : (n i j : ℕ) (x y : List ℤ) → judgement n (x ++ zeros i) (y ++ zeros j) ≡ judgement n x y
+unfolding judgement
+judgement-padded n i j x y = rw (checks-padded n i j x y, at-padded n x i, at-padded n y j)
+
+pub box-padded : (n i j k m : ℕ) (x y a : List ℤ) (α : ℤ) (c : List ℤ) → boxAnswer n (x ++ zeros i) (y ++ zeros j) (a ++ zeros k) α (c ++ zeros m) ≡ boxAnswer n x y a α c
+unfolding boxAnswer boxChecks
+box-padded n i j k m x y a α c =
+    rw (range-padded linearRange n k a, range-padded centreRange n m c, checks-padded n i j x y, at-padded n x i, at-padded n y j, nth-padded a k, nth-padded c m)

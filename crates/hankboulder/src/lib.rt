@@ -1,34 +1,31 @@
 // The entries for C, over bytes.
 ghost use mathlib.Core.Path.{_≡_};
-ghost use Prim.Native.Nat.{_*_, _≤_, _<_};
+ghost use mathlib.Core.List.{List};
+ghost use Prim.Native.Nat.{ℕ, _+_, _*_, _≤_, _<_};
 ghost use lib.IntN.{pos, natAbs};
 ghost use lib.ListN.{length};
 ghost use mir.Syntax.{w64};
 ghost use mir.Val.{bytes};
 ghost use Rattle.tables.specs.Ranges.{greatestOrder};
-ghost use Rattle.tables.specs.Matrix.{at};
+ghost use Rattle.tables.specs.Matrix.{at, table};
 ghost use Rattle.tables.specs.Members.{PositiveDefinite};
-ghost use Rattle.residual.specs.FactorTest.{factorAnswer, factorCode};
-ghost use Rattle.vectors.specs.VectorTest.{vectorAnswer, vectorCode};
-ghost use Rattle.hankboulder.specs.Entries.{tableOf, testFactorEntry, vectorOf, vectorBuffers, testVectorEntry, VectorMeaning};
-use residual::factor_test::FactorAnswer;
+ghost use Rattle.residual.specs.FactorTest.{factorAnswer};
+ghost use Rattle.vectors.specs.VectorTest.{vectorAnswer};
+ghost use Rattle.verdict.specs.Judge.{Judged, verdictCode, judgement};
+ghost use Rattle.residual.specs.Slack.{triangle};
+ghost use Rattle.words.specs.Numbers.{bytesOf};
+ghost use Rattle.hankboulder.specs.Entries.{tableOf, testFactorEntry, vectorOf, testVectorEntry, VectorMeaning, stored, JudgeAnswer, judgeEntry, JudgeMeaning, storedSides, BoxEntry, boxEntry, BoxMeaning};
+ghost use Rattle.enclosure.specs.Box.{boxAnswer};
+ghost use Rattle.enclosure.specs.Act.{Enclosed, boxCode};
+ghost use Rattle.enclosure.specs.Stating.{Stated};
+use enclosure::enclose::BoxAnswer;
+use tables::Answer;
 use tables::Refusal;
-use vectors::vector_test::VectorAnswer;
+use verdict::judge::Verdict;
 use words::SIZE;
 
-// An answer's number: 0 accepted, -1 not accepted, else the refusal's.
-fn factor_code(a: FactorAnswer) -> i64
-    ensures { λ r. ⌜ r ≡ factorCode a ⌝ }
-{
-    match a {
-        FactorAnswer::Accepted => 0,
-        FactorAnswer::NotAccepted => -1,
-        FactorAnswer::Refused(r) => tables::refusal_number(r) as i64,
-    }
-}
-
 // Checks 3 to 6 and the residual test, of buffers of n² numbers.
-fn answer_bytes(n: usize, low: &[u8], high: &[u8], factor: &[u8]) -> FactorAnswer
+fn answer_factor(n: usize, low: &[u8], high: &[u8], factor: &[u8]) -> Answer
     requires { ⌜ (n ≤ greatestOrder) × (n * n * bytes w64 ≤ length (now low)) × (n * n * bytes w64 ≤ length (now high)) × (n * n * bytes w64 ≤ length (now factor)) ⌝ }
     ensures { λ r. ⌜ r ≡ factorAnswer n (tableOf n (now (low .entry))) (tableOf n (now (high .entry))) (tableOf n (now (factor .entry))) ⌝ }
 {
@@ -46,38 +43,18 @@ pub extern "C" fn hb_test_factor(n: i64, low: &[u8], high: &[u8], factor: &[u8])
     ensures meaning { λ r. ⌜ (r ≡ pos 0 → PositiveDefinite (natAbs n) (at (natAbs n) (tableOf (natAbs n) (now (low .entry)))) (at (natAbs n) (tableOf (natAbs n) (now (high .entry))))) ⌝ }
 {
     if !tables::order_ok(n) {
-        return factor_code(FactorAnswer::Refused(Refusal::Order));
+        return tables::answer_code(Answer::Refused(Refusal::Order));
     }
     let m = n as usize;
     let size = m * m * SIZE;
-    if !residual::factor_test::three_of(size, low.len(), high.len(), factor.len()) {
-        return factor_code(FactorAnswer::Refused(Refusal::Length));
+    if !tables::sizes_ok(size, size, low.len(), high.len(), factor.len()) {
+        return tables::answer_code(Answer::Refused(Refusal::Length));
     }
-    factor_code(answer_bytes(m, low, high, factor))
-}
-
-// An answer's number: 0 yes, -1 no, else the refusal's.
-fn vector_code(a: VectorAnswer) -> i64
-    ensures { λ r. ⌜ r ≡ vectorCode a ⌝ }
-{
-    match a {
-        VectorAnswer::Yes => 0,
-        VectorAnswer::No => -1,
-        VectorAnswer::Refused(r) => tables::refusal_number(r) as i64,
-    }
-}
-
-// Whether the buffers of a call of order n have their sizes: n² numbers for each table, and n for the vector.
-fn vector_buffers(n: usize, low: usize, high: usize, vector: usize) -> bool
-    requires { ⌜ n ≤ greatestOrder ⌝ }
-    ensures { λ r. ⌜ r ≡ vectorBuffers n low high vector ⌝ }
-{
-    let size = n * n * SIZE;
-    low == size && (high == size && vector == n * SIZE)
+    tables::answer_code(answer_factor(m, low, high, factor))
 }
 
 // Checks 3, 4, 5 and 7, and what the vector shows, of buffers of n² numbers and of n.
-fn answer_vector(n: usize, low: &[u8], high: &[u8], vector: &[u8]) -> VectorAnswer
+fn answer_vector(n: usize, low: &[u8], high: &[u8], vector: &[u8]) -> Answer
     requires { ⌜ (n ≤ greatestOrder) × (n * n * bytes w64 ≤ length (now low)) × (n * n * bytes w64 ≤ length (now high)) × (n * bytes w64 ≤ length (now vector)) ⌝ }
     ensures { λ r. ⌜ r ≡ vectorAnswer n (tableOf n (now (low .entry))) (tableOf n (now (high .entry))) (vectorOf n (now (vector .entry))) ⌝ }
 {
@@ -95,11 +72,179 @@ pub extern "C" fn hb_test_vector(n: i64, low: &[u8], high: &[u8], vector: &[u8])
     ensures meaning { λ r. ⌜ VectorMeaning r n (now (low .entry)) (now (high .entry)) (now (vector .entry)) ⌝ }
 {
     if !tables::order_ok(n) {
-        return vector_code(VectorAnswer::Refused(Refusal::Order));
+        return tables::answer_code(Answer::Refused(Refusal::Order));
     }
     let m = n as usize;
-    if !vector_buffers(m, low.len(), high.len(), vector.len()) {
-        return vector_code(VectorAnswer::Refused(Refusal::Length));
+    if !tables::sizes_ok(m * m * SIZE, m * SIZE, low.len(), high.len(), vector.len()) {
+        return tables::answer_code(Answer::Refused(Refusal::Length));
     }
-    vector_code(answer_vector(m, low, high, vector))
+    tables::answer_code(answer_vector(m, low, high, vector))
+}
+
+// A verdict's number: 0 definite, -1 not definite, -2 undecided, else the refusal's.
+fn verdict_code(v: Verdict) -> i64
+    ensures { λ r. ⌜ r ≡ verdictCode v ⌝ }
+{
+    match v {
+        Verdict::Definite => 0,
+        Verdict::NotDefinite => -1,
+        Verdict::Undecided => -2,
+        Verdict::Refused(r) => tables::refusal_number(r) as i64,
+    }
+}
+
+// Writes the factor whose columns stand in t: n² numbers.
+fn write_factor(n: usize, t: &[i64; 64], factor: &mut [u8])
+    requires { ⌜ (n ≤ greatestOrder) × (length (now factor) ≡ n * n * bytes w64) ⌝ }
+    ensures { λ r. ⌜ now (factor .exit) ≡ bytesOf w64 (table n (triangle (now (t .entry)))) (n * n) ⌝ }
+{
+    let mut f = [0i64; 64];
+    verdict::factor_table::write_factor(n, t, &mut f);
+    words::store_numbers(&f, factor, n * n);
+}
+
+// Checks 3, 4 and 5, the verdict, and the factor or the vector that goes with it, on buffers of the sizes that n calls for.
+fn judge_buffers(n: usize, low: &[u8], high: &[u8], factor: &mut [u8], vector: &mut [u8]) -> Verdict
+    requires { ⌜ (n ≤ greatestOrder) × (0 < n) × (n * n * bytes w64 ≤ length (now low)) × (n * n * bytes w64 ≤ length (now high)) × (length (now factor) ≡ n * n * bytes w64) × (length (now vector) ≡ n * bytes w64) ⌝ }
+    ensures { λ r. ⌜ _≡_ {A = Judged (List ℕ)} (record { verdict = r; factor = now (factor .exit); vector = now (vector .exit) }) (stored n (judgement n (tableOf n (now (low .entry))) (tableOf n (now (high .entry)))) (now (factor .entry)) (now (vector .entry))) ⌝ }
+{
+    let count = n * n;
+    let l = words::load_table(low, count);
+    let u = words::load_table(high, count);
+    let mut t = [0i64; 64];
+    let mut x = [0i64; 8];
+    let verdict = verdict::judge::decide(n, &l, &u, &mut t, &mut x);
+    match verdict {
+        Verdict::Definite => {
+            write_factor(n, &t, factor);
+            Verdict::Definite
+        }
+        Verdict::NotDefinite => {
+            words::store_numbers(&x, vector, n);
+            Verdict::NotDefinite
+        }
+        Verdict::Undecided => Verdict::Undecided,
+        Verdict::Refused(r) => Verdict::Refused(r),
+    }
+}
+
+// Judges: 0 definite, with the factor written and the vector kept; -1 not definite, with the vector written and the factor kept; -2 undecided, with both kept;
+// else the refusal's number, with both kept.
+#[no_mangle]
+pub extern "C" fn hb_judge(
+    n: i64,
+    low: &[u8],
+    high: &[u8],
+    factor: &mut [u8],
+    vector: &mut [u8],
+) -> i64
+    ensures exact { λ r. ⌜ _≡_ {A = JudgeAnswer} (record { number = r; factor = now (factor .exit); vector = now (vector .exit) }) (judgeEntry n (now (low .entry)) (now (high .entry)) (now (factor .entry)) (now (vector .entry))) ⌝ }
+    ensures meaning { λ r. ⌜ JudgeMeaning r n (now (low .entry)) (now (high .entry)) (now (factor .exit)) (now (vector .exit)) ⌝ }
+{
+    if !tables::order_ok(n) {
+        return verdict_code(Verdict::Refused(Refusal::Order));
+    }
+    let m = n as usize;
+    if !verdict::judge::sizes_ok(
+        m * m * SIZE,
+        m * SIZE,
+        low.len(),
+        high.len(),
+        factor.len(),
+        vector.len(),
+    ) {
+        return verdict_code(Verdict::Refused(Refusal::Length));
+    }
+    verdict_code(judge_buffers(m, low, high, factor, vector))
+}
+
+// An answer's number: 0 sides, -1 empty, else the refusal's.
+fn box_code(a: BoxAnswer) -> i64
+    ensures { λ r. ⌜ r ≡ boxCode a ⌝ }
+{
+    match a {
+        BoxAnswer::Sides => 0,
+        BoxAnswer::Empty => -1,
+        BoxAnswer::Refused(r) => tables::refusal_number(r) as i64,
+    }
+}
+
+// The box of the numbers that the buffers spell. Side k stands at 2 k and 2 k + 1 of x.
+fn box_numbers(
+    n: usize,
+    low: &[u8],
+    high: &[u8],
+    linear: &[u8],
+    limit: i64,
+    centre: &[u8],
+    x: &mut [i64; 16],
+) -> BoxAnswer
+    requires { ⌜ (n ≤ greatestOrder) × (n * n * bytes w64 ≤ length (now low)) × (n * n * bytes w64 ≤ length (now high)) × (n * bytes w64 ≤ length (now linear)) × (n * bytes w64 ≤ length (now centre)) × (length (now x) ≡ 16) ⌝ }
+    ensures { λ r. ⌜ Stated (boxAnswer n (tableOf n (now (low .entry))) (tableOf n (now (high .entry))) (vectorOf n (now (linear .entry))) limit (vectorOf n (now (centre .entry)))) n r (now (x .exit)) ⌝ }
+{
+    let count = n * n;
+    let l = words::load_table(low, count);
+    let u = words::load_table(high, count);
+    let a = words::load_vector(linear, n);
+    let c = words::load_vector(centre, n);
+    enclosure::enclose::answer(n, &l, &u, &a, limit, &c, x)
+}
+
+// Checks 3, 4 and 5, refusals 8 and 9, and the box with its sides, on buffers of the sizes that n calls for.
+fn box_buffers(
+    n: usize,
+    low: &[u8],
+    high: &[u8],
+    linear: &[u8],
+    limit: i64,
+    centre: &[u8],
+    sides: &mut [u8],
+) -> BoxAnswer
+    requires { ⌜ (n ≤ greatestOrder) × (n * n * bytes w64 ≤ length (now low)) × (n * n * bytes w64 ≤ length (now high)) × (n * bytes w64 ≤ length (now linear)) × (n * bytes w64 ≤ length (now centre)) × (length (now sides) ≡ (n + n) * bytes w64) ⌝ }
+    ensures { λ r. ⌜ _≡_ {A = Enclosed (List ℕ)} (record { answer = r; sides = now (sides .exit) }) (storedSides n (boxAnswer n (tableOf n (now (low .entry))) (tableOf n (now (high .entry))) (vectorOf n (now (linear .entry))) limit (vectorOf n (now (centre .entry)))) (now (sides .entry))) ⌝ }
+{
+    let mut x = [0i64; 16];
+    let given = box_numbers(n, low, high, linear, limit, centre, &mut x);
+    match given {
+        BoxAnswer::Sides => {
+            words::store_numbers(&x, sides, n + n);
+            BoxAnswer::Sides
+        }
+        BoxAnswer::Empty => BoxAnswer::Empty,
+        BoxAnswer::Refused(r) => BoxAnswer::Refused(r),
+    }
+}
+
+// Boxes the ellipsoid: 0 with the sides written, low and high for each k; -1 empty, else the refusal's number, with nothing written.
+#[no_mangle]
+pub extern "C" fn hb_box(
+    n: i64,
+    low: &[u8],
+    high: &[u8],
+    linear: &[u8],
+    limit: i64,
+    centre: &[u8],
+    sides: &mut [u8],
+) -> i64
+    ensures exact { λ r. ⌜ _≡_ {A = BoxEntry} (record { number = r; sides = now (sides .exit) }) (boxEntry n (now (low .entry)) (now (high .entry)) (now (linear .entry)) limit (now (centre .entry)) (now (sides .entry))) ⌝ }
+    ensures meaning { λ r. ⌜ BoxMeaning r n (now (low .entry)) (now (high .entry)) (now (linear .entry)) limit (now (sides .exit)) ⌝ }
+{
+    if !tables::order_ok(n) {
+        return box_code(BoxAnswer::Refused(Refusal::Order));
+    }
+    let m = n as usize;
+    let pairs = m + m;
+    if !enclosure::enclose::sizes_ok(
+        m * m * SIZE,
+        m * SIZE,
+        pairs * SIZE,
+        low.len(),
+        high.len(),
+        linear.len(),
+        centre.len(),
+        sides.len(),
+    ) {
+        return box_code(BoxAnswer::Refused(Refusal::Length));
+    }
+    box_code(box_buffers(m, low, high, linear, limit, centre, sides))
 }

@@ -1,6 +1,6 @@
 -- Demand 3, of an offered factor.
-use mathlib.Core.Path.{_≡_, refl, subst}
-use mathlib.Core.Bool.{Bool, true, false, not, _&&_}
+use mathlib.Core.Path.{_≡_, subst}
+use mathlib.Core.Bool.{Bool, true, not, _&&_}
 use mathlib.Core.List.{List}
 use Prim.Native.Nat.{ℕ, _≤_, _<_, compare, Ordering, Ordering·lt, Ordering·eq, Ordering·gt}
 use native.Mathlib.Omega.{arith}
@@ -10,16 +10,13 @@ use lib.Signed.{_≤ℤ_, leZ}
 use Rattle.tables.specs.Ranges.{factorRange}
 use Rattle.tables.specs.Matrix.{Matrix, at}
 use Rattle.tables.specs.Members.{PositiveDefinite}
-use Rattle.tables.specs.Checks.{within, same, orderOk, tableChecks}
-use Rattle.tables.specs.declared.Refusal.the-variants.{Order, Length}
-use Rattle.tables.specs.declared.Checked.{Checked}
-use Rattle.tables.specs.declared.Checked.the-variants.{Passed, Refused}
-use Rattle.tables.proofs.Checks.{true-of, of-true, and-left, all-at, le-of, same-of, first-passed, rest-passed}
+use Rattle.tables.specs.Checks.{within, same, tableChecks}
+use Rattle.tables.specs.declared.Answer.the-variants as Answer
+use Rattle.tables.proofs.Checks.{true-of, of-true, and-left, all-at, le-of, same-of}
+use Rattle.tables.proofs.Answers.{last-passed, after-yes, verdict-yes}
 use Rattle.tables.proofs.Triangular.{UpperTriangular}
 use Rattle.residual.specs.Residual.{accepts}
-use Rattle.residual.specs.FactorTest.{factorEntry, factorShape, answerAfter, factorAnswer, threeTables, factorTest}
-use Rattle.residual.specs.declared.factor_test.FactorAnswer.{FactorAnswer}
-use Rattle.residual.specs.declared.factor_test.FactorAnswer.the-variants as Answer
+use Rattle.residual.specs.FactorTest.{factorEntry, factorShape, factorAnswer, factorTest}
 use Rattle.residual.proofs.Definite.{accepted-definite}
 
 -- ---- check 6, of an offered factor: the test of entry (i, j), by cases
@@ -62,29 +59,14 @@ module _ (n : ℕ) (R : Matrix) where
 pub offered-definite : (n : ℕ) (R L U : Matrix) → T (factorShape n R) → T (accepts n R L U) → PositiveDefinite n L U
 offered-definite n R L U s t = accepted-definite n R L U t (shape-upper n R s)
 
-answered : (k : Checked) (b : Bool) → answerAfter k b ≡ Answer.Accepted → (k ≡ Passed) × (b ≡ true)
-unfolding answerAfter
-answered Passed true e = (refl, refl)
-answered Passed false e = (refl, cc)
-answered (Refused r) b e = (cc, cc)
-
 module _ (l u f : List ℤ) where
   -- so it is where the factor test answers 'accepted'
-  pub answer-definite : (n : ℕ) → factorAnswer n l u f ≡ Answer.Accepted → PositiveDefinite n (at n l) (at n u)
-  unfolding factorAnswer tableChecks
+  pub answer-definite : (n : ℕ) → factorAnswer n l u f ≡ Answer.Yes → PositiveDefinite n (at n l) (at n u)
+  unfolding factorAnswer
   answer-definite n e =
-      let p = answered _ _ e in
-      offered-definite n (at n f) (at n l) (at n u)
-      (of-true (first-passed _ _ (rest-passed _ _ (rest-passed _ _ (rest-passed _ _ (p .0)))))) (of-true (p .1))
+      let p = after-yes _ _ e in
+      offered-definite n (at n f) (at n l) (at n u) (of-true (last-passed (tableChecks n l u) _ (p .0))) (of-true (verdict-yes (accepts n (at n f) (at n l) (at n u)) (p .1)))
 
-  pub test-definite : (n : ℤ) → factorTest n l u f ≡ Answer.Accepted → PositiveDefinite (natAbs n) (at (natAbs n) l) (at (natAbs n) u)
+  pub test-definite : (n : ℤ) → factorTest n l u f ≡ Answer.Yes → PositiveDefinite (natAbs n) (at (natAbs n) l) (at (natAbs n) u)
   unfolding factorTest
-  test-definite n e = answer-definite (natAbs n) (go (orderOk n) (threeTables (natAbs n) l u f) e)
-    where
-      go : (a b : Bool) →
-          _≡_ {A = FactorAnswer}
-          (elim a [ true ↦ elim b [ true ↦ factorAnswer (natAbs n) l u f | false ↦ Answer.Refused Length ] | false ↦ Answer.Refused Order ])
-          Answer.Accepted → factorAnswer (natAbs n) l u f ≡ Answer.Accepted
-      go true true e = e
-      go true false e = cc
-      go false b e = cc
+  test-definite n e = answer-definite (natAbs n) (after-yes _ _ e .1)

@@ -1,28 +1,20 @@
 // The factor test.
 ghost use mathlib.Core.Path.{_≡_};
-ghost use mathlib.Core.Bool.{_&&_};
 ghost use Prim.Native.Nat.{_*_, _≤_};
-ghost use lib.Dec.{eqb};
 ghost use lib.IntN.{natAbs};
 ghost use lib.ListN.{length};
 ghost use Rattle.tables.specs.Ranges.{greatestOrder};
 ghost use Rattle.tables.specs.Matrix.{at};
 ghost use Rattle.tables.specs.Members.{PositiveDefinite};
+ghost use Rattle.tables.specs.declared.Answer.the-variants as Answer;
 ghost use Rattle.residual.specs.FactorTest.{factorAnswer, factorTest, Offer};
 ghost use Rattle.residual.specs.Residual.{accepts};
-ghost use Rattle.residual.specs.declared.factor_test.FactorAnswer.the-variants as Answer;
 use crate::offered::factor_shape;
 use crate::offered::load_columns;
 use crate::row_test::accepted;
+use tables::Answer;
 use tables::Checked;
 use tables::Refusal;
-
-// What the factor test answers.
-pub enum FactorAnswer {
-    Accepted,
-    NotAccepted,
-    Refused(Refusal),
-}
 
 // The residual test of an offered factor that passed check 6, of tables that passed checks 3 to 5.
 fn tested(n: usize, low: &[i64], high: &[i64], factor: &[i64]) -> bool
@@ -35,44 +27,37 @@ fn tested(n: usize, low: &[i64], high: &[i64], factor: &[i64]) -> bool
 }
 
 // Checks 3 to 6 and the residual test, of tables and a factor of order n: the first n² numbers of each.
-pub fn answer(n: usize, low: &[i64], high: &[i64], factor: &[i64]) -> FactorAnswer
+pub fn answer(n: usize, low: &[i64], high: &[i64], factor: &[i64]) -> Answer
     requires { ⌜ (n ≤ greatestOrder) × (n * n ≤ length (now low)) × (n * n ≤ length (now high)) × (n * n ≤ length (now factor)) ⌝ }
     ensures { λ r. ⌜ r ≡ factorAnswer n (now (low .entry)) (now (high .entry)) (now (factor .entry)) ⌝ }
 {
     let checked = tables::check_tables(n, low, high);
     if let Checked::Refused(r) = checked {
-        return FactorAnswer::Refused(r);
+        return Answer::Refused(r);
     }
     if !factor_shape(n, factor) {
-        return FactorAnswer::Refused(Refusal::Factor);
+        return Answer::Refused(Refusal::Factor);
     }
     if tested(n, low, high, factor) {
-        FactorAnswer::Accepted
+        Answer::Yes
     } else {
-        FactorAnswer::NotAccepted
+        Answer::No
     }
-}
-
-// Whether three lengths are the size that is called for.
-pub fn three_of(size: usize, a: usize, b: usize, c: usize) -> bool
-    ensures { λ r. ⌜ r ≡ (eqb a size && (eqb b size && eqb c size)) ⌝ }
-{
-    a == size && (b == size && c == size)
 }
 
 // The factor test of document 01, of any numbers at all: n is an order or not, and each slice has any length.
 // Refused by the first of the checks 1 to 6 that fails; else accepted or not, by the residual test.
-pub fn test_factor(n: i64, low: &[i64], high: &[i64], factor: &[i64]) -> FactorAnswer
+pub fn test_factor(n: i64, low: &[i64], high: &[i64], factor: &[i64]) -> Answer
     ensures exact { λ r. ⌜ r ≡ factorTest n (now (low .entry)) (now (high .entry)) (now (factor .entry)) ⌝ }
-    ensures meaning { λ r. ⌜ (r ≡ Answer.Accepted → PositiveDefinite (natAbs n) (at (natAbs n) (now (low .entry))) (at (natAbs n) (now (high .entry)))) ⌝ }
+    ensures meaning { λ r. ⌜ (r ≡ Answer.Yes → PositiveDefinite (natAbs n) (at (natAbs n) (now (low .entry))) (at (natAbs n) (now (high .entry)))) ⌝ }
 {
     if !tables::order_ok(n) {
-        return FactorAnswer::Refused(Refusal::Order);
+        return Answer::Refused(Refusal::Order);
     }
     let m = n as usize;
     let size = m * m;
-    if !three_of(size, low.len(), high.len(), factor.len()) {
-        return FactorAnswer::Refused(Refusal::Length);
+    if !tables::sizes_ok(size, size, low.len(), high.len(), factor.len()) {
+        return Answer::Refused(Refusal::Length);
     }
     answer(m, low, high, factor)
 }

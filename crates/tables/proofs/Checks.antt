@@ -6,18 +6,18 @@ use Prim.Native.Nat.{ℕ, zero, suc, _+_, _*_, _^_, _/_, _%_, _≤_, _<_}
 use native.Mathlib.Decide.{decLt, ℕ-discrete}
 use native.Mathlib.Numerals.{add-one}
 use native.Mathlib.Omega.{arith}
-use lib.Dec.{T}
+use lib.Dec.{T, eqb}
 use lib.IntN.{ℤ, pos, negsuc, negℤ, natAbs, _-ℤ_, +ℤ-idl}
-use lib.Signed.{_≤ℤ_, _<ℤ_, leZ, ltZ, mag, ≤ℤ-refl, clashℤ}
+use lib.Signed.{_≤ℤ_, _<ℤ_, leZ, ltZ, mag, nonNeg, ≤ℤ-refl, clashℤ}
 use mir.Syntax.{w64}
-use mir.Val.{SFits, toZ, ofZ}
-use borrow.Author.Tests.{leb-true, le-leb, not-true, not-false}
+use mir.Val.{Fits, SFits, toZ, ofZ}
+use borrow.Author.Tests.{leb-true, le-leb, eqb-true, not-true, not-false}
 use Rattle.integers.specs.Numbers.{Within}
-use Rattle.integers.proofs.Parts.{≤ℤ-antisym, ≤-out, leZ-true, leZ-false}
-use Rattle.integers.proofs.Machine.{within-neg, within-in, within-low, within-high, fits, lt-yes, lt-no, same-bits}
+use Rattle.integers.proofs.Parts.{≤ℤ-antisym, ≤ℤ-trans, pos-nonneg, ≤-out, leZ-true, leZ-false}
+use Rattle.integers.proofs.Machine.{within-neg, within-in, within-low, within-high, fits, lt-yes, lt-no, same-bits, as-usize}
 use Rattle.tables.specs.Ranges.{greatestOrder, entryRange}
 use Rattle.tables.specs.Matrix.{at}
-use Rattle.tables.specs.Checks.{all, Check, firstRefusal, orderOk, within, allWithin, nowhereCrossed, same, symmetric, tableChecks}
+use Rattle.tables.specs.Checks.{all, Check, firstRefusal, orderOk, sizesOk, within, allWithin, nowhereCrossed, same, symmetric, tableChecks}
 use Rattle.tables.specs.Bounds.{Bounds}
 use Rattle.tables.specs.declared.Refusal.{Refusal}
 use Rattle.tables.specs.declared.Checked.the-variants.{Passed, Refused}
@@ -272,3 +272,17 @@ order-of {n} e = (le-of (pos 1) n (and-left _ _ e), small n (le-of n (pos greate
     small : (n : ℤ) → n ≤ℤ pos greatestOrder → pos 1 ≤ℤ n → natAbs n ≤ greatestOrder
     small (pos m) h k = omega (arith, ≤-out h)
     small (negsuc m) h k = absurd (k .le)
+
+-- so it can be cast
+pub order-usize : {n : ℤ} → SFits w64 n → orderOk n ≡ true → T (nonNeg (toZ w64 (ofZ w64 n))) × Fits w64 (natAbs (toZ w64 (ofZ w64 n)))
+order-usize f e = as-usize f (≤ℤ-trans (pos-nonneg 1) (order-of e .0))
+
+-- buffers that have their sizes have room
+pub sizes-of : (table offer l u v : ℕ) → sizesOk table offer l u v ≡ true → (table ≤ l) × (table ≤ u) × (offer ≤ v)
+unfolding sizesOk
+sizes-of table offer l u v e =
+    let t = and-right (eqb l table) _ e in
+    let a = eqb-true l table (and-left _ _ e) in
+    let b = eqb-true u table (and-left _ _ t) in
+    let c = eqb-true v offer (and-right (eqb u table) _ t) in
+    (omega arith, omega arith, omega arith)

@@ -2,7 +2,7 @@
 use mathlib.Core.Bool.{Bool, true, false, _&&_}
 use mathlib.Core.List.{List, [], _∷_}
 use Prim.Native.Nat.{ℕ, zero, suc, _*_}
-use lib.Dec.{leb}
+use lib.Dec.{leb, eqb}
 use lib.IntN.{ℤ, pos, natAbs}
 use lib.Signed.{leZ}
 use Rattle.tables.specs.Ranges.{greatestOrder, entryRange}
@@ -29,6 +29,10 @@ firstRefusal (c ∷ cs) = elim (c .passes) [ true ↦ firstRefusal cs | false �
 -- 1: n is 1 to 8
 unfoldable pub orderOk : ℤ → Bool
 orderOk n = leZ (pos 1) n && leZ n (pos greatestOrder)
+
+-- 2: two tables have the size of a table, and what is offered with them the size of an offer
+unfoldable pub sizesOk : ℕ → ℕ → ℕ → ℕ → ℕ → Bool
+sizesOk table offer l u v = eqb l table && (eqb u table && eqb v offer)
 
 -- |x| ≤ b
 unfoldable pub within : ℕ → ℤ → Bool

@@ -3,4 +3,5 @@ pub mod Matrix
 pub mod Members
 pub mod Refusals
 pub mod Checks
+pub mod Answers
 pub mod Bounds

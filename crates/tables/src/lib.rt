@@ -7,7 +7,8 @@ ghost use lib.ListN.{length};
 ghost use Rattle.tables.specs.Matrix.{at};
 ghost use Rattle.tables.specs.Ranges.{greatestOrder};
 ghost use Rattle.tables.specs.Refusals.{refusalNumber};
-ghost use Rattle.tables.specs.Checks.{orderOk, within, allWithin, nowhereCrossed, rowSymmetric, symmetric, tableChecks, firstRefusal};
+ghost use Rattle.tables.specs.Answers.{answerCode};
+ghost use Rattle.tables.specs.Checks.{orderOk, sizesOk, within, allWithin, nowhereCrossed, rowSymmetric, symmetric, tableChecks, firstRefusal};
 
 // Orders are 1 to 8.
 pub const GREATEST_ORDER: i64 = 8;
@@ -46,6 +47,13 @@ pub enum Checked {
     Refused(Refusal),
 }
 
+// What a test answers: document 01's 'accepted' and 'yes' are Yes, 'not accepted' and 'no' are No.
+pub enum Answer {
+    Yes,
+    No,
+    Refused(Refusal),
+}
+
 // The number of document 01's table.
 pub fn refusal_number(r: Refusal) -> u8
     ensures { λ k. ⌜ k ≡ refusalNumber r ⌝ }
@@ -69,6 +77,17 @@ pub fn refusal_number(r: Refusal) -> u8
     }
 }
 
+// An answer's number at a C entry: 0 yes, -1 no, else the refusal's.
+pub fn answer_code(a: Answer) -> i64
+    ensures { λ r. ⌜ r ≡ answerCode a ⌝ }
+{
+    match a {
+        Answer::Yes => 0,
+        Answer::No => -1,
+        Answer::Refused(r) => refusal_number(r) as i64,
+    }
+}
+
 // Entry (i, j) of a table of order n.
 pub fn entry(n: usize, t: &[i64], i: usize, j: usize) -> i64
     requires { ⌜ (n ≤ greatestOrder) × (i < n) × (j < n) × (n * n ≤ length (now t)) ⌝ }
@@ -85,6 +104,13 @@ pub fn order_ok(n: i64) -> bool
         return false;
     }
     n <= GREATEST_ORDER
+}
+
+// Whether two tables have the size of a table, and what is offered with them the size of an offer.
+pub fn sizes_ok(table: usize, offer: usize, low: usize, high: usize, offered: usize) -> bool
+    ensures { λ r. ⌜ r ≡ sizesOk table offer low high offered ⌝ }
+{
+    low == table && (high == table && offered == offer)
 }
 
 // Whether |x| is at most the bound.

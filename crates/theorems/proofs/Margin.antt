@@ -268,7 +268,7 @@ coercive-weaken {n} {μ} {ν} {H} h k =
     }
 
 -- ---- the margin of bounds L and U
-form-diagonal : (n : ℕ) (t x : ℕ → ℤ) → form n (λ i j. only i j (t i)) x ≡ sum n (λ i. t i *ℤ (x i *ℤ x i))
+pub form-diagonal : (n : ℕ) (t x : ℕ → ℤ) → form n (λ i j. only i j (t i)) x ≡ sum n (λ i. t i *ℤ (x i *ℤ x i))
 unfolding form
 form-diagonal n t x =
     sum-ext n _ _ (λ i h.

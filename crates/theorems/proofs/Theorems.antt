@@ -16,7 +16,6 @@ use Rattle.cholesky.specs.Scale.{takeOff, scaled}
 use Rattle.cholesky.specs.Factoring.{Factoring, entries, factoring}
 use Rattle.residual.specs.Residual.{accepts}
 use Rattle.residual.specs.FactorTest.{factorShape}
-use Rattle.residual.specs.declared.factor_test.FactorAnswer.the-variants as Answer
 use Rattle.cholesky.proofs.Factored.{Factored}
 use Rattle.theorems.proofs.Accepted.{factored-accepted}
 use Rattle.cholesky.proofs.ScaledMatrix.{Suffices, scaled-symmetric, scaled-top, take-off-suffices}

@@ -3,8 +3,7 @@ use mathlib.Core.Path.{_≡_}
 use mathlib.Core.Bool.{Bool, true, false, _&&_}
 use mathlib.Core.List.{List, [], _∷_, _++_}
 use Prim.Native.Nat.{ℕ, suc, _*_, _≤_, _<_}
-use lib.Dec.{eqb}
-use lib.IntN.{ℤ, pos, negsuc, natAbs, _+ℤ_, _*ℤ_}
+use lib.IntN.{ℤ, pos, natAbs, _+ℤ_, _*ℤ_}
 use lib.Signed.{ltZ}
 use lib.ListN.{length}
 use Rattle.integers.specs.Numbers.{Within}
@@ -12,56 +11,35 @@ use Rattle.integers.specs.Sum.{sum}
 use Rattle.tables.specs.Ranges.{greatestOrder, vectorRange}
 use Rattle.tables.specs.Matrix.{at, nth}
 use Rattle.tables.specs.Bounds.{Bounds}
-use Rattle.tables.specs.Refusals.{refusalNumber}
-use Rattle.tables.specs.Checks.{allWithin, firstRefusal, orderOk, tableChecks}
-use Rattle.tables.specs.declared.Refusal.the-variants.{Order, Length, Vector}
-use Rattle.tables.specs.declared.Checked.{Checked}
-use Rattle.tables.specs.declared.Checked.the-variants.{Passed, Refused}
+use Rattle.tables.specs.Checks.{allWithin, firstRefusal, sizesOk, tableChecks}
+use Rattle.tables.specs.Answers.{after, entryChecks, verdict}
+use Rattle.tables.specs.declared.Refusal.the-variants.{Vector}
+use Rattle.tables.specs.declared.Answer.{Answer}
+use Rattle.tables.specs.declared.Answer.the-variants as Answer
 use Rattle.vectors.specs.Least.{nonzero, shows, Witness}
-use Rattle.vectors.specs.declared.vector_test.VectorAnswer.{VectorAnswer}
-use Rattle.vectors.specs.declared.vector_test.VectorAnswer.the-variants as Answer
 
 -- 7: an offered vector is not all zero, and its entries are within ±2^15
 unfoldable pub vectorShape : ℕ → List ℤ → Bool
 vectorShape n v = nonzero n (nth v) && allWithin vectorRange n v
 
--- the refusal, or else the answer
-unfoldable pub after : Checked → VectorAnswer → VectorAnswer
-after (Refused r) a = Answer.Refused r
-after Passed a = a
-
-abbrev pub verdict : Bool → VectorAnswer
-verdict b = elim b [ true ↦ Answer.Yes | false ↦ Answer.No ]
-
 -- checks 3, 4, 5 and 7, and what the vector shows, of tables and a vector of order n
-unfoldable pub vectorAnswer : ℕ → List ℤ → List ℤ → List ℤ → VectorAnswer
+unfoldable pub vectorAnswer : ℕ → List ℤ → List ℤ → List ℤ → Answer
 vectorAnswer n l u v =
-    after (firstRefusal (tableChecks n l u ++ (record { passes = vectorShape n v; otherwise = Vector } ∷ [])))
+    after Answer.Refused (firstRefusal (tableChecks n l u ++ (record { passes = vectorShape n v; otherwise = Vector } ∷ [])))
     (verdict (shows n (at n l) (at n u) (nth v)))
 
 -- 2: each lent buffer has the size that n calls for
-unfoldable pub vectorSizes : ℕ → ℕ → ℕ → ℕ → Bool
-vectorSizes n l u v = eqb l (n * n) && (eqb u (n * n) && eqb v n)
+abbrev pub vectorSizes : ℕ → ℕ → ℕ → ℕ → Bool
+vectorSizes n = sizesOk (n * n) n
 
 -- the vector test, of anything at all
-unfoldable pub vectorTest : ℤ → List ℤ → List ℤ → List ℤ → VectorAnswer
+unfoldable pub vectorTest : ℤ → List ℤ → List ℤ → List ℤ → Answer
 vectorTest n l u v =
-    after
-    (firstRefusal (
-    record { passes = orderOk n; otherwise = Order }
-    ∷ record { passes = vectorSizes (natAbs n) (length l) (length u) (length v); otherwise = Length }
-    ∷ []
-    ))
+    after Answer.Refused (firstRefusal (entryChecks n (vectorSizes (natAbs n) (length l) (length u) (length v))))
     (vectorAnswer (natAbs n) l u v)
 
--- the number at the C entry: 0, -1, or the refusal's
-unfoldable pub vectorCode : VectorAnswer → ℤ
-vectorCode Answer.Yes = pos 0
-vectorCode Answer.No = negsuc 0
-vectorCode (Answer.Refused r) = pos (refusalNumber r)
-
 -- what an answer means: 'yes' exactly if some member M has x'Mx ≤ 0, for this x, which is nonzero; 'no' if none has
-pub record Meaning (r : VectorAnswer) (n : ℕ) (l u v : List ℤ) : Type 0 where
+pub record Meaning (r : Answer) (n : ℕ) (l u v : List ℤ) : Type 0 where
   pub yes : r ≡ Answer.Yes → Witness n (at n l) (at n u) (nth v)
   pub no : r ≡ Answer.No → Witness n (at n l) (at n u) (nth v) → ⊥
 

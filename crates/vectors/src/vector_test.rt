@@ -6,18 +6,12 @@ ghost use lib.ListN.{length};
 ghost use Rattle.tables.specs.Ranges.{greatestOrder};
 ghost use Rattle.tables.specs.Matrix.{nth};
 ghost use Rattle.vectors.specs.Least.{nonzero};
-ghost use Rattle.vectors.specs.VectorTest.{vectorShape, vectorAnswer, vectorSizes, vectorTest, Meaning};
+ghost use Rattle.vectors.specs.VectorTest.{vectorShape, vectorAnswer, vectorTest, Meaning};
 use crate::least::least_value;
+use tables::Answer;
 use tables::Checked;
 use tables::Refusal;
 use tables::VECTOR_RANGE;
-
-// What the vector test answers: the vector shows 'not definite', or not.
-pub enum VectorAnswer {
-    Yes,
-    No,
-    Refused(Refusal),
-}
 
 // Whether one of the first entries, n of them, is not 0.
 pub fn nonzero(n: usize, x: &[i64]) -> bool
@@ -46,45 +40,36 @@ fn vector_shape(n: usize, x: &[i64]) -> bool
 }
 
 // Checks 3, 4, 5 and 7, and what the vector shows: the first n² numbers of each table, and the first n of the vector.
-pub fn answer(n: usize, low: &[i64], high: &[i64], x: &[i64]) -> VectorAnswer
+pub fn answer(n: usize, low: &[i64], high: &[i64], x: &[i64]) -> Answer
     requires { ⌜ (n ≤ greatestOrder) × (n * n ≤ length (now low)) × (n * n ≤ length (now high)) × (n ≤ length (now x)) ⌝ }
     ensures { λ r. ⌜ r ≡ vectorAnswer n (now (low .entry)) (now (high .entry)) (now (x .entry)) ⌝ }
 {
     let checked = tables::check_tables(n, low, high);
     if let Checked::Refused(r) = checked {
-        return VectorAnswer::Refused(r);
+        return Answer::Refused(r);
     }
     if !vector_shape(n, x) {
-        return VectorAnswer::Refused(Refusal::Vector);
+        return Answer::Refused(Refusal::Vector);
     }
     if least_value(n, low, high, x) <= 0 {
-        VectorAnswer::Yes
+        Answer::Yes
     } else {
-        VectorAnswer::No
+        Answer::No
     }
-}
-
-// Whether the buffers of a call of order n have their sizes: n² numbers for each table, and n for the vector.
-fn sizes_ok(n: usize, low: usize, high: usize, x: usize) -> bool
-    requires { ⌜ n ≤ greatestOrder ⌝ }
-    ensures { λ r. ⌜ r ≡ vectorSizes n low high x ⌝ }
-{
-    let size = n * n;
-    low == size && (high == size && x == n)
 }
 
 // The vector test of document 01, of any numbers at all: n is an order or not, and each slice has any length.
 // Refused by the first of the checks 1 to 5 and 7 that fails; else yes or no.
-pub fn test_vector(n: i64, low: &[i64], high: &[i64], x: &[i64]) -> VectorAnswer
+pub fn test_vector(n: i64, low: &[i64], high: &[i64], x: &[i64]) -> Answer
     ensures exact { λ r. ⌜ r ≡ vectorTest n (now (low .entry)) (now (high .entry)) (now (x .entry)) ⌝ }
     ensures meaning { λ r. ⌜ Meaning r (natAbs n) (now (low .entry)) (now (high .entry)) (now (x .entry)) ⌝ }
 {
     if !tables::order_ok(n) {
-        return VectorAnswer::Refused(Refusal::Order);
+        return Answer::Refused(Refusal::Order);
     }
     let m = n as usize;
-    if !sizes_ok(m, low.len(), high.len(), x.len()) {
-        return VectorAnswer::Refused(Refusal::Length);
+    if !tables::sizes_ok(m * m, m, low.len(), high.len(), x.len()) {
+        return Answer::Refused(Refusal::Length);
     }
     answer(m, low, high, x)
 }

@@ -71,6 +71,10 @@ const WRONG_ORDERS: [i64; 9] = [
 /// One call in this many is made faulty, in each of the ways below.
 const FAULT_SHARE: usize = 12;
 
+/// One call of the box in this many has t > 0 and t(k) = 0 for some k, where the
+/// order allows it.
+const STEPLESS_SHARE: usize = 16;
+
 impl Generator {
     /// A call of the factor test.
     pub fn factor_call(&mut self) -> FactorCall {
@@ -128,6 +132,9 @@ impl Generator {
     /// A call of the box.
     pub fn box_call(&mut self) -> BoxCall {
         let mut problem = self.any_problem();
+        if problem.order >= 3 && self.random.one_in(STEPLESS_SHARE) {
+            problem = self.stepless(problem.order);
+        }
         self.damage_entries(&mut problem);
         self.damage_terms(&mut problem);
         let mut call = BoxCall {
@@ -169,7 +176,9 @@ impl Generator {
             let length = buffers[place].len();
             let change = self.random.pick(&[-8, -7, -1, 1, 4, 8, 800]);
             let changed = self.random.pick(&[0, length.saturating_add_signed(change)]);
-            buffers[place].resize(changed, 0);
+            let more = changed.saturating_sub(length);
+            buffers[place].extend(self.random.bytes(more));
+            buffers[place].truncate(changed);
         }
     }
 
@@ -267,7 +276,7 @@ impl Generator {
         match self.random.index(8) {
             0 | 1 => {
                 let verdict = problem.bounds().map(|bounds| verdict(&bounds));
-                if let Some(Verdict::NotDefinite(x)) = verdict {
+                if let Some(Verdict::NotDefinite(_, x)) = verdict {
                     vector = x.iter().map(|entry| *entry as i64).collect();
                 }
             }

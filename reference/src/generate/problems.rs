@@ -10,6 +10,13 @@ const LINEAR: i64 = LINEAR_RANGE as i64;
 const LIMIT: i64 = LIMIT_RANGE as i64;
 const CENTRE: i64 = CENTRE_RANGE as i64;
 
+/// A matrix with t = 1 and t(3) = 0.
+const STEPLESS: [[i64; 3]; 3] = [
+    [609_851, 712_448, 1296],
+    [712_448, 834_162, 1529],
+    [1296, 1529, 4],
+];
+
 impl Generator {
     /// A problem of the kind and order given.
     pub fn problem(&mut self, kind: ProblemKind, order: usize, wide: bool) -> RawProblem {
@@ -26,6 +33,28 @@ impl Generator {
             (true, _) => self.random.pick(&[1, 2, 5, 100]),
         };
         let (low, high) = self.widened(order, &middle, width);
+        self.with_terms(order, low, high)
+    }
+
+    /// A thin problem of order 3 or more with t > 0 and t(k) = 0 for some k: a
+    /// matrix that has it on three places of the diagonal, 2^20 on the others.
+    pub(super) fn stepless(&mut self, order: usize) -> RawProblem {
+        let first = self.random.index(order - 2);
+        let table = self.symmetric(order, |_, i, j| {
+            let inner = first..first + STEPLESS.len();
+            if inner.contains(&i) && inner.contains(&j) {
+                STEPLESS[i - first][j - first]
+            } else if i == j {
+                ENTRY
+            } else {
+                0
+            }
+        });
+        self.with_terms(order, table.clone(), table)
+    }
+
+    /// The problem of these bounds, with a centre, linear terms and a limit.
+    fn with_terms(&mut self, order: usize, low: Vec<i64>, high: Vec<i64>) -> RawProblem {
         let centre = self.centre(order);
         let linear = self.linear(order, &low, &centre);
         let limit = self.limit(order, &low, &linear, &centre);

@@ -3,7 +3,9 @@
 use std::collections::BTreeMap;
 
 use hankboulder_reference::entries;
-use hankboulder_reference::generate::{Generator, KINDS};
+use hankboulder_reference::generate::{Generator, RawProblem, KINDS};
+use hankboulder_reference::judge::{verdict, List, Verdict};
+use hankboulder_reference::problem::Bounds;
 use hankboulder_reference::program::output;
 
 use crate::support::{judge, numbers, run_box};
@@ -118,8 +120,19 @@ fn files_reach_the_greatest_size_and_one_more() {
     }
 }
 
-/// A witness vector's last nonzero entry is the scale of a solved vector; a
-/// tried vector has no entry beyond ±1.
+/// The list that a verdict names, as a number: the scale of a solved vector, or
+/// 0 for a tried one.
+fn named_scale(problem: &RawProblem) -> Option<i128> {
+    let bounds = Bounds::read(problem.order, &problem.low, &problem.high);
+    match verdict(&bounds.unwrap()) {
+        Verdict::NotDefinite(List::Tried, _) => Some(0),
+        Verdict::NotDefinite(List::Solved(s), _) => Some(s),
+        _ => None,
+    }
+}
+
+/// The same from the vector: the last nonzero entry of a solved vector is its
+/// scale, and a tried vector has no entry beyond ±1.
 fn scale(vector: &[i64]) -> i64 {
     if vector.iter().all(|entry| entry.abs() <= 1) {
         return 0;
@@ -137,9 +150,12 @@ fn verdicts_come_from_every_source() {
         let problem = generator.problem(kind, order, wide);
         let judged = judge(order, &problem.low, &problem.high);
         assert!(judged.code <= 0, "{problem:?}");
-        let source = match judged.code {
-            -1 => scale(&judged.vector),
-            code => 1000 + code,
+        let source = match named_scale(&problem) {
+            Some(s) => {
+                assert_eq!(s, i128::from(scale(&judged.vector)));
+                s as i64
+            }
+            None => 1000 + judged.code,
         };
         *met[usize::from(wide)].entry(source).or_default() += 1;
     }

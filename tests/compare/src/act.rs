@@ -5,7 +5,7 @@ use std::thread;
 use hankboulder_reference::generate::Generator;
 use hankboulder_reference::random::Random;
 
-use crate::counts::Counts;
+use crate::counts::{Counts, Outcome};
 use crate::guarded::{Guarded, Lent, Surroundings};
 use crate::variation::varied;
 
@@ -28,12 +28,19 @@ pub struct Act {
     pub answers: &'static [i64],
     /// Those that it cannot give at order 1
     pub not_at_order_1: &'static [i64],
+    /// How many of the buffers are read: the first ones
+    pub inputs: usize,
+    /// Whether it has a limit
+    pub limited: bool,
     /// A generated call, faulty ones among them
     pub generate: fn(&mut Generator) -> Call,
-    /// The reference's answer; leaves the buffers as they are after the call
-    pub reference: fn(&mut Call) -> i64,
+    /// The reference's outcome; leaves the buffers as they are after the call
+    pub reference: fn(&mut Call) -> Outcome,
     /// The library's answer
     pub library: fn(i64, i64, &[Lent]) -> i64,
+    /// Fails where the library's other entries speak against an answer and the
+    /// buffers after it
+    pub confirm: fn(&Call, i64),
 }
 
 /// Generated calls are made on this many threads at once, each with a seed of
@@ -43,7 +50,28 @@ const THREADS: u64 = 4;
 /// Each generated call is followed by this many variations of it.
 const VARIATIONS: usize = 11;
 
+/// The surroundings of a call that is looked at for its outcome alone
+const PLAIN: Surroundings = Surroundings {
+    fill: 0,
+    shift: 0,
+    null_for_empty: false,
+};
+
 impl Act {
+    /// The library's answer to a call, and the buffers after it.
+    pub fn given(&self, call: &Call) -> (i64, Vec<Vec<u8>>) {
+        let (answer, guarded) = self.call_library(call, PLAIN);
+        let content = |buffer: &Guarded| buffer.content().to_vec();
+        (answer, guarded.iter().map(content).collect())
+    }
+
+    fn call_library(&self, call: &Call, surroundings: Surroundings) -> (i64, Vec<Guarded>) {
+        let guard = |content: &Vec<u8>| Guarded::new(content, surroundings);
+        let mut guarded: Vec<Guarded> = call.buffers.iter().map(guard).collect();
+        let lent: Vec<Lent> = guarded.iter_mut().map(Guarded::lend).collect();
+        ((self.library)(call.n, call.limit, &lent), guarded)
+    }
+
     /// What the library does wrong in a call, if anything: another answer than
     /// the expected one, other buffers after, or a byte beside them written.
     fn fault(
@@ -53,18 +81,17 @@ impl Act {
         after: &[Vec<u8>],
         surroundings: Surroundings,
     ) -> Option<String> {
-        let guard = |content: &Vec<u8>| Guarded::new(content, surroundings);
-        let mut guarded: Vec<Guarded> = call.buffers.iter().map(guard).collect();
-        let lent: Vec<Lent> = guarded.iter_mut().map(Guarded::lend).collect();
-        let given = (self.library)(call.n, call.limit, &lent);
+        let (given, guarded) = self.call_library(call, surroundings);
         if given != answer {
             return Some(format!("answer {given}, not {answer}"));
         }
-        let faults = guarded.iter().zip(after).map(|(buffer, content)| {
+        let buffers = guarded.iter().zip(after).enumerate();
+        let faults = buffers.map(|(place, (buffer, expected))| {
+            let content = buffer.content();
             if !buffer.guards_kept() {
-                Some("a byte beside a buffer was written".to_string())
-            } else if buffer.content() != content {
-                Some(format!("a buffer is not {content:?} after the call"))
+                Some(format!("a byte beside buffer {place} was written"))
+            } else if content != expected {
+                Some(format!("buffer {place} is {content:?}, not {expected:?}"))
             } else {
                 None
             }
@@ -74,7 +101,7 @@ impl Act {
 
     /// Calls the library twice, in different surroundings, and fails where an
     /// answer or a buffer is not the expected one.
-    fn expect_after(&self, call: &Call, answer: i64, after: &[Vec<u8>], shift: usize) {
+    fn expect_shifted(&self, call: &Call, answer: i64, after: &[Vec<u8>], shift: usize) {
         for (fill, null_for_empty) in [(0x00, true), (0xA5, false)] {
             let surroundings = Surroundings {
                 fill,
@@ -89,15 +116,21 @@ impl Act {
 
     /// Fails where the library gives another answer or changes a buffer.
     pub fn expect(&self, call: &Call, answer: i64) {
-        self.expect_after(call, answer, &call.buffers, 0);
+        self.expect_after(call, answer, &call.buffers);
     }
 
-    /// Fails where the library and the reference differ; their common answer.
-    pub fn agree(&self, call: &Call, shift: usize) -> i64 {
+    /// Fails where the library gives another answer or leaves other buffers.
+    pub fn expect_after(&self, call: &Call, answer: i64, after: &[Vec<u8>]) {
+        self.expect_shifted(call, answer, after, 0);
+    }
+
+    /// Fails where the library and the reference differ; their common outcome.
+    pub fn agree(&self, call: &Call, shift: usize) -> Outcome {
         let mut after = call.clone();
-        let answer = (self.reference)(&mut after);
-        self.expect_after(call, answer, &after.buffers, shift);
-        answer
+        let outcome = (self.reference)(&mut after);
+        self.expect_shifted(call, outcome.answer, &after.buffers, shift);
+        (self.confirm)(&after, outcome.answer);
+        outcome
     }
 
     /// Compares generated calls and variations of them, and counts the calls.
@@ -123,7 +156,7 @@ impl Act {
             let call = (self.generate)(&mut generator);
             counts.add(call.n, self.agree(&call, random.index(8)));
             for _ in 0..VARIATIONS {
-                let call = varied(&call, &mut random);
+                let call = varied(&call, self.inputs, self.limited, &mut random);
                 counts.add(call.n, self.agree(&call, random.index(8)));
             }
         }

@@ -1,23 +1,88 @@
-//! How often each answer was given at each order.
+//! How often each outcome was met at each order.
 
 use std::collections::BTreeMap;
 use std::fmt;
 use std::iter::Sum;
 
+use hankboulder_reference::judge::List;
+
+/// How an answer came about, where the answer leaves it open.
+#[derive(Clone, Copy, Debug, PartialEq, Eq, PartialOrd, Ord)]
+pub enum Detail {
+    /// The vector written by the judge is from this list.
+    From(List),
+    /// The box is refused by 3, and only numbers of this kind are beyond their
+    /// range.
+    Beyond(Kind),
+    /// The box is given, though t(k) = 0 for some k.
+    Stepless,
+}
+
+/// The kinds of numbers that check 3 asks of the box.
+#[derive(Clone, Copy, Debug, PartialEq, Eq, PartialOrd, Ord)]
+#[allow(missing_docs)]
+pub enum Kind {
+    Low,
+    High,
+    Linear,
+    Limit,
+    Centre,
+}
+
+/// Every kind.
+pub const KINDS: [Kind; 5] = [
+    Kind::Low,
+    Kind::High,
+    Kind::Linear,
+    Kind::Limit,
+    Kind::Centre,
+];
+
+/// What a call comes to.
+#[derive(Clone, Copy, Debug, PartialEq, Eq, PartialOrd, Ord)]
+pub struct Outcome {
+    /// The answer
+    pub answer: i64,
+    /// How it came about
+    pub detail: Option<Detail>,
+}
+
+impl From<i64> for Outcome {
+    fn from(answer: i64) -> Outcome {
+        Outcome {
+            answer,
+            detail: None,
+        }
+    }
+}
+
+impl fmt::Display for Outcome {
+    fn fmt(&self, f: &mut fmt::Formatter) -> fmt::Result {
+        write!(f, "answer {}", self.answer)?;
+        match self.detail {
+            None => Ok(()),
+            Some(Detail::From(List::Tried)) => write!(f, ", tried vector"),
+            Some(Detail::From(List::Solved(s))) => write!(f, ", solved vector with s = {s}"),
+            Some(Detail::Beyond(kind)) => write!(f, ", by {kind:?} alone"),
+            Some(Detail::Stepless) => write!(f, ", t(k) = 0 for some k"),
+        }
+    }
+}
+
 /// The orders that check 1 lets through.
 pub const ORDERS: std::ops::RangeInclusive<i64> = 1..=8;
 
-/// Calls by order and answer. All orders out of range are counted as one.
+/// Calls by order and outcome. All orders out of range are counted as one.
 #[derive(Clone, Debug, Default, PartialEq, Eq)]
 pub struct Counts {
-    calls: BTreeMap<(Option<i64>, i64), usize>,
+    calls: BTreeMap<(Option<i64>, Outcome), usize>,
 }
 
 impl Counts {
     /// Counts a call.
-    pub fn add(&mut self, n: i64, answer: i64) {
+    pub fn add(&mut self, n: i64, outcome: Outcome) {
         let order = Some(n).filter(|order| ORDERS.contains(order));
-        *self.calls.entry((order, answer)).or_default() += 1;
+        *self.calls.entry((order, outcome)).or_default() += 1;
     }
 
     /// All calls.
@@ -27,13 +92,23 @@ impl Counts {
 
     /// Calls of an order; `None` stands for all orders out of range.
     pub fn of_order(&self, order: Option<i64>) -> usize {
-        let of_order = self.calls.iter().filter(|((n, _), _)| *n == order);
-        of_order.map(|(_, count)| *count).sum()
+        self.of(order, |_| true)
     }
 
     /// Calls of an order with an answer.
     pub fn of_answer(&self, order: Option<i64>, answer: i64) -> usize {
-        self.calls.get(&(order, answer)).copied().unwrap_or(0)
+        self.of(order, |outcome| outcome.answer == answer)
+    }
+
+    /// Calls of an order with an answer that came about so.
+    pub fn of_detail(&self, order: Option<i64>, detail: Detail) -> usize {
+        self.of(order, |outcome| outcome.detail == Some(detail))
+    }
+
+    fn of(&self, order: Option<i64>, counted: impl Fn(&Outcome) -> bool) -> usize {
+        let calls = self.calls.iter();
+        let calls = calls.filter(|((n, outcome), _)| *n == order && counted(outcome));
+        calls.map(|(_, count)| *count).sum()
     }
 }
 
@@ -49,9 +124,9 @@ impl Sum for Counts {
 
 impl fmt::Display for Counts {
     fn fmt(&self, f: &mut fmt::Formatter) -> fmt::Result {
-        for ((order, answer), count) in &self.calls {
+        for ((order, outcome), count) in &self.calls {
             let order = order.map_or("out of range".to_string(), |n| n.to_string());
-            write!(f, "\n  order {order}, answer {answer}: {count} calls")?;
+            write!(f, "\n  order {order}, {outcome}: {count} calls")?;
         }
         Ok(())
     }

@@ -9,16 +9,24 @@
 
 mod act;
 mod counts;
+pub mod enclosure;
 mod guarded;
+pub mod judge;
 pub mod test_factor;
 pub mod test_vector;
 mod variation;
 
 pub use act::{Act, Call};
-pub use counts::Counts;
+pub use counts::{Counts, Detail, Kind, Outcome, KINDS};
 pub use guarded::Lent;
 
 /// Numbers as 8 bytes each, low byte first.
 pub fn bytes(numbers: &[i64]) -> Vec<u8> {
     numbers.iter().flat_map(|m| m.to_le_bytes()).collect()
+}
+
+/// The numbers of 8 bytes each.
+pub fn numbers(bytes: &[u8]) -> Vec<i64> {
+    let number = |chunk: &[u8]| i64::from_le_bytes(chunk.try_into().expect("8 bytes"));
+    bytes.chunks(8).map(number).collect()
 }

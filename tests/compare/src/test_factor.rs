@@ -4,6 +4,7 @@ use hankboulder_reference::entries;
 use hankboulder_reference::generate::Generator;
 
 use crate::act::{Act, Call};
+use crate::counts::Outcome;
 use crate::guarded::Lent;
 
 extern "C" {
@@ -24,9 +25,12 @@ pub const TEST_FACTOR: Act = Act {
     answers: &[0, -1, 1, 2, 3, 4, 5, 6],
     // A table of order 1 is symmetric.
     not_at_order_1: &[5],
+    inputs: 3,
+    limited: false,
     generate,
     reference,
     library,
+    confirm: |_, _| {},
 };
 
 fn generate(generator: &mut Generator) -> Call {
@@ -38,11 +42,11 @@ fn generate(generator: &mut Generator) -> Call {
     }
 }
 
-fn reference(call: &mut Call) -> i64 {
+fn reference(call: &mut Call) -> Outcome {
     let [low, high, factor] = &call.buffers[..] else {
         unreachable!("the factor test has three buffers");
     };
-    entries::test_factor(call.n, low, high, factor)
+    entries::test_factor(call.n, low, high, factor).into()
 }
 
 fn library(n: i64, _limit: i64, lent: &[Lent]) -> i64 {

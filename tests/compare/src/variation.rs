@@ -6,34 +6,23 @@ use crate::act::Call;
 
 const NUMBER: usize = 8;
 
-/// The ends of the ranges of vectors, entries and factors, numbers beside
-/// them, and the ends of 64 bits.
-const CHOICES: [i64; 17] = [
-    0,
-    1,
-    -1,
-    1 << 15,
-    -(1 << 15),
-    (1 << 15) + 1,
-    -(1 << 15) - 1,
-    1 << 20,
-    -(1 << 20),
-    (1 << 20) + 1,
-    -(1 << 20) - 1,
-    1 << 26,
-    -(1 << 26),
-    (1 << 26) + 1,
-    -(1 << 26) - 1,
-    i64::MIN,
-    i64::MAX,
-];
+/// Numbers of any kind.
+const CHOICES: [i64; 5] = [0, 1, -1, i64::MIN, i64::MAX];
 
-/// The call with one number changed in one buffer. In a symmetric pair of
-/// places the other is mostly changed with it.
-pub fn varied(call: &Call, random: &mut Random) -> Call {
+/// The ranges of centres, vectors, entries, factors, linear terms and limits.
+const RANGES: [i64; 6] = [1 << 12, 1 << 15, 1 << 20, 1 << 26, 1 << 36, 1 << 54];
+
+/// The call with one number changed in one of its inputs: the first buffers, and
+/// the limit where it has one. In a symmetric pair of places the other is mostly
+/// changed with it.
+pub fn varied(call: &Call, inputs: usize, limited: bool, random: &mut Random) -> Call {
     let mut varied = call.clone();
-    let buffer = random.index(varied.buffers.len());
-    let buffer = &mut varied.buffers[buffer];
+    let input = random.index(inputs + usize::from(limited));
+    if input == inputs {
+        varied.limit = changed(call.limit, random);
+        return varied;
+    }
+    let buffer = &mut varied.buffers[input];
     let count = buffer.len() / NUMBER;
     if count == 0 {
         return varied;
@@ -53,10 +42,12 @@ pub fn varied(call: &Call, random: &mut Random) -> Call {
 /// A number a little or much different.
 fn changed(number: i64, random: &mut Random) -> i64 {
     let choice = random.pick(&CHOICES);
+    let end = random.pick(&RANGES) + random.between(0, 1);
     let step = random.pick(&[1, 1, 2, 100, 1 << 16]);
-    match random.index(12) {
+    match random.index(24) {
         0 => choice,
-        1 => number ^ (1 << random.index(64)),
+        1 => random.pick(&[end, -end]),
+        2 | 3 => number ^ (1 << random.index(64)),
         _ => number.saturating_add(random.within(step)),
     }
 }

@@ -134,7 +134,7 @@ fn sums_of_the_greatest_magnitudes_agree_with_the_reference() {
                 }
                 test.factor[place] = random.pick(&[-FACTOR_RANGE, FACTOR_RANGE]);
             }
-            let answer = TEST_FACTOR.agree(&test.call(), turn);
+            let answer = TEST_FACTOR.agree(&test.call(), turn).answer;
             let expected = if order == 1 { ACCEPTED } else { NOT_ACCEPTED };
             assert_eq!(answer, expected);
         }

@@ -2,7 +2,9 @@
 //! answer, or a literal worked from the rules.
 
 mod acceptance;
+mod boxes;
 mod generated;
 mod refusals;
 mod support;
 mod vectors;
+mod verdicts;

@@ -1,17 +1,21 @@
-//! Refusals 1 to 6: each place, the ends of each range, empty and null
-//! buffers, and the order of checks. Expected answers are literals.
+//! Refusals 1 to 5 of every act, and 6: each place, the ends of each range,
+//! empty and null buffers, and the order of all checks. Expected refusals are
+//! literals; what is let through agrees with the reference.
 
 use hankboulder_compare::test_factor::TEST_FACTOR;
+use hankboulder_compare::{bytes, Call};
 
-use crate::support::{places, FactorTest, ENTRY_RANGE, FACTOR_RANGE};
+use crate::support::{beyond, places, Caller, FactorTest, ACTS, ENTRY_RANGE, FACTOR_RANGE, LINEAR};
+
+/// Every act refuses the bounds of a test, and writes nothing.
+fn expect_refused(test: &FactorTest, answer: i64) {
+    for (act, call) in ACTS {
+        act.expect(&call(test), answer);
+    }
+}
 
 fn expect(test: &FactorTest, answer: i64) {
     TEST_FACTOR.expect(&test.call(), answer);
-}
-
-/// A number beyond a range on each side, then the ends of 64 bits.
-fn beyond(range: i64) -> [i64; 4] {
-    [-range - 1, range + 1, i64::MIN, i64::MAX]
 }
 
 #[test]
@@ -19,40 +23,37 @@ fn refusal_1_for_orders_out_of_range_whatever_the_buffers() {
     let wrong = [0, 9, -1, -8, 257, 264, (1 << 32) + 1, (1 << 32) + 8];
     let ends = [1 << 62, -(1 << 32) + 2, i64::MIN, i64::MIN + 1, i64::MAX];
     for n in wrong.into_iter().chain(ends) {
-        for order in 1..=8 {
-            let mut call = FactorTest::accepted(order).call();
+        for (act, call) in ACTS {
+            for order in 1..=8 {
+                let mut call = call(&FactorTest::accepted(order));
+                call.n = n;
+                act.expect(&call, 1);
+            }
+            let mut call = call(&FactorTest::accepted(1));
             call.n = n;
-            TEST_FACTOR.expect(&call, 1);
+            call.buffers.fill(vec![]);
+            act.expect(&call, 1);
         }
-        let mut call = FactorTest::accepted(1).call();
-        call.n = n;
-        call.buffers.fill(vec![]);
-        TEST_FACTOR.expect(&call, 1);
     }
+}
+
+/// The sizes of tables and vectors of every order, and sizes beside one.
+fn sizes_near(size: usize) -> impl Iterator<Item = usize> {
+    let of_orders = (1..=9).flat_map(|order: usize| [8 * order, 8 * order * order]);
+    let beside = [0, 1, size / 8, size - 8, size - 1, size + 1, size + 8, 4096];
+    of_orders.chain(beside)
 }
 
 #[test]
 fn refusal_2_for_every_other_length_of_every_buffer() {
-    for order in 1..=8 {
-        let good = FactorTest::accepted(order).call();
-        let size = 8 * order * order;
-        let of_orders = (1..=9).map(|other: usize| 8 * other * other);
-        let beside = [
-            0,
-            1,
-            order,
-            order * order,
-            size - 8,
-            size - 1,
-            size + 1,
-            size + 8,
-            4096,
-        ];
-        for length in of_orders.chain(beside).filter(|length| *length != size) {
-            for place in 0..good.buffers.len() {
+    for (order, (act, call)) in (1..=8).flat_map(|order| ACTS.map(|act| (order, act))) {
+        let good = call(&FactorTest::accepted(order));
+        for (place, buffer) in good.buffers.iter().enumerate() {
+            let size = buffer.len();
+            for length in sizes_near(size).filter(|length| *length != size) {
                 let mut call = good.clone();
-                call.buffers[place].resize(length, 0);
-                TEST_FACTOR.expect(&call, 2);
+                call.buffers[place].resize(length, 0x5A);
+                act.expect(&call, 2);
             }
         }
     }
@@ -60,16 +61,17 @@ fn refusal_2_for_every_other_length_of_every_buffer() {
 
 #[test]
 fn refusal_2_for_empty_and_null_buffers() {
-    for order in 1..=8 {
-        // Which of the three buffers are empty, at least one.
-        for empty in 1..8 {
-            let mut call = FactorTest::accepted(order).call();
+    for (order, (act, call)) in (1..=8).flat_map(|order| ACTS.map(|act| (order, act))) {
+        let good = call(&FactorTest::accepted(order));
+        // Which of the buffers are empty, at least one.
+        for empty in 1..1 << good.buffers.len() {
+            let mut call = good.clone();
             for (place, buffer) in call.buffers.iter_mut().enumerate() {
                 if empty >> place & 1 == 1 {
                     buffer.clear();
                 }
             }
-            TEST_FACTOR.expect(&call, 2);
+            act.expect(&call, 2);
         }
     }
 }
@@ -77,9 +79,13 @@ fn refusal_2_for_empty_and_null_buffers() {
 #[test]
 fn refusal_2_where_all_buffers_fit_another_order() {
     for (order, other) in (1..=8).flat_map(|order| (1..=8).map(move |other| (order, other))) {
-        let mut call = FactorTest::accepted(order).call();
-        call.n = other;
-        TEST_FACTOR.expect(&call, if other == order as i64 { 0 } else { 2 });
+        for (act, call) in ACTS {
+            let mut call = call(&FactorTest::accepted(order));
+            call.n = other;
+            let refused = act.agree(&call, 0).answer == 2;
+            assert_eq!(refused, other != order as i64);
+        }
+        expect(&FactorTest::accepted(order), 0);
     }
 }
 
@@ -90,10 +96,10 @@ fn refusal_3_at_every_entry_of_the_tables() {
             let mut test = FactorTest::accepted(order);
             let place = test.at(i, j);
             test.low[place] = entry;
-            expect(&test, 3);
+            expect_refused(&test, 3);
             let mut test = FactorTest::accepted(order);
             test.high[place] = entry;
-            expect(&test, 3);
+            expect_refused(&test, 3);
         }
     }
 }
@@ -107,6 +113,10 @@ fn the_ends_of_the_entry_range_pass_3() {
             test.high[place] = ENTRY_RANGE;
         }
         expect(&test, -1);
+        for (act, call) in ACTS {
+            let answer = act.agree(&call(&test), 0).answer;
+            assert!(!(1..=5).contains(&answer), "{}: {answer}", act.name);
+        }
     }
 }
 
@@ -118,7 +128,7 @@ fn refusal_4_at_every_entry() {
             let place = test.at(i, j);
             test.low[place] = low;
             test.high[place] = high;
-            expect(&test, 4);
+            expect_refused(&test, 4);
         }
     }
 }
@@ -130,10 +140,10 @@ fn refusal_5_at_every_pair_of_entries_of_each_table() {
             let mut test = FactorTest::accepted(order);
             let place = test.at(i, j);
             test.low[place] = -change;
-            expect(&test, 5);
+            expect_refused(&test, 5);
             test.low[place] = 0;
             test.high[place] = change;
-            expect(&test, 5);
+            expect_refused(&test, 5);
         }
     }
 }
@@ -172,40 +182,62 @@ fn the_ends_of_the_factor_range_pass_6() {
     }
 }
 
-/// A call with the faults given, each in a place of its own.
-fn faulty(order: usize, faults: &[i64]) -> hankboulder_compare::Call {
-    let mut test = FactorTest::accepted(order);
-    let last = test.at(order - 1, order - 1);
-    let corner = test.at(order - 1, 0);
-    let mut shorter = false;
-    let mut n = order as i64;
-    for fault in faults {
-        match fault {
-            1 => n = -n,
-            2 => shorter = true,
-            3 => test.high[last] = i64::MAX,
-            4 => test.low[0] = 4,
-            5 => test.low[corner] -= 1,
-            _ => test.factor[last] = i64::MIN,
+/// Puts a fault of the tables or of the factor into a test.
+fn put_fault(test: &mut FactorTest, fault: i64) {
+    let last = test.at(test.order - 1, test.order - 1);
+    let corner = test.at(test.order - 1, 0);
+    match fault {
+        3 => test.high[last] = i64::MAX,
+        4 => test.low[0] = 4,
+        5 => test.low[corner] -= 1,
+        6 => test.factor[last] = i64::MIN,
+        8 => {
+            test.low[0] = 1;
+            test.high[0] = 1;
         }
+        _ => {}
     }
-    let mut call = test.call();
-    call.n = n;
-    if shorter {
-        call.buffers[2].pop();
+}
+
+/// Puts any other fault into a call.
+fn put_other_fault(call: &mut Call, fault: i64) {
+    match fault {
+        1 => call.n = -call.n,
+        2 => {
+            call.buffers.last_mut().expect("an act has buffers").pop();
+        }
+        // The vector
+        7 => call.buffers[2].fill(0),
+        9 => call.buffers[LINEAR][..8].copy_from_slice(&bytes(&[ENTRY_RANGE + 1])),
+        _ => {}
+    }
+}
+
+/// A call of an act with the faults given. They leave each other standing where
+/// those of earlier checks are put last.
+fn faulty(call: Caller, order: usize, faults: &[i64]) -> Call {
+    let mut test = FactorTest::accepted(order);
+    for fault in faults.iter().rev() {
+        put_fault(&mut test, *fault);
+    }
+    let mut call = call(&test);
+    for fault in faults.iter().rev() {
+        put_other_fault(&mut call, *fault);
     }
     call
 }
 
 #[test]
 fn of_several_faults_the_first_in_the_order_of_checks_is_given() {
-    for order in 2..=8 {
-        for chosen in 0..64 {
-            let faults: Vec<i64> = (1..=6)
-                .filter(|fault| chosen >> (fault - 1) & 1 == 1)
+    for (order, (act, call)) in (2..=8).flat_map(|order| ACTS.map(|act| (order, act))) {
+        let refusals = act.answers.iter().copied().filter(|answer| *answer > 0);
+        let refusals: Vec<i64> = refusals.collect();
+        for chosen in 1..1 << refusals.len() {
+            let faults: Vec<i64> = (0..refusals.len())
+                .filter(|place| chosen >> place & 1 == 1)
+                .map(|place| refusals[place])
                 .collect();
-            let first = faults.first().copied().unwrap_or(0);
-            TEST_FACTOR.expect(&faulty(order, &faults), first);
+            act.expect(&faulty(call, order, &faults), faults[0]);
         }
     }
 }

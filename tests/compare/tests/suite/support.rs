@@ -1,6 +1,11 @@
-//! Calls of the factor test from numbers.
+//! Calls from numbers.
 
-use hankboulder_compare::{bytes, Call};
+use hankboulder_compare::enclosure::BOX;
+use hankboulder_compare::judge::JUDGE;
+use hankboulder_compare::test_factor::TEST_FACTOR;
+use hankboulder_compare::test_vector::TEST_VECTOR;
+use hankboulder_compare::{bytes, Act, Call};
+use hankboulder_reference::random::Random;
 
 pub const ENTRY_RANGE: i64 = 1 << 20;
 pub const FACTOR_RANGE: i64 = 1 << 26;
@@ -40,22 +45,72 @@ impl FactorTest {
     }
 
     pub fn call(&self) -> Call {
-        Call {
-            n: self.order as i64,
-            limit: 0,
-            buffers: [&self.low, &self.high, &self.factor]
-                .map(|numbers| bytes(numbers))
-                .to_vec(),
-        }
+        call_on(&self.low, &self.high, &[bytes(&self.factor)])
     }
 }
 
-fn square(order: usize, diagonal: i64, others: i64) -> Vec<i64> {
+/// Makes a call of an act on the bounds of a factor test.
+pub type Caller = fn(&FactorTest) -> Call;
+
+/// Every act on bounds.
+pub const ACTS: [(&Act, Caller); 4] = [
+    (&TEST_FACTOR, FactorTest::call),
+    (&TEST_VECTOR, |test| {
+        let ones = vec![1; test.order];
+        call_on(&test.low, &test.high, &[bytes(&ones)])
+    }),
+    (&JUDGE, |test| judge_call(&test.low, &test.high)),
+    (&BOX, |test| {
+        let zeros = vec![0; test.order];
+        box_call(&test.low, &test.high, &zeros, 0, &zeros)
+    }),
+];
+
+/// A call of the judge, whose outputs hold random bytes.
+pub fn judge_call(low: &[i64], high: &[i64]) -> Call {
+    let order = low.len().isqrt();
+    let mut random = Random::new(order as u64);
+    let mut output = |count: usize| random.bytes(8 * count);
+    call_on(low, high, &[output(order * order), output(order)])
+}
+
+/// The places of the box's buffers after the bounds
+pub const LINEAR: usize = 2;
+pub const CENTRE: usize = 3;
+pub const SIDES: usize = 4;
+
+/// A call of the box, whose sides hold random bytes.
+pub fn box_call(low: &[i64], high: &[i64], linear: &[i64], limit: i64, centre: &[i64]) -> Call {
+    let order = linear.len();
+    let sides = Random::new(order as u64).bytes(16 * order);
+    let others = [bytes(linear), bytes(centre), sides];
+    Call {
+        limit,
+        ..call_on(low, high, &others)
+    }
+}
+
+/// A call on bounds, with the buffers that follow them.
+pub fn call_on(low: &[i64], high: &[i64], others: &[Vec<u8>]) -> Call {
+    Call {
+        n: low.len().isqrt() as i64,
+        limit: 0,
+        buffers: [&[bytes(low), bytes(high)], others].concat(),
+    }
+}
+
+/// A table with one number on the diagonal and another elsewhere.
+pub fn square(order: usize, diagonal: i64, others: i64) -> Vec<i64> {
     let mut table = vec![others; order * order];
     for i in 0..order {
         table[i * order + i] = diagonal;
     }
     table
+}
+
+/// A number beyond a range on each side, then the ends of 64 bits.
+pub fn beyond(range: i64) -> [i64; 4] {
+    [-range - 1, range + 1, i64::MIN, i64::MAX]
 }
 
 /// All places (i, j) at every order.

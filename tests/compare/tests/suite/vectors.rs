@@ -1,37 +1,20 @@
 //! Which vectors show 'not definite', and refusal 7. Expected answers are
 //! literals worked from the rules.
 
+use hankboulder_compare::bytes;
 use hankboulder_compare::test_vector::TEST_VECTOR;
-use hankboulder_compare::{bytes, Call};
+
+use crate::support::{call_on, square, ENTRY_RANGE};
 
 const YES: i64 = 0;
 const NO: i64 = -1;
 const REFUSED_RANGE: i64 = 3;
 const REFUSED_VECTOR: i64 = 7;
 
-/// The ends of the ranges
 const VECTOR_RANGE: i64 = 1 << 15;
-const ENTRY_RANGE: i64 = 1 << 20;
 
 fn expect(low: &[i64], high: &[i64], vector: &[i64], answer: i64) {
-    let call = Call {
-        n: vector.len() as i64,
-        limit: 0,
-        buffers: vec![bytes(low), bytes(high), bytes(vector)],
-    };
-    TEST_VECTOR.expect(&call, answer);
-}
-
-/// A table with one number on the diagonal and another elsewhere.
-fn even(order: usize, diagonal: i64, other: i64) -> Vec<i64> {
-    let place = |k: usize| {
-        if k / order == k % order {
-            diagonal
-        } else {
-            other
-        }
-    };
-    (0..order * order).map(place).collect()
+    TEST_VECTOR.expect(&call_on(low, high, &[bytes(vector)]), answer);
 }
 
 /// The vector with one number everywhere.
@@ -67,7 +50,7 @@ fn the_bound_that_counts_is_low_where_the_product_is_positive() {
 #[test]
 fn a_least_value_of_0_shows_it_and_of_1_does_not() {
     for order in 2..=8 {
-        let table = even(order, order as i64 - 1, -1);
+        let table = square(order, order as i64 - 1, -1);
         expect(&table, &table, &constant(order, 1), YES);
         expect(&table, &table, &constant(order, -VECTOR_RANGE), YES);
         let mut more = table.clone();
@@ -84,14 +67,14 @@ fn the_greatest_magnitudes_are_answered() {
             let vector = constant(order, entry);
             let (low, high) = (-ENTRY_RANGE, ENTRY_RANGE);
             expect(
-                &even(order, low, low),
-                &even(order, high, high),
+                &square(order, low, low),
+                &square(order, high, high),
                 &vector,
                 YES,
             );
             expect(
-                &even(order, high, high),
-                &even(order, high, high),
+                &square(order, high, high),
+                &square(order, high, high),
                 &vector,
                 NO,
             );
@@ -102,7 +85,7 @@ fn the_greatest_magnitudes_are_answered() {
 #[test]
 fn refusal_7_for_the_zero_vector_and_for_an_entry_beyond_its_range() {
     for order in 1..=8 {
-        let table = even(order, 1, 0);
+        let table = square(order, 1, 0);
         expect(&table, &table, &constant(order, 0), REFUSED_VECTOR);
         for k in 0..order {
             for beyond in [VECTOR_RANGE + 1, -VECTOR_RANGE - 1, i64::MIN, i64::MAX] {
@@ -119,7 +102,7 @@ fn refusal_7_for_the_zero_vector_and_for_an_entry_beyond_its_range() {
             }
         }
         // Check 3 comes before 7.
-        let wide = even(order, ENTRY_RANGE + 1, 0);
+        let wide = square(order, ENTRY_RANGE + 1, 0);
         expect(&table, &wide, &constant(order, 0), REFUSED_RANGE);
     }
 }

@@ -1,12 +1,14 @@
-use mathlib.Core.Path.{_≡_, sym, _∙_}
+use mathlib.Core.Path.{_≡_, sym, ap, _∙_}
 use mathlib.Core.Bool.{true}
 use borrow.Author.Needs.{needs}
 use Rattle.tables.specs.Matrix.{at}
 use Rattle.tables.specs.Checks.{firstRefusal, tableChecks}
 use Rattle.tables.specs.declared.Checked.the-variants.{Passed}
+use Rattle.tables.specs.Answers.{verdict}
+use Rattle.tables.specs.declared.Answer.the-variants as Answer
 use Rattle.tables.proofs.Checks.{call-false, call-true, passed-bounds}
-use Rattle.residual.specs.FactorTest.{factorShape}
-use Rattle.residual.proofs.Offers.{answer-refused, answer-shape, answer-accepted, answer-not}
+use Rattle.tables.proofs.Answers.{tables-refused, offer-refused, offer-passed}
+use Rattle.residual.specs.FactorTest.{factorShape, factorAnswer}
 use Rattle.residual.proofs.factor_test.answer.Statement.{statement}
 use Rattle.residual.proofs.factor_test.answer.Tie as tie
 
@@ -19,15 +21,16 @@ shaped : (c : tie.Else1) → let a = c .before .before .before .before .before .
 shaped c = call-true (c .before .factor-shape .ensures) (c .if1 .left)
 
 pub answer-spec : {M : Type 1} → statement M
+unfolding factorAnswer
 answer-spec =
     tie.close
     (tie.spec
     (λ c κs. search needs)
     (λ c. search needs)
-    (λ c. let m = c .before .before .before in answer-refused _ _ _ _ (c .before .checked .given .0 .0) (sym (m .check-tables .ensures) ∙ c .before .checked .given .1))
+    (λ c. let m = c .before .before .before in tables-refused Answer.Refused _ _ _ (c .before .checked .given .0 .0) (sym (m .check-tables .ensures) ∙ c .before .checked .given .1))
     (λ c. search needs)
     (λ c κs. search needs)
-    (λ c. answer-shape _ _ _ _ (passed (c .before .before)) (call-false (c .before .factor-shape .ensures) (c .if1 .taken)))
+    (λ c. offer-refused Answer.Refused _ _ _ (passed (c .before .before)) (call-false (c .before .factor-shape .ensures) (c .if1 .taken)))
     (λ c κs.
     let p = c .before .before .before .before .before .pre in
     record {
@@ -38,5 +41,5 @@ answer-spec =
       bounds = passed-bounds _ _ _ (passed (c .before .before));
       shape = shaped c;
     })
-    (λ c. let e = c .before .before in answer-accepted _ _ _ _ (passed (e .before .before)) (shaped e) (sym (c .before .tested .ensures) ∙ c .if2 .taken))
-    (λ c. let e = c .before .before in answer-not _ _ _ _ (passed (e .before .before)) (shaped e) (sym (c .before .tested .ensures) ∙ c .if2 .left)))
+    (λ c. let e = c .before .before in ap verdict (sym (c .if2 .taken) ∙ c .before .tested .ensures) ∙ offer-passed Answer.Refused _ _ _ (passed (e .before .before)) (shaped e))
+    (λ c. let e = c .before .before in ap verdict (sym (c .if2 .left) ∙ c .before .tested .ensures) ∙ offer-passed Answer.Refused _ _ _ (passed (e .before .before)) (shaped e)))

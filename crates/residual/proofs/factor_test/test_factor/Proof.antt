@@ -1,71 +1,62 @@
-use mathlib.Core.Path.{_≡_, sym, _∙_}
-use mathlib.Core.Bool.{true, false}
-use mathlib.Core.List.{List}
-use Prim.Native.Nat.{_≤_}
-use native.Mathlib.Nat.{mul-le-mul}
+use mathlib.Core.Path.{_≡_, _∙_}
+use mathlib.Core.Bool.{Bool, true, false}
 use native.Mathlib.Omega.{arith}
 use borrow.Author.Needs.{needs}
-use lib.IntN.{ℤ, natAbs}
-use lib.Signed.{_≤ℤ_}
-use Rattle.integers.proofs.Parts.{≤ℤ-trans, pos-nonneg}
-use Rattle.integers.proofs.Machine.{clean, as-usize}
+use lib.IntN.{natAbs}
+use lib.ListN.{length}
+use Rattle.integers.proofs.Machine.{clean}
 use Rattle.tables.specs.Matrix.{at}
 use Rattle.tables.specs.Members.{PositiveDefinite}
 use Rattle.tables.specs.Checks.{orderOk}
-use Rattle.tables.proofs.Checks.{call-false, call-true, order-of}
-use Rattle.residual.specs.FactorTest.{factorTest, threeTables}
-use Rattle.residual.specs.declared.factor_test.FactorAnswer.{FactorAnswer}
-use Rattle.residual.specs.declared.factor_test.FactorAnswer.the-variants as Answer
+use Rattle.tables.specs.declared.Answer.{Answer}
+use Rattle.tables.specs.declared.Answer.the-variants as Answer
+use Rattle.tables.proofs.Matrix.{at-most-64}
+use Rattle.tables.proofs.Checks.{call-false, call-true, order-of, order-usize, sizes-of}
+use Rattle.tables.proofs.Answers.{order-refused, size-refused, entry-passed, exactly}
+use Rattle.residual.specs.FactorTest.{factorSizes, factorTest}
 use Rattle.residual.proofs.Meaning.{test-definite}
-use Rattle.residual.proofs.Offers.{test-order, test-length, test-answer, three-sizes}
 use Rattle.residual.proofs.factor_test.test_factor.Statement.{statement}
 use Rattle.residual.proofs.factor_test.test_factor.Tie as tie
-
--- an answer that is the definition's means what demand 3 says
-exactly : (n : ℤ) (l u f : List ℤ) (r : FactorAnswer) → r ≡ factorTest n l u f →
-    (r ≡ factorTest n l u f) × (r ≡ Answer.Accepted → PositiveDefinite (natAbs n) (at (natAbs n) l) (at (natAbs n) u))
-exactly n l u f r e = (e, λ a. test-definite l u f n (sym e ∙ a))
 
 ordered : (c : tie.Else1) → orderOk (c .before .before .args .n) ≡ true
 ordered c = rw (clean (c .before .before .fits .n)) at (call-true (c .before .order-ok .ensures) (c .if1 .left))
 
-sized : (c : tie.Else2) → let a = c .before .before .before .before .args in threeTables (natAbs (a .n)) (a .low .now) (a .high .now) (a .factor .now) ≡ true
-unfolding threeTables
-sized c = rw (clean (c .before .before .before .before .fits .n)) at (call-true (c .before .three-of .ensures) (c .if2 .left))
+abbrev size : tie.Start → Bool
+size s = let a = s .args in factorSizes (natAbs (a .n)) (length (a .low .now)) (length (a .high .now)) (length (a .factor .now))
 
-unsized : (c : tie.Then2) → let a = c .before .before .before .before .args in threeTables (natAbs (a .n)) (a .low .now) (a .high .now) (a .factor .now) ≡ false
-unfolding threeTables
-unsized c = rw (clean (c .before .before .before .before .fits .n)) at (call-false (c .before .three-of .ensures) (c .if2 .taken))
+sized : (c : tie.Else2) → size (c .before .before .before .before) ≡ true
+sized c = rw (clean (c .before .before .before .before .fits .n)) at (call-true (c .before .sizes-ok .ensures) (c .if2 .left))
 
-cast-m : tie.Need-cast-m
-cast-m c = as-usize (c .before .before .fits .n) (≤ℤ-trans (pos-nonneg 1) (order-of (ordered c) .0))
+unsized : (c : tie.Then2) → size (c .before .before .before .before) ≡ false
+unsized c = rw (clean (c .before .before .before .before .fits .n)) at (call-false (c .before .sizes-ok .ensures) (c .if2 .taken))
 
-mul-size : tie.Need-mul-size
-mul-size c =
-    let k = order-of (ordered c) .1 in
-    rw (clean (c .before .before .fits .n)) (record { fits = omega (arith, mul-le-mul k k) })
+-- what an answer means
+abbrev means : tie.Start → Answer → Type 0
+means s r =
+    let a = s .args in
+    r ≡ Answer.Yes → PositiveDefinite (natAbs (a .n)) (at (natAbs (a .n)) (a .low .now)) (at (natAbs (a .n)) (a .high .now))
+
+definite : (s : tie.Start) → let a = s .args in means s (factorTest (a .n) (a .low .now) (a .high .now) (a .factor .now))
+definite s = let a = s .args in test-definite (a .low .now) (a .high .now) (a .factor .now) (a .n)
 
 pub test-factor-spec : {M : Type 1} → statement M
-unfolding threeTables
+unfolding factorTest
 test-factor-spec =
     tie.close
     (tie.spec
     (λ c κs. search needs)
     (λ c.
-    let a = c .before .before .args in
-    exactly (a .n) (a .low .now) (a .high .now) (a .factor .now) _
-    (test-order (a .n) _ _ _ (rw (clean (c .before .before .fits .n)) at (call-false (c .before .order-ok .ensures) (c .if1 .taken)))))
-    cast-m
-    mul-size
+    let s = c .before .before in
+    exactly (means s) (definite s) _ (order-refused Answer.Refused _ _ _ (rw (clean (s .fits .n)) at (call-false (c .before .order-ok .ensures) (c .if1 .taken)))))
+    (λ c. order-usize (c .before .before .fits .n) (ordered c))
+    (λ c. rw (clean (c .before .before .fits .n)) (record { fits = omega (arith, at-most-64 (order-of (ordered c) .1)) }))
     (λ c κs. search needs)
     (λ c.
-    let a = c .before .before .before .before .args in
-    exactly (a .n) (a .low .now) (a .high .now) (a .factor .now) _ (test-length (a .n) _ _ _ (ordered (c .before .before)) (unsized c)))
+    let s = c .before .before .before .before in
+    exactly (means s) (definite s) _ (size-refused Answer.Refused _ _ _ (ordered (c .before .before)) (unsized c)))
     (λ c κs.
     let s = c .before .before .before .before in
-    rw (clean (s .fits .n)) (let z = three-sizes _ _ _ _ (sized c) in (order-of (ordered (c .before .before)) .1, z .0, z .1, z .2)))
+    rw (clean (s .fits .n)) (let z = sizes-of _ _ _ _ _ (sized c) in (order-of (ordered (c .before .before)) .1, z .0, z .1, z .2)))
     (λ c.
     let s = c .before .before .before .before .before in
-    let a = s .args in
-    exactly (a .n) (a .low .now) (a .high .now) (a .factor .now) _
-    ((rw (clean (s .fits .n)) at (c .answer .ensures)) ∙ test-answer (a .n) _ _ _ (ordered (c .before .before .before)) (sized (c .before)))))
+    exactly (means s) (definite s) _ ((rw (clean (s .fits .n)) at (c .answer .ensures)) ∙ entry-passed Answer.Refused _ _ _ (ordered (c .before .before .before)) (sized (c .before)))))

@@ -1,14 +1,14 @@
 use mathlib.Core.Path.{_≡_, sym, _∙_}
 use mathlib.Core.Bool.{true, false}
 use borrow.Author.Needs.{needs}
-use lib.IntN.{pos}
-use Rattle.integers.proofs.Parts.{leZ-true, leZ-false}
-use Rattle.integers.proofs.Machine.{clean-result, le-yes, le-no}
+use Rattle.integers.proofs.Machine.{clean-result}
 use Rattle.tables.specs.Checks.{firstRefusal, tableChecks}
 use Rattle.tables.specs.declared.Checked.the-variants.{Passed}
+use Rattle.tables.specs.declared.Answer.the-variants as Answer
 use Rattle.tables.proofs.Checks.{call-false, call-true}
-use Rattle.vectors.specs.VectorTest.{vectorShape}
-use Rattle.vectors.proofs.Answers.{answer-refused, answer-shape, answer-shows, asked}
+use Rattle.tables.proofs.Answers.{tables-refused, offer-refused}
+use Rattle.vectors.specs.VectorTest.{vectorShape, vectorAnswer}
+use Rattle.vectors.proofs.Answers.{answer-shows, asked}
 use Rattle.vectors.proofs.vector_test.answer.Statement.{statement}
 use Rattle.vectors.proofs.vector_test.answer.Tie as tie
 
@@ -21,15 +21,16 @@ shaped : (c : tie.Else1) → let a = c .before .before .before .before .before .
 shaped c = call-true (c .before .vector-shape .ensures) (c .if1 .left)
 
 pub answer-spec : {M : Type 1} → statement M
+unfolding vectorAnswer
 answer-spec =
     tie.close
     (tie.spec
     (λ c κs. search needs)
     (λ c. search needs)
-    (λ c. let m = c .before .before .before in answer-refused _ _ _ _ (c .before .checked .given .0 .0) (sym (m .check-tables .ensures) ∙ c .before .checked .given .1))
+    (λ c. let m = c .before .before .before in tables-refused Answer.Refused _ _ _ (c .before .checked .given .0 .0) (sym (m .check-tables .ensures) ∙ c .before .checked .given .1))
     (λ c. search needs)
     (λ c κs. search needs)
-    (λ c. answer-shape _ _ _ _ (passed (c .before .before)) (call-false (c .before .vector-shape .ensures) (c .if1 .taken)))
+    (λ c. offer-refused Answer.Refused _ _ _ (passed (c .before .before)) (call-false (c .before .vector-shape .ensures) (c .if1 .taken)))
     (λ c κs. let p = c .before .before .before .before .before .pre in asked _ _ _ _ (passed (c .before .before)) (shaped c) (p .0) (p .1) (p .2) (p .3))
     (λ c.
     let e = c .before .before in

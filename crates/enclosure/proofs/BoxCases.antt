@@ -1,0 +1,152 @@
+-- The box by its steps: flat, far, and else what its numbers give; and what the code states and hands out.
+use mathlib.Core.Path.{_≡_, refl, sym, ap, ap₂, _∙_}
+use mathlib.Core.Bool.{Bool, true, false, _&&_}
+use mathlib.Core.List.{List, [], _∷_, _++_}
+use Prim.Native.Nat.{ℕ, zero, suc, _+_, _*_, _≤_, _<_}
+use native.Mathlib.Omega.{arith}
+use lib.IntN.{ℤ, pos, _+ℤ_, _-ℤ_, _*ℤ_}
+use lib.Signed.{leZ}
+use lib.ListN.{length, set}
+use lib.Seq.{getD-set-same, getD-set-other}
+use borrow.Author.Tests.{eqb-true}
+use lib.Dec.{eqb}
+use native.Mathlib.Decide.{ℕ-discrete}
+use Rattle.integers.specs.Numbers.{Within, minℤ}
+use Rattle.integers.specs.Sum.{sum}
+use Rattle.integers.specs.Division.{ceilDiv}
+use Rattle.integers.specs.Root.{leastRoot}
+use Rattle.integers.proofs.Sums.{sum-ext}
+use Rattle.tables.specs.Ranges.{greatestOrder, linearRange, limitRange, centreRange}
+use Rattle.tables.specs.Matrix.{Matrix, at, nth, tabulate}
+use Rattle.tables.specs.Checks.{all, sizesOk, within, allWithin, firstRefusal, tableChecks}
+use Rattle.tables.specs.declared.Checked.the-variants.{Passed, Refused}
+use Rattle.tables.specs.declared.Refusal.{Refusal}
+use Rattle.tables.specs.declared.Refusal.the-variants.{Range, Flat, Far}
+use Rattle.tables.proofs.Checks.{sizes-of, and-left, and-right, all-at, all-ext, within-of, first-passes, first-refuses, passed-bounds}
+use Rattle.tables.proofs.Answers.{after-refused, after-passed}
+use Rattle.tables.proofs.Matrix.{nth-tabulate}
+use Rattle.steps.specs.Steps.{step, stepAt}
+use Rattle.enclosure.specs.Box.{gradient, atCentre, bound, firstHalf, secondBound, halfSide, sidesFrom, Box, sides, empty, refused, boxOf, gradientRange, boxed, boxChecks, boxAnswer}
+use Rattle.enclosure.proofs.SameBox.{box-same}
+use Rattle.enclosure.specs.Contracts.{Centred, boxIn, Answered}
+use Rattle.enclosure.specs.Act.{Enclosed, handed, boxSizes}
+use Rattle.enclosure.specs.Stating.{stated, Stated}
+use Rattle.enclosure.specs.declared.enclose.BoxAnswer.{BoxAnswer}
+use Rattle.enclosure.specs.declared.enclose.BoxAnswer.the-variants as BoxAnswer
+
+-- ---- the cases
+-- 8, then 9
+abbrev let-through : Bool → Bool → Box → Box
+let-through flat near b = elim flat [ true ↦ refused Flat | false ↦ elim near [ true ↦ b | false ↦ refused Far ] ]
+
+module _ (n : ℕ) (L U : Matrix) (a : ℕ → ℤ) (α : ℤ) (c : ℕ → ℤ) where
+  -- the tests of the definition
+  abbrev near : Bool
+  near = all n (λ k. leZ (nth (tabulate n (gradient n L U a c)) k) (pos gradientRange))
+
+  abbrev last : Box
+  last = boxOf n c (atCentre n L U a c α) (step n L U) (nth (tabulate n (stepAt n L U))) (nth (tabulate n (gradient n L U a c)))
+
+  boxed-is : (x y : Bool) → leZ (step n L U) (pos 0) ≡ x → near ≡ y → boxed n L U a α c ≡ let-through x y last
+  unfolding boxed
+  boxed-is x y e f = ap₂ (λ (x y : Bool). let-through x y last) e f
+
+  pub box-flat : leZ (step n L U) (pos 0) ≡ true → boxed n L U a α c ≡ refused Flat
+  box-flat e = boxed-is true near e refl
+
+  module _ (e : leZ (step n L U) (pos 0) ≡ false) (g : ℕ → ℤ) (h : (k : ℕ) → k < n → g k ≡ gradient n L U a c k) where
+    near-ext : near ≡ all n (λ k. leZ (g k) (pos gradientRange))
+    near-ext = all-ext n _ _ (λ k l. ap (λ (z : ℤ). leZ z (pos gradientRange)) (nth-tabulate n (gradient n L U a c) k l ∙ sym (h k l)))
+
+    pub box-far : all n (λ k. leZ (g k) (pos gradientRange)) ≡ false → boxed n L U a α c ≡ refused Far
+    box-far f = boxed-is false false e (near-ext ∙ f)
+
+    pub box-near : all n (λ k. leZ (g k) (pos gradientRange)) ≡ true → (s : ℕ → ℤ) → ((k : ℕ) → k < n → s k ≡ stepAt n L U k) →
+        boxed n L U a α c ≡ boxOf n c (atCentre n L U a c α) (step n L U) s g
+    box-near f s p =
+        boxed-is false true e (near-ext ∙ f)
+        ∙ box-same n c _ _ _ s _ g (λ k l. nth-tabulate n (stepAt n L U) k l ∙ sym (p k l)) (λ k l. nth-tabulate n (gradient n L U a c) k l ∙ sym (h k l))
+
+-- ---- what the code states
+module _ {b o : Box} {n : ℕ} {x : List ℤ} (e : b ≡ o) where
+  pub stated-sides : Answered o n true x → Stated b n BoxAnswer.Sides x
+  unfolding stated boxIn
+  stated-sides a = record { box = e ∙ a .answer; size = a .size }
+
+  pub stated-empty : Answered o n false x → Stated b n BoxAnswer.Empty x
+  unfolding stated boxIn
+  stated-empty a = record { box = e ∙ a .answer; size = a .size }
+
+pub stated-refused : {b : Box} {r : Refusal} (n : ℕ) {x : List ℤ} → b ≡ refused r → length x ≡ 16 → Stated b n (BoxAnswer.Refused r) x
+unfolding stated
+stated-refused n e h = record { box = e; size = h }
+
+pub stated-by : {b o : Box} {n : ℕ} {r : BoxAnswer} {x : List ℤ} → b ≡ o → Stated o n r x → Stated b n r x
+stated-by e s = record { box = e ∙ s .box; size = s .size }
+
+-- ---- checks 3, 4 and 5
+module _ (n : ℕ) (l u a : List ℤ) (α : ℤ) (c : List ℤ) where
+  -- what check 3 asks beside the tables
+  abbrev inRange : Bool
+  inRange = allWithin linearRange n a && (within limitRange α && allWithin centreRange n c)
+
+  pub answer-range : inRange ≡ false → boxAnswer n l u a α c ≡ refused Range
+  unfolding boxAnswer boxChecks
+  answer-range e = sym (after-refused refused Range _ (first-refuses _ _ e))
+
+  module _ (e : inRange ≡ true) where
+    pub answer-tables : (r : Refusal) → firstRefusal (tableChecks n l u) ≡ Refused r → boxAnswer n l u a α c ≡ refused r
+    unfolding boxAnswer boxChecks
+    answer-tables r f = sym (after-refused refused r _ (first-passes _ _ e ∙ f))
+
+    pub answer-passed : firstRefusal (tableChecks n l u) ≡ Passed → boxAnswer n l u a α c ≡ boxed n (at n l) (at n u) (nth a) α (nth c)
+    unfolding boxAnswer boxChecks
+    answer-passed f = sym (after-passed refused _ (first-passes _ _ e ∙ f))
+
+    pub limit-within : Within limitRange α
+    limit-within = within-of limitRange α (and-left (within limitRange α) (allWithin centreRange n c) (and-right (allWithin linearRange n a) _ e))
+
+    pub centred : n ≤ greatestOrder → n * n ≤ length l → n * n ≤ length u → n ≤ length a → n ≤ length c → firstRefusal (tableChecks n l u) ≡ Passed → Centred n l u a c
+    unfolding allWithin
+    centred o p q r s f = record {
+      tables = record { order = o; low-length = p; high-length = q; bounds = passed-bounds n l u f };
+      linear-length = r;
+      centre-length = s;
+      linear = λ k h. within-of linearRange (nth a k) (all-at _ n (and-left _ (within limitRange α && allWithin centreRange n c) e) k h);
+      centre = λ k h. within-of centreRange (nth c k) (all-at _ n (and-right (within limitRange α) _ (and-right (allWithin linearRange n a) _ e)) k h);
+    }
+
+-- ---- what is handed out with it, in a buffer of any kind
+module _ {A : Type 0} (F : List ℤ → A) (n : ℕ) {b : Box} {r : BoxAnswer} {x : List ℤ} (st : Stated b n r x) (s : A) where
+  given-by : (q : BoxAnswer) → r ≡ q → handed F (stated n q x) s ≡ handed F b s
+  given-by q e = sym (ap (λ (g : Box). handed F g s) (st .box ∙ ap (λ (r : BoxAnswer). stated n r x) e))
+
+  pub given-sides : {s′ : A} → r ≡ BoxAnswer.Sides → s′ ≡ F (tabulate (n + n) (nth x)) → _≡_ {A = Enclosed A} (record { answer = BoxAnswer.Sides; sides = s′ }) (handed F b s)
+  unfolding stated
+  given-sides e w = rw w (given-by BoxAnswer.Sides e)
+
+  pub given-empty : r ≡ BoxAnswer.Empty → _≡_ {A = Enclosed A} (record { answer = BoxAnswer.Empty; sides = s }) (handed F b s)
+  unfolding stated
+  given-empty e = given-by BoxAnswer.Empty e
+
+  pub given-refused : (k : Refusal) → r ≡ BoxAnswer.Refused k → _≡_ {A = Enclosed A} (record { answer = BoxAnswer.Refused k; sides = s }) (handed F b s)
+  unfolding stated
+  given-refused k e = given-by (BoxAnswer.Refused k) e
+
+-- ---- checks 1 and 2 passed
+pub box-sizes-of : (size entries pairs l u a c s : ℕ) → boxSizes size entries pairs l u a c s ≡ true →
+    (size ≤ l) × (size ≤ u) × (entries ≤ a) × (entries ≤ c) × (s ≡ pairs)
+unfolding boxSizes
+box-sizes-of size entries pairs l u a c s e =
+    let z = sizes-of size entries l u a (and-left (sizesOk size entries l u a) (eqb c entries && eqb s pairs) e) in
+    let t = and-right (sizesOk size entries l u a) (eqb c entries && eqb s pairs) e in
+    let q = eqb-true c entries (and-left (eqb c entries) (eqb s pairs) t) in
+    (z .0, z .1, z .2, omega arith, eqb-true s pairs (and-right (eqb c entries) (eqb s pairs) t))
+
+-- one entry more of a list that is being filled
+pub one-more : (p : List ℤ) (m : ℕ) (v : ℤ) (f : ℕ → ℤ) → m < length p → v ≡ f m → (k : ℕ) → k < suc m → (k < m → nth p k ≡ f k) → nth (set p m v) k ≡ f k
+one-more p m v f h e k l g = go (ℕ-discrete k m)
+  where
+    go : Dec (k ≡ m) → nth (set p m v) k ≡ f k
+    go (yes q) = rw q (getD-set-same p m v (pos 0) h ∙ e)
+    go (no q) = getD-set-other p m k v (pos 0) q ∙ g (omega arith)

@@ -1,0 +1,11 @@
+pub mod Strong
+pub mod AtCentre
+pub mod Halves
+pub mod Enclosing
+pub mod BoxMeanings
+pub mod BoxCases
+pub mod Quotients
+pub mod Magnitudes
+pub mod HalfSides
+pub mod SameBox
+pub mod BoxFitting

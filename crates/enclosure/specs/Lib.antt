@@ -1,0 +1,5 @@
+pub mod Box
+pub mod Points
+pub mod Contracts
+pub mod Act
+pub mod Stating

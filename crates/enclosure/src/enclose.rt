@@ -1,0 +1,189 @@
+// The box act.
+ghost use mathlib.Core.Path.{_≡_};
+ghost use mathlib.Core.Bool.{_&&_};
+ghost use mathlib.Core.List.{List};
+ghost use Prim.Native.Nat.{_+_, _*_, _≤_};
+ghost use lib.IntN.{ℤ, natAbs};
+ghost use lib.ListN.{length};
+ghost use Rattle.integers.specs.Numbers.{Within};
+ghost use Rattle.tables.specs.Ranges.{greatestOrder, linearRange, limitRange, centreRange};
+ghost use Rattle.tables.specs.Matrix.{at, nth, tabulate};
+ghost use Rattle.tables.specs.Checks.{within, allWithin};
+ghost use Rattle.enclosure.specs.Box.{boxed, boxAnswer};
+ghost use Rattle.enclosure.specs.Contracts.{Centred};
+ghost use Rattle.enclosure.specs.Act.{Enclosed, handed, boxSizes, enclose, Meaning};
+ghost use Rattle.enclosure.specs.Stating.{Stated};
+use crate::centre::at_centre;
+use crate::centre::gradients;
+use crate::centre::near;
+use crate::sides::box_of;
+use tables::Checked;
+use tables::Refusal;
+
+// Linear terms are within ±2^36, the limit within ±2^54, and entries of the centre within ±2^12.
+const LINEAR_RANGE: i64 = 1 << 36;
+
+const LIMIT_RANGE: i64 = 1 << 54;
+
+const CENTRE_RANGE: i64 = 1 << 12;
+
+// What the box act answers: sides, or that there is no point.
+pub enum BoxAnswer {
+    Sides,
+    Empty,
+    Refused(Refusal),
+}
+
+// Whether the linear terms, the limit and the centre are within their ranges.
+fn in_range(n: usize, linear: &[i64], limit: i64, centre: &[i64]) -> bool
+    requires { ⌜ (n ≤ length (now linear)) × (n ≤ length (now centre)) ⌝ }
+    ensures { λ r. ⌜ r ≡ (allWithin linearRange n (now (linear .entry)) && (within limitRange limit && allWithin centreRange n (now (centre .entry)))) ⌝ }
+{
+    if !tables::all_within(linear, n, LINEAR_RANGE) {
+        return false;
+    }
+    if !tables::within(limit, LIMIT_RANGE) {
+        return false;
+    }
+    tables::all_within(centre, n, CENTRE_RANGE)
+}
+
+// Refusals 8 and 9, and the box, of numbers that passed checks 3 to 5. Side k stands at 2 k and 2 k + 1 of out.
+fn bounded(
+    n: usize,
+    low: &[i64],
+    high: &[i64],
+    linear: &[i64],
+    limit: i64,
+    centre: &[i64],
+    out: &mut [i64; 16],
+) -> BoxAnswer
+    requires { ⌜ Centred n (now low) (now high) (now linear) (now centre) × Within limitRange limit × (length (now out) ≡ 16) ⌝ }
+    ensures { λ r. ⌜ Stated (boxed n (at n (now (low .entry))) (at n (now (high .entry))) (nth (now (linear .entry))) limit (nth (now (centre .entry)))) n r (now (out .exit)) ⌝ }
+{
+    let t = steps::step(n, low, high);
+    if t <= 0 {
+        return BoxAnswer::Refused(Refusal::Flat);
+    }
+    let mut g = [0i64; 8];
+    gradients(n, low, high, linear, centre, &mut g);
+    if !near(n, &g) {
+        return BoxAnswer::Refused(Refusal::Far);
+    }
+    let mut tk = [0i64; 8];
+    steps::steps_at(n, low, high, &mut tk);
+    let d = at_centre(n, low, high, linear, limit, centre);
+    if box_of(n, centre, d, t, &tk, &g, out) {
+        return BoxAnswer::Sides;
+    }
+    return BoxAnswer::Empty;
+}
+
+// Checks 3, 4 and 5, refusals 8 and 9, and the box, of tables, linear terms and centre of order n: the first n² or n numbers of each.
+pub fn answer(
+    n: usize,
+    low: &[i64],
+    high: &[i64],
+    linear: &[i64],
+    limit: i64,
+    centre: &[i64],
+    out: &mut [i64; 16],
+) -> BoxAnswer
+    requires { ⌜ (n ≤ greatestOrder) × (n * n ≤ length (now low)) × (n * n ≤ length (now high)) × (n ≤ length (now linear)) × (n ≤ length (now centre)) × (length (now out) ≡ 16) ⌝ }
+    ensures { λ r. ⌜ Stated (boxAnswer n (now (low .entry)) (now (high .entry)) (now (linear .entry)) limit (now (centre .entry))) n r (now (out .exit)) ⌝ }
+{
+    if !in_range(n, linear, limit, centre) {
+        return BoxAnswer::Refused(Refusal::Range);
+    }
+    let checked = tables::check_tables(n, low, high);
+    if let Checked::Refused(r) = checked {
+        return BoxAnswer::Refused(r);
+    }
+    bounded(n, low, high, linear, limit, centre, out)
+}
+
+// Writes the sides that stand in x.
+fn write_sides(count: usize, x: &[i64; 16], sides: &mut [i64])
+    requires { ⌜ (count ≤ 16) × (length (now sides) ≡ count) ⌝ }
+    ensures { λ r. ⌜ now (sides .exit) ≡ tabulate count (nth (now (x .entry))) ⌝ }
+{
+    let mut k = 0;
+    while k < count {
+        sides[k] = x[k];
+        k += 1;
+    }
+}
+
+// Checks 3, 4 and 5, refusals 8 and 9, and the box with its sides, on buffers of the sizes that n calls for.
+fn enclose_tables(
+    n: usize,
+    low: &[i64],
+    high: &[i64],
+    linear: &[i64],
+    limit: i64,
+    centre: &[i64],
+    sides: &mut [i64],
+) -> BoxAnswer
+    requires { ⌜ (n ≤ greatestOrder) × (n * n ≤ length (now low)) × (n * n ≤ length (now high)) × (n ≤ length (now linear)) × (n ≤ length (now centre)) × (length (now sides) ≡ n + n) ⌝ }
+    ensures { λ r. ⌜ _≡_ {A = Enclosed (List ℤ)} (record { answer = r; sides = now (sides .exit) }) (handed (λ s. s) (boxAnswer n (now (low .entry)) (now (high .entry)) (now (linear .entry)) limit (now (centre .entry))) (now (sides .entry))) ⌝ }
+{
+    let mut x = [0i64; 16];
+    let given = answer(n, low, high, linear, limit, centre, &mut x);
+    match given {
+        BoxAnswer::Sides => {
+            write_sides(n + n, &x, sides);
+            BoxAnswer::Sides
+        }
+        BoxAnswer::Empty => BoxAnswer::Empty,
+        BoxAnswer::Refused(r) => BoxAnswer::Refused(r),
+    }
+}
+
+// Whether the buffers of a call have their sizes: that of a table, of a vector, or of the sides.
+pub fn sizes_ok(
+    table: usize,
+    vector: usize,
+    pairs: usize,
+    low: usize,
+    high: usize,
+    linear: usize,
+    centre: usize,
+    sides: usize,
+) -> bool
+    ensures { λ r. ⌜ r ≡ boxSizes table vector pairs low high linear centre sides ⌝ }
+{
+    tables::sizes_ok(table, vector, low, high, linear) && (centre == vector && sides == pairs)
+}
+
+// The box of document 01, of any numbers at all: n is an order or not, and each slice has any length.
+// Refused by the first of the checks 1 to 5, 8 and 9 that fails, or empty, with the buffer kept; else the sides are written, low and high for each k.
+pub fn enclose(
+    n: i64,
+    low: &[i64],
+    high: &[i64],
+    linear: &[i64],
+    limit: i64,
+    centre: &[i64],
+    sides: &mut [i64],
+) -> BoxAnswer
+    ensures exact { λ r. ⌜ _≡_ {A = Enclosed (List ℤ)} (record { answer = r; sides = now (sides .exit) }) (enclose n (now (low .entry)) (now (high .entry)) (now (linear .entry)) limit (now (centre .entry)) (now (sides .entry))) ⌝ }
+    ensures meaning { λ r. ⌜ Meaning r (natAbs n) (now (low .entry)) (now (high .entry)) (now (linear .entry)) limit (now (sides .exit)) ⌝ }
+{
+    if !tables::order_ok(n) {
+        return BoxAnswer::Refused(Refusal::Order);
+    }
+    let m = n as usize;
+    if !sizes_ok(
+        m * m,
+        m,
+        m + m,
+        low.len(),
+        high.len(),
+        linear.len(),
+        centre.len(),
+        sides.len(),
+    ) {
+        return BoxAnswer::Refused(Refusal::Length);
+    }
+    enclose_tables(m, low, high, linear, limit, centre, sides)
+}

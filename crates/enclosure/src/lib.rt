@@ -1,0 +1,5 @@
+// The box.
+pub mod centre;
+pub mod enclose;
+pub mod rounding;
+pub mod sides;

@@ -1,0 +1,6 @@
+pub mod Examples
+pub mod Sizes
+pub mod StoppedFactor
+pub mod Solving
+pub mod SolvedVector
+pub mod Stops

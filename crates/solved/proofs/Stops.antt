@@ -1,0 +1,173 @@
+-- Where factoring stops: the columns that were done are those of a factor, and the entries of the column that it stopped in are within 2^55.
+use mathlib.Core.Path.{_≡_, refl, sym, subst}
+use mathlib.Core.Bool.{Bool, true, false, not}
+use mathlib.Core.List.{List, [], _∷_, _++_}
+use Prim.Native.Nat.{ℕ, zero, suc, _+_, _*_, _^_, _≤_, _<_}
+use native.Mathlib.Omega.{arith}
+use native.Mathlib.Decide.{decLt}
+use lib.Dec.{T}
+use lib.IntN.{ℤ, _-ℤ_, _*ℤ_}
+use lib.Signed.{_≤ℤ_, leZ-yes}
+use lib.ListN.{length}
+use Rattle.integers.specs.Numbers.{Within}
+use Rattle.integers.proofs.Parts.{≤ℤ-trans}
+use Rattle.integers.proofs.Machine.{within-more, within-+, within--, within-*, within-sum, within-floor, within-in}
+use Rattle.tables.specs.Ranges.{greatestOrder, entryRange, factorRange}
+use Rattle.tables.specs.Matrix.{Matrix, nth}
+use Rattle.tables.specs.Bounds.{Bounds}
+use Rattle.tables.proofs.Checks.{of-true}
+use Rattle.cholesky.specs.Scale.{halfScale, takeOff, scaled}
+use Rattle.cholesky.specs.Factoring.{Column, Factoring, entries, nextEntry, goesOn, rows, nextColumn, columnsFrom, factoring}
+use Rattle.cholesky.specs.Store.{upper, columnsOf, outcomeOf, Stored}
+use Rattle.cholesky.specs.declared.factoring.Outcome.{Outcome}
+use Rattle.cholesky.specs.declared.factoring.Outcome.the-variants.{Ends, Stops}
+use Rattle.cholesky.proofs.Factored.{ρ}
+use Rattle.cholesky.proofs.Lists.{length-snoc, nth-before, nth-last}
+use Rattle.cholesky.proofs.Loops.{passes, rows-on, rows-stop, column-ind, columns-by}
+use Rattle.cholesky.proofs.Columns.{Done, column-step}
+use Rattle.cholesky.proofs.ScaledMatrix.{scaled-off, scaled-top, take-off-suffices}
+use Rattle.cholesky.proofs.Store.{length-columnOf, length-columnsOf, entries-columnsOf, nth-columnOf}
+use Rattle.solved.specs.Stopped.{stoppedAt, Stopped}
+
+-- ---- lists within a bound
+pub record AllWithin (b : ℕ) (c : List ℤ) : Type 0 where
+  pub each : (k : ℕ) → k < length c → Within b (nth c k)
+
+none-within : {b : ℕ} → AllWithin b []
+none-within = record { each = λ k h. absurd (omega arith) }
+
+one-more : {b : ℕ} {c : List ℤ} {x : ℤ} → AllWithin b c → Within b x → AllWithin b (c ++ (x ∷ []))
+one-more {b} {c} {x} a w = record { each = λ k h. at k (omega (arith, length-snoc c x)) (decLt k (length c)) }
+  where
+    at : (k : ℕ) → k < suc (length c) → Dec (k < length c) → Within b (nth (c ++ (x ∷ [])) k)
+    at k h (yes l) = rw (nth-before c x k l) (a .each k l)
+    at k h (no l) = let e : k ≡ length c = omega arith in rw (e, nth-last c x) w
+
+wider : {b b′ : ℕ} {c : List ℤ} → b ≤ b′ → AllWithin b c → AllWithin b′ c
+wider h a = record { each = λ k l. within-more h (a .each k l) }
+
+-- ---- a column that it stops in, after the columns cs, and the whole factoring
+pub record Cut (cs : List (List ℤ)) (c : List ℤ) : Type 0 where
+  pub rows : length c ≤ length cs
+  pub near : AllWithin (2 ^ 55) c
+
+pub record Stop (n : ℕ) (H : Matrix) (f : Factoring) : Type 0 where
+  pub inside : length (f .columns) < n
+  pub done : Done H (f .columns)
+  pub cut : Cut (f .columns) (f .stopped)
+
+module _ (n : ℕ) (H : Matrix) (o : n ≤ greatestOrder) (off : (i j : ℕ) → i < j → j < n → Within (2 ^ 52) (H i j)) where
+  module _ (cs : List (List ℤ)) (l : length cs < n) (d : Done H cs) where
+    abbrev j : ℕ
+    j = length cs
+
+    -- H(i,j), less at most six products, divided
+    entry-within : (c : List ℤ) → length c < j → AllWithin factorRange c → Within (2 ^ 55) (nextEntry H cs j c)
+    unfolding nextEntry
+    entry-within c h a =
+        within-floor (entries cs (length c) (length c))
+        (within-more (omega arith)
+        (within-- (off (length c) j h l)
+        (within-sum (length c) (factorRange * factorRange) _
+        (λ k p. within-* {x = entries cs k (length c)} (record { size = d .off k (length c) p h .small }) (a .each k p)))))
+
+    rows-cut : (k : ℕ) (rest : ℤ) (c : List ℤ) → length c + k ≡ j → AllWithin factorRange c → T (not (rows H cs j k rest c .done)) → Cut cs (rows H cs j k rest c .column)
+    unfolding rows
+    rows-cut zero rest c h a t = absurd t
+    rows-cut (suc k) rest c h a t =
+        go (goesOn r (rest -ℤ r *ℤ r)) (rows-on H cs j k rest c) (rows-stop H cs j k rest c)
+        (λ e. rows-cut k (rest -ℤ r *ℤ r) (c ++ (r ∷ [])) (omega (arith, length-snoc c r)) (one-more a (record { size = passes r (rest -ℤ r *ℤ r) (of-true e) .small }))) t
+      where
+        r : ℤ
+        r = nextEntry H cs j c
+
+        P : Column → Type 0
+        P q = T (not (q .done)) → Cut cs (q .column)
+
+        go : (b : Bool) → (b ≡ true → rows H cs j (suc k) rest c ≡ rows H cs j k (rest -ℤ r *ℤ r) (c ++ (r ∷ []))) →
+            (b ≡ false → rows H cs j (suc k) rest c ≡ record { done = false; column = c ++ (r ∷ []) }) → (b ≡ true → P (rows H cs j k (rest -ℤ r *ℤ r) (c ++ (r ∷ [])))) → P (rows H cs j (suc k) rest c)
+        go true f g ih = subst P (sym (f refl)) (ih refl)
+        go false f g ih = subst P (sym (g refl)) (λ t. record { rows = omega (arith, length-snoc c r); near = one-more (wider (omega arith) a) (entry-within c (omega arith) a) })
+
+    column-cut : T (not (nextColumn H cs .done)) → Cut cs (nextColumn H cs .column)
+    column-cut = column-ind H cs (λ q. T (not (q .done)) → Cut cs (q .column)) (λ h. rows-cut j (H j j) [] (omega arith) none-within) (λ g t. record { rows = omega arith; near = none-within })
+
+  -- ---- all columns
+  module _ (top : (j : ℕ) → j < n → H j j ≤ℤ (ρ *ℤ ρ)) where
+    columns-cut : (k : ℕ) (cs : List (List ℤ)) → length cs + k ≡ n → Done H cs → T (not (columnsFrom H k cs .ends)) → Stop n H (columnsFrom H k cs)
+    unfolding columnsFrom
+    columns-cut zero cs h d t = absurd t
+    columns-cut (suc k) cs h d t =
+        columns-by H k cs (λ q. T (not (q .ends)) → Stop n H q)
+        (λ g. columns-cut k _ (omega (arith, length-snoc cs (nextColumn H cs .column))) (column-step H cs d (top (length cs) (omega arith)) g))
+        (λ g t. record { inside = omega arith; done = d; cut = column-cut cs (omega arith) d g }) t
+
+    stop : T (not (factoring n H .ends)) → Stop n H (factoring n H)
+    unfolding factoring
+    stop = columns-cut n [] (omega arith) (record { lengths = λ l k. absurd (omega arith); off = λ a b k l. absurd (omega arith); on = λ b k. absurd (omega arith) })
+
+-- ---- H of bounds: off the diagonal it is 2^31 (L(i,j) + U(i,j))
+off-within : {n : ℕ} {L U : Matrix} → Bounds n L U → (i j : ℕ) → i < j → j < n → Within (2 ^ 52) (scaled takeOff n L U i j)
+off-within {n} {L} {U} b i j h k =
+    let p : i < n = omega arith in
+    let low : Within entryRange (L i j) = record { size = b .low-range i j p k } in
+    let high : Within entryRange (U i j) = record { size = b .high-range i j p k } in
+    let half : Within (2 ^ 31) halfScale = record { size = omega arith } in
+    rw (scaled-off takeOff n L U i j (omega arith)) (within-more (omega arith) (within-* half (within-+ low high)))
+
+-- where factoring of bounds does not end, it stops so
+pub bounds-stop : {n : ℕ} {L U : Matrix} → Bounds n L U → n ≤ greatestOrder → factoring n (scaled takeOff n L U) .ends ≡ false →
+    Stop n (scaled takeOff n L U) (factoring n (scaled takeOff n L U))
+bounds-stop {n} {L} {U} b o e =
+    stop n (scaled takeOff n L U) o (off-within b) (scaled-top takeOff n L U b (take-off-suffices n o)) (subst (λ (q : Bool). T (not q)) (sym e) tt)
+
+-- ---- the stop, by its table
+record StoppedIn (f : Factoring) (j m : ℕ) : Type 0 where
+  ends : f .ends ≡ false
+  column : length (f .columns) ≡ j
+  rows : length (f .stopped) ≡ m
+
+stopped-in : (f : Factoring) (j m : ℕ) → Stops j m ≡ outcomeOf f → StoppedIn f j m
+unfolding outcomeOf
+stopped-in f j m e = go (f .ends) refl e
+  where
+    go : (b : Bool) → f .ends ≡ b → _≡_ {A = Outcome} (Stops j m) (elim b [ true ↦ Ends | false ↦ Stops (length (f .columns)) (length (f .stopped)) ]) → StoppedIn f j m
+    go true q e = record { ends = cc; column = cc; rows = cc }
+    go false q e = record { ends = q; column = cc; rows = cc }
+
+-- the factoring is the one of the table
+pub stopped-at : {f : Factoring} {j m : ℕ} {t : List ℤ} → Stored f (Stops j m) t → f ≡ stoppedAt t j m
+unfolding stoppedAt
+stopped-at {f} {j} {m} {t} a =
+    let s = stopped-in f j m (a .outcome) in
+    rw (← s .column, ← s .rows, a .columns, a .stopped, ← s .ends) refl
+
+-- the entries of the columns that were done
+done-small : {H : Matrix} (t : List ℤ) (j : ℕ) → Done H (columnsOf t j) → (i k : ℕ) → i ≤ k → k < j → Within factorRange (upper t i k)
+done-small t j d i k h l = subst (Within factorRange) (entries-columnsOf t j i k h l) (go (decLt i k))
+  where
+    inside : k < length (columnsOf t j)
+    inside = omega (arith, length-columnsOf t j)
+
+    go : Dec (i < k) → Within factorRange (entries (columnsOf t j) i k)
+    go (yes e) = record { size = d .off i k e inside .small }
+    go (no e) = let f : i ≡ k = omega arith in rw f (within-in (≤ℤ-trans (leZ-yes tt) (d .on k inside .one)) (d .on k inside .top))
+
+table-ready : {n : ℕ} {H : Matrix} {t : List ℤ} {j m : ℕ} → n ≤ greatestOrder → Stop n H (stoppedAt t j m) → Stopped n t j m
+unfolding stoppedAt
+table-ready {n} {H} {t} {j} {m} o s =
+    let c = length-columnsOf t j in
+    let r = length-columnOf t j m in
+    record {
+      order = o;
+      inside = omega (arith, s .inside);
+      rows = omega (arith, s .cut .rows);
+      columns = λ l h. record { small = λ k p. done-small t j (s .done) k l (omega arith) h };
+      diagonal = λ l h. rw (← entries-columnsOf t j l l (omega arith) h) (s .done .on l (omega arith) .one);
+      last = λ i h. rw (← nth-columnOf t j m i h) (s .cut .near .each i (omega arith));
+    }
+
+-- the table of a factoring that stopped is as the code asks
+pub stopped-ready : {n : ℕ} {L U : Matrix} {j m : ℕ} {t : List ℤ} → Bounds n L U → n ≤ greatestOrder →
+    Stored (factoring n (scaled takeOff n L U)) (Stops j m) t → Stopped n t j m
+stopped-ready {j = j} {m = m} b o a = table-ready o (rw (stopped-at a) at (bounds-stop b o (stopped-in _ j m (a .outcome) .ends)))

@@ -1,0 +1,67 @@
+-- Document 01's starred lines: what the rules give, beside what the document says. One list with one proof.
+use mathlib.Core.Path.{_≡_, refl}
+use mathlib.Core.List.{List, [], _∷_, map}
+use Prim.Native.Nat.{ℕ}
+use lib.IntN.{ℤ, pos, negsuc}
+use Rattle.integers.specs.Numbers.{absℤ, minℤ, maxℤ}
+use Rattle.integers.specs.Sum.{sum, only}
+use Rattle.integers.specs.Division.{floorDiv, ceilDiv}
+use Rattle.integers.specs.Root.{wholeRoot, rootWithin, rootAbove, leastRoot}
+use Rattle.tables.specs.Matrix.{at, nth, table, tabulate, form, rowWidth}
+use Rattle.tables.specs.Checks.{all, firstRefusal, within, allWithin, nowhereCrossed, same, symmetric, tableChecks}
+use Rattle.tables.specs.Answers.{after}
+use Rattle.cholesky.specs.Scale.{scaled}
+use Rattle.cholesky.specs.Factoring.{factoring, columnsFrom, nextColumn, rows, goesOn, nextEntry, entries}
+use Rattle.vectors.specs.Least.{leastMember, leastValue, nonzero, shows}
+use Rattle.tried.specs.Tried.{tried, first}
+use Rattle.solved.specs.Solved.{stoppedFactor, solvedEntry, solvedRows, solved}
+use Rattle.verdict.specs.Judge.{Judgement, definite, notDefinite, undecided, listed, judged, judgement}
+use Rattle.steps.specs.Steps.{lowered, trial, bits, step, stepAt}
+use Rattle.enclosure.specs.Box.{lowGradient, highGradient, gradient, atCentre, bound, firstHalf, secondBound, halfSide, sidesFrom, Box, sides, empty, boxOf, boxed, boxChecks, boxAnswer}
+
+data Answer : Type 0 where
+  verdict : Judgement → Answer
+  value : ℤ → Answer
+  box : Box → Answer
+
+record Line : Type 0 where
+  rules : Answer
+  document : Answer
+
+-- the judge's verdict, on thin tables (L = U) and on others
+abbrev bounded : ℕ → List ℤ → List ℤ → Judgement → Line
+bounded n l u j = record { rules = verdict (judgement n l u); document = verdict j }
+
+abbrev thin : ℕ → List ℤ → Judgement → Line
+thin n t j = bounded n t t j
+
+-- the least value of x over the one member of a thin table
+abbrev least : ℕ → List ℤ → List ℤ → ℤ → Line
+least n t x v = record { rules = value (leastValue n (at n t) (at n t) (nth x)); document = value v }
+
+-- the box of order 1: M = [m], a, α, c
+abbrev boxed-one : ℤ → ℤ → ℤ → ℤ → Box → Line
+boxed-one m a α c b = record { rules = box (boxAnswer 1 (m ∷ []) (m ∷ []) (a ∷ []) α (c ∷ [])); document = box b }
+
+abbrev lines : List Line
+lines =
+    thin 1 (pos 1 ∷ []) (definite (pos 61303 ∷ []))
+    ∷ bounded 1 (pos 1 ∷ []) (pos 2 ∷ []) (definite (pos 61303 ∷ []))
+    ∷ thin 1 (pos 0 ∷ []) (notDefinite (pos 1 ∷ []))
+    ∷ bounded 1 (pos 0 ∷ []) (pos 5 ∷ []) (notDefinite (pos 1 ∷ []))
+    ∷ thin 2 (pos 2 ∷ pos 1 ∷ pos 1 ∷ pos 2 ∷ []) (definite (pos 89738 ∷ pos 47861 ∷ pos 0 ∷ pos 75910 ∷ []))
+    ∷ thin 2 (pos 1 ∷ pos 2 ∷ pos 2 ∷ pos 5 ∷ []) (definite (pos 61303 ∷ pos 140122 ∷ pos 0 ∷ pos 36108 ∷ []))
+    ∷ thin 2 (pos 1 ∷ pos 2 ∷ pos 2 ∷ pos 1 ∷ []) (notDefinite (pos 1 ∷ negsuc 0 ∷ []))
+    ∷ thin 2 (pos 1 ∷ pos 1 ∷ pos 1 ∷ pos 1 ∷ []) (notDefinite (pos 1 ∷ negsuc 0 ∷ []))
+    ∷ thin 2 (pos 1 ∷ pos 1000 ∷ pos 1000 ∷ pos 10000 ∷ []) (notDefinite (negsuc 1142 ∷ pos 1 ∷ []))
+    ∷ least 2 (pos 1 ∷ pos 1000 ∷ pos 1000 ∷ pos 10000 ∷ []) (negsuc 1142 ∷ pos 1 ∷ []) (negsuc 969550)
+    ∷ thin 2 (pos 1 ∷ pos 3 ∷ pos 3 ∷ pos 10 ∷ []) undecided
+    ∷ boxed-one (pos 4) (pos 0) (negsuc 0) (pos 0) empty
+    ∷ boxed-one (pos 4) (pos 0) (pos 0) (pos 0) (sides (pos 0 ∷ pos 0 ∷ []))
+    -- case P
+    ∷ boxed-one (pos 4) (negsuc 7) (pos 0) (pos 2) (sides (negsuc 0 ∷ pos 5 ∷ []))
+    ∷ []
+
+as-printed : map (λ (l : Line). l .rules) lines ≡ map (λ (l : Line). l .document) lines
+unfolding judgement judged listed after firstRefusal tableChecks allWithin nowhereCrossed symmetric same all within factoring columnsFrom nextColumn rows goesOn nextEntry entries scaled at table tabulate form rowWidth leastMember leastValue nonzero shows tried first stoppedFactor solvedEntry solvedRows solved sum only floorDiv wholeRoot rootWithin boxAnswer boxChecks boxed boxOf sidesFrom halfSide secondBound firstHalf bound atCentre gradient highGradient lowGradient step stepAt bits trial lowered absℤ minℤ maxℤ ceilDiv rootAbove leastRoot
+as-printed = refl

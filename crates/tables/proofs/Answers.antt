@@ -1,0 +1,120 @@
+-- Laws of the answers: by which checks an act answers what, and what an answer says of the checks.
+use mathlib.Core.Path.{_≡_, refl, sym, ap, subst, _∙_}
+use mathlib.Core.Bool.{Bool, true, false, false≢true}
+use mathlib.Core.List.{List, [], _∷_, _++_}
+use Prim.Native.Nat.{_<_}
+use native.Mathlib.Omega.{arith}
+use lib.IntN.{ℤ, pos, negsuc, natAbs}
+use Rattle.tables.specs.Refusals.{refusalNumber}
+use Rattle.tables.specs.Checks.{Check, firstRefusal, orderOk}
+use Rattle.tables.specs.Answers.{after, entryChecks, verdict, answerCode}
+use Rattle.tables.specs.declared.Refusal.{Refusal}
+use Rattle.tables.specs.declared.Refusal.the-variants.{Order, Length, Range, Crossed, Lopsided, Factor, Vector, Flat, Far, Cut, Tag, Again, Absent, Size, Long}
+use Rattle.tables.specs.declared.Checked.{Checked}
+use Rattle.tables.specs.declared.Checked.the-variants.{Passed, Refused}
+use Rattle.tables.specs.declared.Answer.{Answer}
+use Rattle.tables.specs.declared.Answer.the-variants as Answer
+use Rattle.tables.proofs.Checks.{first-passes, first-refuses, first-passed, first-none, more-checks, no-more-checks}
+
+-- ---- checks, and one more
+pub prefix-passed : (cs ds : List Check) → firstRefusal (cs ++ ds) ≡ Passed → firstRefusal cs ≡ Passed
+prefix-passed cs ds e = go (firstRefusal cs) refl
+  where
+    go : (k : Checked) → firstRefusal cs ≡ k → k ≡ Passed
+    go Passed q = refl
+    go (Refused r) q = cc (no-more-checks cs ds r q)
+
+pub last-passed : (cs : List Check) (c : Check) → firstRefusal (cs ++ (c ∷ [])) ≡ Passed → c .passes ≡ true
+last-passed cs c e = first-passed c [] (sym (more-checks cs (c ∷ []) (prefix-passed cs (c ∷ []) e)) ∙ e)
+
+-- ---- an act's answer, by its checks
+module _ {A : Type 0} (refused : Refusal → A) where
+  pub after-refused : {k : Checked} (r : Refusal) (a : A) → k ≡ Refused r → refused r ≡ after refused k a
+  unfolding after
+  after-refused r a e = rw e
+
+  pub after-passed : {k : Checked} (a : A) → k ≡ Passed → a ≡ after refused k a
+  unfolding after
+  after-passed a e = rw e
+
+  -- an answer that is no refusal: the checks passed
+  pub after-is : (k : Checked) (a b : A) → ((r : Refusal) → refused r ≡ b → ⊥) → after refused k a ≡ b → (k ≡ Passed) × (a ≡ b)
+  unfolding after
+  after-is Passed a b f e = (refl, e)
+  after-is (Refused r) a b f e = absurd (f r e)
+
+  -- checks 1 and 2, and then the rest of the act
+  module _ (n : ℤ) (sized : Bool) (a : A) where
+    pub order-refused : orderOk n ≡ false → refused Order ≡ after refused (firstRefusal (entryChecks n sized)) a
+    unfolding entryChecks
+    order-refused o = after-refused Order a (first-refuses _ _ o)
+
+    pub size-refused : orderOk n ≡ true → sized ≡ false → refused Length ≡ after refused (firstRefusal (entryChecks n sized)) a
+    unfolding entryChecks
+    size-refused o s = after-refused Length a (first-passes _ _ o ∙ first-refuses _ _ s)
+
+    pub entry-passed : orderOk n ≡ true → sized ≡ true → a ≡ after refused (firstRefusal (entryChecks n sized)) a
+    unfolding entryChecks
+    entry-passed o s = after-passed a (first-passes _ _ o ∙ first-passes _ _ s ∙ first-none)
+
+  -- the checks of the tables, and then that of what is offered with them
+  module _ (cs : List Check) (c : Check) (a : A) where
+    pub tables-refused : (r : Refusal) → firstRefusal cs ≡ Refused r → refused r ≡ after refused (firstRefusal (cs ++ (c ∷ []))) a
+    tables-refused r e = after-refused r a (no-more-checks cs (c ∷ []) r e)
+
+    pub offer-refused : firstRefusal cs ≡ Passed → c .passes ≡ false → refused (c .otherwise) ≡ after refused (firstRefusal (cs ++ (c ∷ []))) a
+    offer-refused p e = after-refused (c .otherwise) a (more-checks cs (c ∷ []) p ∙ first-refuses c [] e)
+
+    pub offer-passed : firstRefusal cs ≡ Passed → c .passes ≡ true → a ≡ after refused (firstRefusal (cs ++ (c ∷ []))) a
+    offer-passed p e = after-passed a (more-checks cs (c ∷ []) p ∙ first-passes c [] e ∙ first-none)
+
+-- ---- yes and no
+pub after-yes : (k : Checked) (a : Answer) → after Answer.Refused k a ≡ Answer.Yes → (k ≡ Passed) × (a ≡ Answer.Yes)
+after-yes k a = after-is Answer.Refused k a Answer.Yes (λ r e. false≢true cc)
+
+pub after-no : (k : Checked) (a : Answer) → after Answer.Refused k a ≡ Answer.No → (k ≡ Passed) × (a ≡ Answer.No)
+after-no k a = after-is Answer.Refused k a Answer.No (λ r e. false≢true cc)
+
+pub verdict-yes : (b : Bool) → verdict b ≡ Answer.Yes → b ≡ true
+verdict-yes true e = refl
+verdict-yes false e = cc
+
+pub verdict-no : (b : Bool) → verdict b ≡ Answer.No → b ≡ false
+verdict-no true e = cc
+verdict-no false e = refl
+
+-- ---- the numbers at the C entries
+-- a refusal's number is none of an answer's
+pub refusal-positive : (r : Refusal) → 0 < refusalNumber r
+refusal-positive Order = omega arith
+refusal-positive Length = omega arith
+refusal-positive Range = omega arith
+refusal-positive Crossed = omega arith
+refusal-positive Lopsided = omega arith
+refusal-positive Factor = omega arith
+refusal-positive Vector = omega arith
+refusal-positive Flat = omega arith
+refusal-positive Far = omega arith
+refusal-positive Cut = omega arith
+refusal-positive Tag = omega arith
+refusal-positive Again = omega arith
+refusal-positive Absent = omega arith
+refusal-positive Size = omega arith
+refusal-positive Long = omega arith
+
+pub code-yes : (a : Answer) → answerCode a ≡ pos 0 → a ≡ Answer.Yes
+unfolding answerCode
+code-yes Answer.Yes e = refl
+code-yes Answer.No e = cc
+code-yes (Answer.Refused r) e = let h = refusal-positive r in let z : refusalNumber r ≡ 0 = ap natAbs e in absurd (omega arith)
+
+pub code-no : (a : Answer) → answerCode a ≡ negsuc 0 → a ≡ Answer.No
+unfolding answerCode
+code-no Answer.Yes e = cc
+code-no Answer.No e = refl
+code-no (Answer.Refused r) e = cc
+
+-- ---- what an answer means
+-- an answer that is the definition's means what the definition's does
+pub exactly : {A : Type 0} (means : A → Type 0) {d : A} → means d → (r : A) → r ≡ d → (r ≡ d) × means r
+exactly means m r e = (e, subst means (sym e) m)

@@ -1,0 +1,54 @@
+-- One step of the search: an entry that was chosen is put in front of what was found after it.
+use mathlib.Core.Path.{_≡_, refl, sym, ap, ap₂, _∙_}
+use mathlib.Core.Bool.{Bool, true, false}
+use mathlib.Core.List.{List, [], _∷_, _++_}
+use mathlib.Core.Option.{Option, none, some}
+use Prim.Native.Nat.{ℕ, zero, suc, _+_, _<_}
+use native.Mathlib.Omega.{arith}
+use lib.IntN.{ℤ, pos}
+use lib.Signed.{leZ}
+use lib.ListN.{length, set, length-set}
+use lib.Seq.{getD-set-same, getD-set-other}
+use Rattle.tables.specs.Matrix.{nth, tabulate}
+use Rattle.tables.proofs.Matrix.{tabulate-ext}
+use Rattle.tried.specs.Search.{front, orElse, reached, found, Searched}
+
+-- ---- what was found
+tabulate-front : {A : Type 0} (k : ℕ) (f : ℕ → A) → f 0 ∷ tabulate k (λ i. f (suc i)) ≡ tabulate (suc k) f
+unfolding tabulate
+tabulate-front zero f = refl
+tabulate-front {A} (suc k) f = ap (λ (l : List A). l ++ (f (suc k) ∷ [])) (tabulate-front k f)
+
+module _ (x : List ℤ) (d k : ℕ) (a : ℤ) (h : d < length x) where
+  put-front : a ∷ tabulate k (λ i. nth x (suc d + i)) ≡ tabulate (suc k) (λ i. nth (set x d a) (d + i))
+  put-front =
+      ap₂ (λ (y : ℤ) (l : List ℤ). y ∷ l) (sym (rw e0 (getD-set-same x d a (pos 0) h)))
+      (tabulate-ext k _ _ (λ i m. let e : suc d + i ≡ d + suc i = omega arith in sym (getD-set-other x d (d + suc i) a (pos 0) (omega arith) ∙ ap (nth x) (sym e))))
+      ∙ tabulate-front k (λ i. nth (set x d a) (d + i))
+    where
+      e0 : d + 0 ≡ d
+      e0 = omega arith
+
+  front-found : (r : Bool) → front a (found r (suc d) k x) ≡ found r d (suc k) (set x d a)
+  unfolding front found
+  front-found true = ap some put-front
+  front-found false = refl
+
+-- the entry is put in front, whatever was found after it
+module _ {x : List ℤ} {d k : ℕ} (a : ℤ) (h : d < 8) {s : Option (List ℤ)} where
+  pub chosen : {r : Bool} → Searched s r (suc d) k x → Searched (front a s) r d (suc k) (set x d a)
+  chosen {r} f =
+      record { answer = ap (front a) (f .answer) ∙ front-found x d k a (omega (arith, f .size)) r; size = length-set x d a ∙ f .size }
+
+  pub chosen-hit : (t : Option (List ℤ)) → Searched s true (suc d) k x → Searched (orElse (front a s) t) true d (suc k) (set x d a)
+  unfolding orElse found
+  chosen-hit t f = let c = chosen f in record { answer = ap (λ (z : Option (List ℤ)). orElse z t) (c .answer); size = c .size }
+
+pub chosen-miss : {x : List ℤ} {d k : ℕ} (a : ℤ) {s : Option (List ℤ)} (t : Option (List ℤ)) → Searched s false d k x → orElse (front a s) t ≡ t
+unfolding orElse front found
+chosen-miss a t f = rw (f .answer) refl
+
+-- nothing is left to choose
+pub reached-is : (x : List ℤ) (d : ℕ) (s : ℤ) {r : Bool} → length x ≡ 8 → leZ s (pos 0) ≡ r → Searched (reached s) r d 0 x
+unfolding reached found tabulate
+reached-is x d s h e = record { answer = ap (λ (b : Bool). elim b as (λ z. Option (List ℤ)) [ true ↦ some [] | false ↦ none ]) e; size = h }

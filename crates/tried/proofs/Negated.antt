@@ -1,0 +1,46 @@
+-- x and -x show the same: "skip x where -x stood earlier".
+use mathlib.Core.Path.{_≡_, refl, sym, ap, ap₂, _∙_}
+use mathlib.Core.Bool.{Bool, true, false, not, _&&_, _||_}
+use mathlib.Core.List.{[], _∷_}
+use Prim.Native.Nat.{ℕ, zero, suc, _<_}
+use native.Mathlib.Omega.{arith}
+use lib.Dec.{eqb}
+use lib.IntN.{ℤ, pos, negℤ, _*ℤ_, ℤ-discrete}
+use lib.Signed.{leZ, ltZ}
+use Rattle.integers.proofs.Solver.{ring, order, solver}
+use Rattle.integers.proofs.Sums.{sum-ext}
+use Rattle.tables.specs.Matrix.{Matrix, form}
+use Rattle.tables.specs.Checks.{all, same}
+use Rattle.tables.proofs.Checks.{same-false}
+use Rattle.vectors.specs.Least.{leastMember, leastValue, nonzero, shows}
+
+-- -a is 0 where a is
+zero-entry : (a : ℤ) → same (negℤ a) (pos 0) ≡ same a (pos 0)
+zero-entry a = go (ℤ-discrete a (pos 0))
+  where
+    go : Dec (a ≡ pos 0) → same (negℤ a) (pos 0) ≡ same a (pos 0)
+    go (yes e) = rw e refl
+    go (no d) = same-false (λ e. d (order (a ∷ []) e (search solver depth 40 fits 20000) (omega arith))) ∙ sym (same-false d)
+
+module _ (x y : ℕ → ℤ) (h : (i : ℕ) → y i ≡ negℤ (x i)) where
+  product : (i j : ℕ) → y i *ℤ y j ≡ x i *ℤ x j
+  product i j = rw (h i, h j) (ring (x i ∷ x j ∷ []) (search solver depth 40 fits 20000) refl)
+
+  least-member : (L U : Matrix) (i j : ℕ) → leastMember L U y i j ≡ leastMember L U x i j
+  unfolding leastMember
+  least-member L U i j = ap (λ (z : ℤ). elim (eqb i j || ltZ (pos 0) z) as (λ b. ℤ) [ true ↦ L i j | false ↦ U i j ]) (product i j)
+
+  least-value : (n : ℕ) (L U : Matrix) → leastValue n L U y ≡ leastValue n L U x
+  unfolding leastValue form
+  least-value n L U =
+      sum-ext n _ _ (λ i k. sum-ext n _ _ (λ j l.
+      rw (least-member L U i j, h i, h j) (ring (x i ∷ x j ∷ leastMember L U x i j ∷ []) (search solver depth 40 fits 20000) refl)))
+
+  all-zero : (n : ℕ) → all n (λ i. same (y i) (pos 0)) ≡ all n (λ i. same (x i) (pos 0))
+  unfolding all
+  all-zero zero = refl
+  all-zero (suc n) = ap₂ (λ (a b : Bool). a && b) (all-zero n) (ap (λ (z : ℤ). same z (pos 0)) (h n) ∙ zero-entry (x n))
+
+  pub shows-negated : (n : ℕ) (L U : Matrix) → shows n L U y ≡ shows n L U x
+  unfolding shows nonzero
+  shows-negated n L U = ap₂ (λ (a : Bool) (v : ℤ). not a && leZ v (pos 0)) (all-zero n) (least-value n L U)

@@ -1,0 +1,157 @@
+-- What a verdict hands out has the size that the order calls for, and its numbers are in their ranges.
+use mathlib.Core.Path.{_≡_, refl, sym, ap, subst, _∙_}
+use mathlib.Core.Bool.{Bool, true, false}
+use mathlib.Core.List.{List, [], _∷_, _++_, map}
+use mathlib.Core.Option.{Option, some}
+use Prim.Native.Nat.{ℕ, zero, suc, _*_, _/_, _%_, _≤_, _<_}
+use native.Mathlib.Omega.{arith}
+use native.Mathlib.Decide.{decLt}
+use lib.Dec.{T}
+use lib.IntN.{ℤ, pos, negsuc}
+use lib.Signed.{leZ, leZ-yes}
+use lib.ListN.{length}
+use Rattle.integers.specs.Numbers.{Within}
+use Rattle.integers.proofs.Parts.{≤ℤ-trans}
+use Rattle.integers.proofs.Machine.{within-in}
+use Rattle.tables.specs.Ranges.{greatestOrder, factorRange, vectorRange}
+use Rattle.tables.specs.Matrix.{Matrix, at, nth, table}
+use Rattle.tables.specs.Bounds.{Bounds}
+use Rattle.tables.specs.Checks.{within, firstRefusal, tableChecks}
+use Rattle.tables.specs.Answers.{after}
+use Rattle.tables.specs.declared.Checked.{Checked}
+use Rattle.tables.specs.declared.Checked.the-variants.{Passed, Refused}
+use Rattle.tables.proofs.Checks.{of-true, true-of, and-left, and-right, all-at, le-of, same-of, within-of, passed-bounds}
+use Rattle.tables.proofs.Matrix.{length-table, nth-at, at-table, row-inside, column-inside}
+use Rattle.cholesky.specs.Factoring.{Factoring}
+use Rattle.cholesky.proofs.Lists.{nth-past}
+use Rattle.residual.specs.FactorTest.{factorShape}
+use Rattle.residual.proofs.Meaning.{entry-by}
+use Rattle.theorems.proofs.Theorems.{ends-shape-takeOff}
+use Rattle.vectors.specs.Least.{shows}
+use Rattle.tried.specs.Tried.{tried, first}
+use Rattle.solved.specs.Solved.{stoppedFactor, solvedEntry, solvedRows, solved}
+use Rattle.solved.specs.Stopped.{startRange}
+use Rattle.solved.proofs.Solving.{rows-on, rows-none}
+use Rattle.solved.proofs.SolvedVector.{solved-vector}
+use Rattle.solved.proofs.Stops.{bounds-stop}
+use Rattle.verdict.specs.Judge.{Judgement, definite, notDefinite, undecided, refused, ours, listed, shownBy, judged, judgement}
+use Rattle.verdict.proofs.Decisions.{judged-ends, judged-stops}
+
+-- the numbers of a list, past its end too (where it reads 0), are within ±b
+pub record Sized (m b : ℕ) (x : List ℤ) : Type 0 where
+  pub size : length x ≡ m
+  pub small : (i : ℕ) → Within b (nth x i)
+
+abbrev pub Fitting : ℕ → Judgement → Type 0
+Fitting n (definite t) = Sized (n * n) factorRange t
+Fitting n (notDefinite x) = Sized n vectorRange x
+Fitting n undecided = Unit {0}
+Fitting n (refused r) = Unit {0}
+
+sized : {m b : ℕ} {x : List ℤ} → length x ≡ m → ((i : ℕ) → i < m → Within b (nth x i)) → Sized m b x
+sized {m} {b} {x} e h = record { size = e; small = λ i. number i (decLt i m) }
+  where
+    number : (i : ℕ) → Dec (i < m) → Within b (nth x i)
+    number i (yes l) = h i l
+    number i (no l) = rw (nth-past x i (omega (arith, e))) (record { size = omega arith })
+
+-- ---- a factor that passes
+module _ (n : ℕ) (R : Matrix) (t : T (factorShape n R)) where
+  factor-small : (i j : ℕ) → i < n → j < n → Within factorRange (R i j)
+  unfolding factorShape
+  factor-small i j h k =
+      entry-by i j (R i j) (λ b. b ≡ true → Within factorRange (R i j)) (λ m e. within-of factorRange (R i j) e)
+      (λ m e. within-in (≤ℤ-trans (leZ-yes tt) (le-of (pos 1) (R i j) (and-left _ _ e))) (le-of (R i j) (pos factorRange) (and-right (leZ (pos 1) (R i j)) _ e)))
+      (λ m e. rw (same-of (R i j) (pos 0) e) (record { size = omega arith })) (all-at _ n (all-at _ n (true-of (factorShape n R) t) i h) j k)
+
+  factor-sized : Sized (n * n) factorRange (table n R)
+  factor-sized =
+      sized (length-table n R)
+      (λ k h. let p = row-inside n k h in let q = column-inside n k h in rw (nth-at n k (table n R), at-table n R (k / n) (k % n) p q) (factor-small (k / n) (k % n) p q))
+
+-- ---- lists of vectors
+abbrev Every : (List ℤ → Type 0) → List (List ℤ) → Type 0
+Every P [] = Unit {0}
+Every P (x ∷ l) = P x × Every P l
+
+module _ (P : List ℤ → Type 0) where
+  every-append : (l m : List (List ℤ)) → Every P l → Every P m → Every P (l ++ m)
+  every-append [] m h k = k
+  every-append (x ∷ l) m h k = (h .0, every-append l m (h .1) k)
+
+  -- the solved vectors are one or none
+  every-solved-row : (R : Matrix) (i : ℕ) (xs : List ℤ) → ((v : List ℤ) → solvedRows R i xs ≡ v ∷ [] → P v) → Every P (solvedRows R i xs)
+  unfolding solvedRows
+  every-solved-row R zero xs h = (h xs refl, tt)
+  every-solved-row R (suc i) xs h =
+      go (within vectorRange (solvedEntry R i xs)) (rows-on R i xs) (rows-none R i xs) (every-solved-row R i (solvedEntry R i xs ∷ xs))
+    where
+      go : (b : Bool) → (b ≡ true → solvedRows R (suc i) xs ≡ solvedRows R i (solvedEntry R i xs ∷ xs)) → (b ≡ false → solvedRows R (suc i) xs ≡ []) →
+          (((v : List ℤ) → solvedRows R i (solvedEntry R i xs ∷ xs) ≡ v ∷ [] → P v) → Every P (solvedRows R i (solvedEntry R i xs ∷ xs))) → Every P (solvedRows R (suc i) xs)
+      go true f g ih = subst (Every P) (sym (f refl)) (ih (λ v e. h v (f refl ∙ e)))
+      go false f g ih = subst (Every P) (sym (g refl)) tt
+
+  every-solved : (n : ℕ) (f : Factoring) (s : ℤ) → ((v : List ℤ) → solved n f s ≡ v ∷ [] → P v) → Every P (solved n f s)
+  unfolding solved
+  every-solved n f s h = every-solved-row (stoppedFactor f) _ _ h
+
+-- ---- the listed vectors
+front-sized : (n : ℕ) (a : ℤ) → Within vectorRange a → (l : List (List ℤ)) → Every (Sized n vectorRange) l → Every (Sized (suc n) vectorRange) (map (λ x. a ∷ x) l)
+front-sized n a w [] h = tt
+front-sized n a w (x ∷ l) h = (more, front-sized n a w l (h .1))
+  where
+    number : (i : ℕ) → Within vectorRange (nth (a ∷ x) i)
+    number zero = w
+    number (suc i) = h .0 .small i
+
+    more : Sized (suc n) vectorRange (a ∷ x)
+    more = record { size = ap suc (h .0 .size); small = number }
+
+tried-sized : (n : ℕ) → Every (Sized n vectorRange) (tried n)
+unfolding tried
+tried-sized zero = (record { size = refl; small = λ i. record { size = omega arith } }, tt)
+tried-sized (suc n) =
+    let P = Sized (suc n) vectorRange in
+    let one : ℤ → List (List ℤ) = λ a. map (λ x. a ∷ x) (tried n) in
+    let put : (a : ℤ) → Within vectorRange a → Every P (one a) = λ a w. front-sized n a w (tried n) (tried-sized n) in
+    every-append P (one (pos 0)) _ (put (pos 0) (record { size = omega arith }))
+    (every-append P (one (pos 1)) (one (negsuc 0)) (put (pos 1) (record { size = omega arith })) (put (negsuc 0) (record { size = omega arith })))
+
+module _ (n : ℕ) (o : n ≤ greatestOrder) (L U : Matrix) (b : Bounds n L U) where
+  module _ (e : ours n L U .ends ≡ false) where
+    solved-sized : (s : ℤ) → Within startRange s → Every (Sized n vectorRange) (solved n (ours n L U) s)
+    solved-sized s w =
+        let stop = bounds-stop b o e in
+        every-solved (Sized n vectorRange) n (ours n L U) s
+        (λ v q. let x = solved-vector n (ours n L U) s q w (omega (arith, stop .inside, stop .cut .rows)) in sized (x .size) (x .small))
+
+    listed-sized : Every (Sized n vectorRange) (listed n L U)
+    unfolding listed
+    listed-sized =
+        every-append _ (tried n) _ (tried-sized n)
+        (every-append _ (solved n (ours n L U) (pos 1)) _ (solved-sized (pos 1) (record { size = omega arith })) (solved-sized (pos 64) (record { size = omega arith })))
+
+  -- ---- the verdict
+  first-fitting : (p : List ℤ → Bool) (l : List (List ℤ)) → Every (Sized n vectorRange) l → Fitting n (shownBy (first p l))
+  unfolding first
+  first-fitting p [] h = tt
+  first-fitting p (x ∷ l) h = go (p x) (first p l) (first-fitting p l (h .1))
+    where
+      go : (b : Bool) (q : Option (List ℤ)) → Fitting n (shownBy q) → Fitting n (shownBy (elim b as (λ z. Option (List ℤ)) [ true ↦ some x | false ↦ q ]))
+      go true q k = h .0
+      go false q k = k
+
+  judged-fitting : Fitting n (judged n L U)
+  judged-fitting = go (ours n L U .ends) refl
+    where
+      go : (q : Bool) → ours n L U .ends ≡ q → Fitting n (judged n L U)
+      go true e = subst (Fitting n) (sym (judged-ends n L U e)) (factor-sized n _ (ends-shape-takeOff n o L U b (of-true e)))
+      go false e = subst (Fitting n) (sym (judged-stops n L U e)) (first-fitting (λ x. shows n L U (nth x)) (listed n L U) (listed-sized e))
+
+pub judgement-fitting : (n : ℕ) → n ≤ greatestOrder → (l u : List ℤ) → Fitting n (judgement n l u)
+unfolding judgement after
+judgement-fitting n o l u = go (firstRefusal (tableChecks n l u)) refl
+  where
+    go : (k : Checked) → firstRefusal (tableChecks n l u) ≡ k → Fitting n (after refused k (judged n (at n l) (at n u)))
+    go Passed e = judged-fitting n o (at n l) (at n u) (passed-bounds n l u e)
+    go (Refused r) e = tt

@@ -1,0 +1,5 @@
+pub mod Writing
+pub mod Listing
+pub mod Decisions
+pub mod Meanings
+pub mod Fitting

@@ -1,0 +1,74 @@
+-- Laws of the table that the judge writes: each store adds an entry, and what is written is the table of the factor.
+use mathlib.Core.Path.{_≡_, refl, sym, ap, ap₂, _∙_}
+use mathlib.Core.List.{List, []}
+use Prim.Native.Nat.{ℕ, zero, suc, _+_, _*_, _/_, _%_, _≤_, _<_}
+use native.Mathlib.Omega.{arith}
+use native.Mathlib.Decide.{ℕ-discrete, decLt}
+use native.Mathlib.Nat.{mul-add-div-right, mul-add-mod-self-right, div-eq-of-lt, mod-eq-of-lt}
+use lib.IntN.{ℤ, pos}
+use lib.ListN.{length, set}
+use lib.Seq.{ext-getD, getD-set-same, getD-set-other}
+use Rattle.tables.specs.Matrix.{Matrix, at, nth, table}
+use Rattle.tables.proofs.Matrix.{getD-tabulate, tabulate-ext, inside, row-inside, column-inside, nth-at, length-table, at-table}
+use Rattle.cholesky.specs.Factoring.{entries}
+use Rattle.cholesky.specs.Store.{columnOf, columnsOf}
+use Rattle.cholesky.proofs.Lists.{nth-past}
+use Rattle.cholesky.proofs.Store.{length-columnOf, entries-columnsOf}
+use Rattle.residual.specs.Slack.{triangle}
+use Rattle.residual.proofs.Rows.{triangle-on, triangle-below}
+use Rattle.verdict.specs.FactorTable.{Written}
+
+-- ---- the factor's entries
+entries-past : (t : List ℤ) (n i j : ℕ) → j < i → j < n → entries (columnsOf t n) i j ≡ pos 0
+unfolding entries columnsOf
+entries-past t n i j k h =
+    ap (λ (c : List ℤ). nth c i) (getD-tabulate n _ [] j h) ∙ nth-past (columnOf t j (suc j)) i (omega (arith, length-columnOf t j (suc j)))
+
+-- they are those that factoring left in the table's columns
+pub triangle-entries : (t : List ℤ) (n i j : ℕ) → j < n → triangle t i j ≡ entries (columnsOf t n) i j
+triangle-entries t n i j h = go (decLt j i)
+  where
+    go : Dec (j < i) → triangle t i j ≡ entries (columnsOf t n) i j
+    go (no k) = triangle-on t i j (omega arith) ∙ sym (entries-columnsOf t n i j (omega arith) h)
+    go (yes k) = triangle-below t i j k ∙ sym (entries-past t n i j k h)
+
+-- ---- what is written
+-- a place belongs to one entry
+module _ {n : ℕ} (i j a b : ℕ) (h : j < n) (k : b < n) (e : a * n + b ≡ i * n + j) where
+  same-row : a ≡ i
+  same-row = sym (row a b k) ∙ ap (λ (m : ℕ). m / n) e ∙ row i j h
+    where
+      row : (c d : ℕ) → d < n → (c * n + d) / n ≡ c
+      row c d m = mul-add-div-right (omega arith) c d ∙ rw (div-eq-of-lt m) (omega arith)
+
+  same-column : b ≡ j
+  same-column = sym (column a b k) ∙ ap (λ (m : ℕ). m % n) e ∙ column i j h
+    where
+      column : (c d : ℕ) → d < n → (c * n + d) % n ≡ d
+      column c d m = mul-add-mod-self-right c n d ∙ mod-eq-of-lt m
+
+module _ {n : ℕ} {M : Matrix} {f : List ℤ} where
+  pub written-none : Written n M f 0
+  written-none = record { entries = λ i j h k. absurd (omega arith) }
+
+  pub written-more : (i j : ℕ) → j < n → i * n + j < length f → Written n M f (i * n + j) → Written n M (set f (i * n + j) (M i j)) (suc (i * n + j))
+  unfolding at
+  written-more i j h l w = record { entries = λ a b k m. go a b k m (ℕ-discrete (a * n + b) (i * n + j)) }
+    where
+      go : (a b : ℕ) → b < n → a * n + b < suc (i * n + j) → Dec (a * n + b ≡ i * n + j) → nth (set f (i * n + j) (M i j)) (a * n + b) ≡ M a b
+      go a b k m (yes e) = rw e (getD-set-same f (i * n + j) (M i j) (pos 0) l) ∙ ap₂ M (sym (same-row i j a b h k e)) (sym (same-column i j a b h k e))
+      go a b k m (no d) = getD-set-other f (i * n + j) (a * n + b) (M i j) (pos 0) d ∙ w .entries a b k (omega arith)
+
+  -- a buffer of n² numbers is then the whole table
+  pub written-table : length f ≡ n * n → Written n M f (n * n) → f ≡ table n M
+  written-table e w =
+      ext-getD (pos 0) f (table n M) (e ∙ sym (length-table n M)) (λ k h.
+      let l : k < n * n = omega arith in
+      let r = row-inside n k l in
+      let c = column-inside n k l in
+      nth-at n k f ∙ w .entries (k / n) (k % n) c (inside r c) ∙ sym (nth-at n k (table n M) ∙ at-table n M (k / n) (k % n) r c))
+
+-- the table of the factor, whose columns stand in t
+pub factor-table : (t : List ℤ) (n : ℕ) → table n (triangle t) ≡ table n (entries (columnsOf t n))
+unfolding table
+factor-table t n = tabulate-ext (n * n) _ _ (λ k h. triangle-entries t n (k / n) (k % n) (column-inside n k h))

@@ -1,0 +1,122 @@
+// The judge.
+ghost use mathlib.Core.Path.{_≡_};
+ghost use mathlib.Core.List.{List};
+ghost use Prim.Native.Nat.{_*_, _≤_, _<_};
+ghost use lib.IntN.{ℤ, natAbs};
+ghost use lib.ListN.{length};
+ghost use Rattle.tables.specs.Ranges.{greatestOrder};
+ghost use Rattle.tables.specs.Matrix.{nth, tabulate};
+ghost use Rattle.verdict.specs.Judge.{Judged, judgement, judgeSizes, written, judge, Meaning};
+ghost use Rattle.verdict.specs.Deciding.{shownVerdict, Decided};
+use crate::factor_table::write_factor;
+use crate::listed::first_listed;
+use cholesky::factoring::Outcome;
+use cholesky::problem::factor_tables;
+use tables::Checked;
+use tables::Refusal;
+
+// What the judge answers.
+pub enum Verdict {
+    Definite,
+    NotDefinite,
+    Undecided,
+    Refused(Refusal),
+}
+
+// The verdict after a factoring that stopped: whether a listed vector was found that shows 'not definite'.
+fn shown(found: bool) -> Verdict
+    ensures { λ r. ⌜ r ≡ shownVerdict found ⌝ }
+{
+    if !found {
+        return Verdict::Undecided;
+    }
+    return Verdict::NotDefinite;
+}
+
+// Checks 3, 4 and 5, and the verdict on tables of order n: the first n² numbers of each.
+// Where it is 'definite' the factor's columns stand in t, and where it is 'not definite' the vector in the first n entries of x.
+pub fn decide(n: usize, low: &[i64], high: &[i64], t: &mut [i64; 64], x: &mut [i64; 8]) -> Verdict
+    requires { ⌜ (n ≤ greatestOrder) × (0 < n) × (n * n ≤ length (now low)) × (n * n ≤ length (now high)) × (length (now t) ≡ 64) × (length (now x) ≡ 8) ⌝ }
+    ensures { λ r. ⌜ Decided (judgement n (now (low .entry)) (now (high .entry))) n r (now (t .exit)) (now (x .exit)) ⌝ }
+{
+    let checked = tables::check_tables(n, low, high);
+    if let Checked::Refused(r) = checked {
+        return Verdict::Refused(r);
+    }
+    let outcome = factor_tables(n, low, high, t);
+    match outcome {
+        Outcome::Ends => Verdict::Definite,
+        Outcome::Stops(j, m) => shown(first_listed(n, low, high, t, j, m, x)),
+    }
+}
+
+// Writes the vector of order n that stands in x.
+fn write_vector(n: usize, x: &[i64; 8], vector: &mut [i64])
+    requires { ⌜ (n ≤ greatestOrder) × (length (now vector) ≡ n) ⌝ }
+    ensures { λ r. ⌜ now (vector .exit) ≡ tabulate n (nth (now (x .entry))) ⌝ }
+{
+    let mut k = 0;
+    while k < n {
+        vector[k] = x[k];
+        k += 1;
+    }
+}
+
+// Checks 3, 4 and 5, the verdict, and the factor or the vector that goes with it, on buffers of the sizes that n calls for.
+fn judge_tables(
+    n: usize,
+    low: &[i64],
+    high: &[i64],
+    factor: &mut [i64],
+    vector: &mut [i64],
+) -> Verdict
+    requires { ⌜ (n ≤ greatestOrder) × (0 < n) × (n * n ≤ length (now low)) × (n * n ≤ length (now high)) × (length (now factor) ≡ n * n) × (length (now vector) ≡ n) ⌝ }
+    ensures { λ r. ⌜ _≡_ {A = Judged (List ℤ)} (record { verdict = r; factor = now (factor .exit); vector = now (vector .exit) }) (written (judgement n (now (low .entry)) (now (high .entry))) (now (factor .entry)) (now (vector .entry))) ⌝ }
+{
+    let mut t = [0i64; 64];
+    let mut x = [0i64; 8];
+    let verdict = decide(n, low, high, &mut t, &mut x);
+    match verdict {
+        Verdict::Definite => {
+            write_factor(n, &t, factor);
+            Verdict::Definite
+        }
+        Verdict::NotDefinite => {
+            write_vector(n, &x, vector);
+            Verdict::NotDefinite
+        }
+        Verdict::Undecided => Verdict::Undecided,
+        Verdict::Refused(r) => Verdict::Refused(r),
+    }
+}
+
+// Whether the buffers of a call have their sizes: that of a table, or that of a vector.
+pub fn sizes_ok(
+    table: usize,
+    entries: usize,
+    low: usize,
+    high: usize,
+    factor: usize,
+    vector: usize,
+) -> bool
+    ensures { λ r. ⌜ r ≡ judgeSizes table entries low high factor vector ⌝ }
+{
+    tables::sizes_ok(table, table, low, high, factor) && vector == entries
+}
+
+// The judge of document 01, of any numbers at all: n is an order or not, and each slice has any length.
+// Refused by the first of the checks 1 to 5 that fails, with both buffers kept. Else 'definite', with the factor written and the vector kept;
+// 'not definite', with the vector written and the factor kept; or 'undecided', with both kept.
+pub fn judge(n: i64, low: &[i64], high: &[i64], factor: &mut [i64], vector: &mut [i64]) -> Verdict
+    ensures exact { λ r. ⌜ _≡_ {A = Judged (List ℤ)} (record { verdict = r; factor = now (factor .exit); vector = now (vector .exit) }) (judge n (now (low .entry)) (now (high .entry)) (now (factor .entry)) (now (vector .entry))) ⌝ }
+    ensures meaning { λ r. ⌜ Meaning r (natAbs n) (now (low .entry)) (now (high .entry)) (now (factor .exit)) (now (vector .exit)) ⌝ }
+{
+    if !tables::order_ok(n) {
+        return Verdict::Refused(Refusal::Order);
+    }
+    let m = n as usize;
+    if !sizes_ok(m * m, m, low.len(), high.len(), factor.len(), vector.len()) {
+        return Verdict::Refused(Refusal::Length);
+    }
+    judge_tables(m, low, high, factor, vector)
+}

@@ -1,0 +1,103 @@
+//! The judge.
+
+use hankboulder_reference::entries::{judge_code, judged, NEGATIVE, POSITIVE};
+use hankboulder_reference::generate::Generator;
+use hankboulder_reference::judge::Verdict;
+
+use crate::act::{Act, Call};
+use crate::counts::{Detail, Outcome};
+use crate::guarded::Lent;
+use crate::test_factor::TEST_FACTOR;
+use crate::test_vector::TEST_VECTOR;
+
+extern "C" {
+    fn hb_judge(
+        n: i64,
+        low: *const u8,
+        low_len: usize,
+        high: *const u8,
+        high_len: usize,
+        factor: *mut u8,
+        factor_len: usize,
+        vector: *mut u8,
+        vector_len: usize,
+    ) -> i64;
+}
+
+/// The judge.
+pub const JUDGE: Act = Act {
+    name: "hb_judge",
+    answers: &[0, -1, -2, 1, 2, 3, 4, 5],
+    // A table of order 1 is symmetric. Factoring it ends where L is 1 or more,
+    // and where not, (1) shows it.
+    not_at_order_1: &[5, -2],
+    inputs: 2,
+    limited: false,
+    generate,
+    reference,
+    library,
+    confirm,
+};
+
+fn generate(generator: &mut Generator) -> Call {
+    let call = generator.judge_call();
+    Call {
+        n: call.n,
+        limit: 0,
+        buffers: vec![call.low, call.high, call.factor, call.vector],
+    }
+}
+
+fn reference(call: &mut Call) -> Outcome {
+    let [low, high, factor, vector] = &mut call.buffers[..] else {
+        unreachable!("the judge has four buffers");
+    };
+    let answer = judged(call.n, low, high, factor, vector);
+    Outcome {
+        answer: judge_code(&answer),
+        detail: match answer {
+            Ok(Verdict::NotDefinite(list, _)) => Some(Detail::From(list)),
+            _ => None,
+        },
+    }
+}
+
+fn library(n: i64, _limit: i64, lent: &[Lent]) -> i64 {
+    let [low, high, factor, vector] = lent else {
+        unreachable!("the judge has four buffers");
+    };
+    // SAFETY: each pointer has its length in readable and writable bytes, and no
+    // two overlap.
+    unsafe {
+        hb_judge(
+            n,
+            low.pointer,
+            low.length,
+            high.pointer,
+            high.length,
+            factor.pointer,
+            factor.length,
+            vector.pointer,
+            vector.length,
+        )
+    }
+}
+
+/// A factor that the judge has written is accepted by the factor test, and of a
+/// vector that it has written the vector test says yes.
+fn confirm(after: &Call, answer: i64) {
+    let [low, high, factor, vector] = &after.buffers[..] else {
+        unreachable!("the judge has four buffers");
+    };
+    let (test, written) = match answer {
+        POSITIVE => (&TEST_FACTOR, factor),
+        NEGATIVE => (&TEST_VECTOR, vector),
+        _ => return,
+    };
+    let call = Call {
+        n: after.n,
+        limit: 0,
+        buffers: [low, high, written].map(Vec::clone).to_vec(),
+    };
+    test.expect(&call, POSITIVE);
+}
