@@ -45,10 +45,6 @@ module _ (q l u z c : ℤ) (nonneg : pos 0 ≤ℤ q) (low : (q *ℤ l) ≤ℤ z)
           order (q ∷ u ∷ z ∷ c ∷ minℤ (l *ℤ c) (u *ℤ c) ∷ []) (*ℤ-nonneg (gap-nonneg high) (gap-nonneg h) & *ℤ-mono nonneg (min-≤ʳ (l *ℤ c) (u *ℤ c)))
           (search solver depth 40 fits 20000) (omega arith)
 
-pub gradient-nonneg : (n : ℕ) (L U : Matrix) (a c : ℕ → ℤ) (k : ℕ) → pos 0 ≤ℤ gradient n L U a c k
-unfolding gradient
-gradient-nonneg n L U a c k = ≤ℤ-trans (abs-nonneg (lowGradient n L U a c k)) (≤-maxˡ _ _)
-
 -- ---- |(Nc)(k) + q a(k)| ≤ q g(k) for a member N over q
 module _ {n : ℕ} {L U N : Matrix} {q : ℤ} (m : Member n L U N q) (a c : ℕ → ℤ) (k : ℕ) (h : k < n) where
   abbrev low : ℤ

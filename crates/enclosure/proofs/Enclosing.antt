@@ -30,7 +30,8 @@ use Rattle.steps.specs.Steps.{step, stepAt}
 use Rattle.enclosure.specs.Box.{gradient, atCentre, bound, secondBound, halfSide, sidesFrom, Box, sides, empty, refused, boxOf, gradientRange, boxed, boxChecks, boxAnswer}
 use Rattle.enclosure.specs.Points.{Point, Says}
 use Rattle.enclosure.proofs.Strong.{step-strong, step-at-strong}
-use Rattle.enclosure.proofs.AtCentre.{offset, from-offset, gradient-nonneg, around}
+use Rattle.enclosure.proofs.AtCentre.{offset, from-offset, around}
+use Rattle.enclosure.proofs.Magnitudes.{gradient-nonneg}
 use Rattle.enclosure.proofs.Halves.{Near, one-of, bound-nonneg, second-bound-nonneg, half-side}
 
 -- ---- side k stands at 2 k and 2 k + 1

@@ -1,17 +1,14 @@
 -- 8, then 9, then the box of the numbers.
 use mathlib.Core.Path.{_≡_, refl}
 use mathlib.Core.Bool.{Bool, true, false}
-use native.Mathlib.Omega.{arith}
 use borrow.Author.Needs.{needs}
 use lib.IntN.{pos}
 use lib.Signed.{leZ}
-use Rattle.integers.proofs.Machine.{clean, clean-result, within-more}
-use Rattle.tables.specs.Matrix.{at, nth}
+use Rattle.integers.proofs.Machine.{clean, clean-result}
+use Rattle.tables.specs.Matrix.{at}
 use Rattle.tables.proofs.Checks.{call-true, call-false}
 use Rattle.steps.specs.Steps.{step}
-use Rattle.enclosure.specs.Contracts.{Ready}
-use Rattle.enclosure.proofs.Quotients.{nonneg-within}
-use Rattle.enclosure.proofs.Magnitudes.{centre-within, gradient-nonneg, near-within}
+use Rattle.enclosure.proofs.HalfSides.{ready-of}
 use Rattle.enclosure.proofs.Halves.{one-of}
 use Rattle.enclosure.proofs.BoxCases.{box-flat, box-far, box-near, stated-sides, stated-empty, stated-refused}
 use Rattle.enclosure.proofs.enclose.bounded.Statement.{statement}
@@ -31,17 +28,7 @@ ready c κs =
     let g = c .before .before .before .before .before .before .before .before .before .gradients .ensures in
     let n = call-true (c .before .before .before .before .before .before .before .near .ensures) (c .before .before .before .before .before .before .if2 .left) in (
       rw (clean-result (c .before .before .before .before .before .before .before .before .before .before .before .before .step), c .before .before .before .before .before .before .before .before .before .before .before .before .step .ensures, clean-result (c .before .before .before .at-centre), c .before .before .before .at-centre .ensures, clean (s .fits .limit))
-          (record {
-            near = record {
-              order = p .0 .tables .order;
-              size = g .size;
-              step = one-of _ (steep (c .before .before .before .before .before .before .before .before .before .before .before));
-              entries = λ k h. nonneg-within (rw (g .entries k h) (gradient-nonneg _ _ _ _ _ k)) (near-within _ (nth (c .before .before .before .before .before .before .before .before .before .gradients .last .1 .1 .1 .1 .1 .0)) n k h);
-            };
-            centre-length = p .0 .centre-length;
-            centre = p .0 .centre;
-            difference = within-more (omega arith) (centre-within (p .0) (p .1));
-          }),
+          (ready-of (p .0) (one-of _ (steep (c .before .before .before .before .before .before .before .before .before .before .before))) g n (p .1)),
       p .2,
     )
 
