@@ -1,32 +1,39 @@
 /*
  * hankboulder: the matrix judge of the range display, for C99, C11 and C++.
- * Link with libhankboulder.a.
+ * Link with libhankboulder.a. This header says all that a caller has to know; docs/FIRMWARE.md has an example, part by part.
  *
  * NUMBERS AND TABLES
  *
  * A problem has an order n, from 1 to HB_MAX_ORDER, and two symmetric n by n tables, low and high: the bounds of a symmetric matrix, entry by entry.
  * That of an ellipsoid has n linear terms, a limit and a centre of n entries besides.
  *
- * In a buffer each number is HB_NUMBER_BYTES = 8 bytes: signed, two's complement, low byte first. A table or a factor has n * n numbers, row by
- * row (the entry of row i and column j, counted from 0, starts at byte 8 * (i * n + j)), so it is HB_TABLE_BYTES(n) bytes long. A vector, the linear
- * terms and a centre have n, and are HB_VECTOR_BYTES(n) bytes long. The sides of a box have 2 * n (the low and the high of side 0, those of side 1,
- * and so on), and are HB_SIDES_BYTES(n) bytes long. Where the processor stores the low byte first, an array of int64_t has this form already:
+ * In a buffer each number is HB_NUMBER_BYTES = 8 bytes: signed, two's complement, low byte first, whatever the processor's own byte order is. A table or
+ * a factor has n * n numbers, row by row (the entry of row i and column j, counted from 0, starts at byte 8 * (i * n + j)), so it is HB_TABLE_BYTES(n)
+ * bytes long. A vector, the linear terms and a centre have n, and are HB_VECTOR_BYTES(n) bytes long. The sides of a box have 2 * n (the low and the high
+ * of side 0, those of side 1, and so on), and are HB_SIDES_BYTES(n) bytes long. Where the processor stores the low byte first, an array of int64_t has
+ * this form already and is passed as it is:
  *
  *     int64_t low[4] = {2, 1, 1, 2};
  *     ... (const uint8_t *)low, sizeof low ...
  *
  * WHAT HOLDS FOR EVERY FUNCTION
  *
+ * - Every call returns, with one of the numbers that the function's comment lists. Any contents, any lengths and any n are answered: what is wrong with
+ *   them is named by a refusal.
  * - Lengths are in bytes. A pointer must point to as many readable bytes as its length says, and writable ones where it is not const. It may be null
  *   where the length is 0: that is an empty buffer, and is refused by HB_REFUSED_LENGTH if n is good.
- * - Any contents and any n are answered. What is wrong with them is named by a refusal.
  * - Pointers need no alignment.
- * - The buffers of one call must not overlap. Nothing is promised where they do.
+ * - The buffers of one call must not overlap: nothing is promised where they do. There is one exception: low and high may be the same table.
  * - A const buffer is only read. A buffer that is not const is written whole, or kept as it was: each function says when. A refused call writes
  *   nothing at all. Nothing is ever written outside of a buffer.
- * - No memory is allocated, nothing is kept between calls, and no lock is held. The functions are reentrant: they may be called from several threads or
- *   interrupt handlers at once, as long as no one else writes to a buffer, or reads one that is not const, during a call that has it.
- * - No floating point is used.
+ * - No memory is allocated, nothing is kept between calls, no lock is held, and the archive has no variables. So the functions are reentrant: they may be
+ *   called from several threads or interrupt handlers at once, if each has the stack for it, as long as no one else writes to a buffer, or reads one that
+ *   is not const, during a call that has it.
+ * - Nothing outside of the archive is called but memcpy and memset, of the C library or your own.
+ * - No floating point is used. The compiler uses vector registers (on x86-64 the xmm registers) for copies and whole numbers, as it may in any C code: an
+ *   interrupt handler that calls a function has to save them.
+ *
+ * What these comments say of answers and buffers is proved of the library's source. The stack is measured and not proved.
  */
 #ifndef HANKBOULDER_H
 #define HANKBOULDER_H
@@ -59,8 +66,20 @@ extern "C" {
 #define HB_CENTRE_RANGE 4096L
 
 /*
- * What a function returns. A number from 1 up is a refusal: 1 to 9 of a call, 10 to 15 of a summary file. A call's checks are made in rising order, each
- * over the whole input before the next, and the first that fails is returned. Each function says which of them it makes.
+ * The stack that a call needs, in bytes, at any order, its arguments and return address included. Measured and not proved: bench/stack painted the stack
+ * below 2000 calls of each function at each order. At most 4784 bytes were overwritten by hb_judge, 2288 by hb_test_factor, 2240 by hb_test_vector and
+ * 4632 by hb_box; they are rounded up here by two thirds or more. That is the archive which rattle-kit-5b compiles with LLVM 22 for x86-64, with
+ * memcpy and memset of glibc 2.36: with any other compiler or processor, measure again. What an interrupt puts on the same stack comes on top.
+ */
+#define HB_JUDGE_STACK 8192
+#define HB_TEST_FACTOR_STACK 4096
+#define HB_TEST_VECTOR_STACK 4096
+#define HB_BOX_STACK 8192
+
+/*
+ * What a function returns: an answer, which is 0 or less, or a refusal, which is 1 or more. The checks are made in rising order, each over the whole
+ * input before the next, and the number of the first that fails is returned. Each function says which of them it makes. 10 to 15 refuse a summary file,
+ * and are returned by no function of this header.
  */
 enum {
     HB_UNDECIDED = -2,
@@ -76,22 +95,32 @@ enum {
     HB_EMPTY = -1,
     HB_BOX = 0,
 
-    HB_REFUSED_ORDER = 1,    /* n is not 1 to 8 */
-    HB_REFUSED_LENGTH = 2,   /* a buffer has not exactly the size that n calls for */
-    HB_REFUSED_RANGE = 3,    /* an entry of low or high, a linear term, the limit or a centre entry is beyond its range */
-    HB_REFUSED_CROSSED = 4,  /* an entry of low is above its entry of high */
-    HB_REFUSED_LOPSIDED = 5, /* low or high is not symmetric */
-    HB_REFUSED_FACTOR = 6,   /* factor: nonzero below the diagonal, a diagonal entry not 1 to 2^26, or another beyond +-2^26 */
-    HB_REFUSED_VECTOR = 7,   /* vector: all zero, or an entry beyond +-2^15 */
-    HB_REFUSED_FLAT = 8,     /* box: t, the step that can be taken off the diagonal, is 0 */
-    HB_REFUSED_FAR = 9,      /* box: some g(k), the gradient bound at the centre, is above 2^20 */
-    HB_REFUSED_CUT = 10,     /* file: 1 or 2 bytes left at a field's start, or its length runs past the end */
-    HB_REFUSED_TAG = 11,     /* file: a tag that is not 01 to 06 */
-    HB_REFUSED_AGAIN = 12,   /* file: a tag already seen */
-    HB_REFUSED_ABSENT = 13,  /* file: one of the six tags is missing */
-    HB_REFUSED_SIZE = 14,    /* file: a field's length is not the one called for */
-    HB_REFUSED_LONG = 15     /* file: more than 4096 bytes */
+    HB_REFUSED_ORDER = 1,    /* "order": n is not 1 to 8 */
+    HB_REFUSED_LENGTH = 2,   /* "length": a buffer has not exactly the size that n calls for */
+    HB_REFUSED_RANGE = 3,    /* "range": an entry of low or high, a linear term, the limit or a centre entry is beyond its range */
+    HB_REFUSED_CROSSED = 4,  /* "crossed": an entry of low is above its entry of high */
+    HB_REFUSED_LOPSIDED = 5, /* "lopsided": low or high is not symmetric */
+    HB_REFUSED_FACTOR = 6,   /* "factor": nonzero below the diagonal, a diagonal entry not 1 to 2^26, or another beyond +-2^26 */
+    HB_REFUSED_VECTOR = 7,   /* "vector": all zero, or an entry beyond +-2^15 */
+    HB_REFUSED_FLAT = 8,     /* "flat": of a box, t, the step that can be taken off the diagonal, is 0 */
+    HB_REFUSED_FAR = 9,      /* "far": of a box, some g(k), the gradient bound at the centre, is above 2^20 */
+    HB_REFUSED_CUT = 10,     /* "cut": of a file, 1 or 2 bytes left at a field's start, or its length runs past the end */
+    HB_REFUSED_TAG = 11,     /* "tag": of a file, a tag that is not 01 to 06 */
+    HB_REFUSED_AGAIN = 12,   /* "again": of a file, a tag already seen */
+    HB_REFUSED_ABSENT = 13,  /* "absent": of a file, one of the six tags is missing */
+    HB_REFUSED_SIZE = 14,    /* "size": of a file, a field's length is not the one called for */
+    HB_REFUSED_LONG = 15     /* "long": of a file, more than 4096 bytes */
 };
+
+/*
+ * The words of the refusals, for a program that wants a table of them. After
+ *
+ *     static const char *const words[] = HB_REFUSAL_WORDS;
+ *
+ * words[HB_REFUSED_ORDER] is "order", and so on to words[HB_REFUSED_LONG], "long". words[0] is empty.
+ */
+#define HB_REFUSAL_WORDS \
+    {"", "order", "length", "range", "crossed", "lopsided", "factor", "vector", "flat", "far", "cut", "tag", "again", "absent", "size", "long"}
 
 /*
  * hb_judge: is every matrix between the bounds positive definite?
@@ -124,6 +153,8 @@ enum {
  *
  * and nothing else. What factor and vector hold before the call plays no part.
  *
+ * Buffers: at any address; none overlaps another, but low and high may be the same table. Nothing is allocated. Reentrant.
+ * Stack: HB_JUDGE_STACK bytes.
  * Time: the longest calls are those of order 8 in which no vector with entries 0, 1 and -1 is found: all 6560 of them are looked at.
  */
 int64_t hb_judge(int64_t n, const uint8_t *low, size_t low_len, const uint8_t *high, size_t high_len, uint8_t *factor, size_t factor_len,
@@ -155,6 +186,9 @@ int64_t hb_judge(int64_t n, const uint8_t *low, size_t low_len, const uint8_t *h
  *   HB_REFUSED_FACTOR    the factor is not of the form above
  *
  * and nothing else. Nothing is written.
+ *
+ * Buffers: at any address; none overlaps another, but low and high may be the same table. Nothing is allocated. Reentrant.
+ * Stack: HB_TEST_FACTOR_STACK bytes.
  */
 int64_t hb_test_factor(int64_t n, const uint8_t *low, size_t low_len, const uint8_t *high, size_t high_len, const uint8_t *factor, size_t factor_len);
 
@@ -182,6 +216,9 @@ int64_t hb_test_factor(int64_t n, const uint8_t *low, size_t low_len, const uint
  *   HB_REFUSED_VECTOR    the vector is all zero, or an entry is beyond +-2^15
  *
  * and nothing else. Nothing is written.
+ *
+ * Buffers: at any address; none overlaps another, but low and high may be the same table. Nothing is allocated. Reentrant.
+ * Stack: HB_TEST_VECTOR_STACK bytes.
  */
 int64_t hb_test_vector(int64_t n, const uint8_t *low, size_t low_len, const uint8_t *high, size_t high_len, const uint8_t *vector, size_t vector_len);
 
@@ -225,6 +262,8 @@ int64_t hb_test_vector(int64_t n, const uint8_t *low, size_t low_len, const uint
  *
  * and nothing else. Every refusal comes before 'empty'. What sides holds before the call plays no part.
  *
+ * Buffers: at any address; none overlaps another, but low and high may be the same table. Nothing is allocated. Reentrant.
+ * Stack: HB_BOX_STACK bytes.
  * Time: up to 20 factorings for t and 20 for each t(k), so 180 at order 8.
  */
 int64_t hb_box(int64_t n, const uint8_t *low, size_t low_len, const uint8_t *high, size_t high_len, const uint8_t *linear, size_t linear_len,

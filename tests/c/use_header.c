@@ -264,9 +264,50 @@ static void run_box_of_order_1(void)
     expect("its side", holds(sides, expected, 2), 1);
 }
 
+/* The words stand at their numbers, and there is one for each. */
+static void run_words(void)
+{
+    static const char *const words[] = HB_REFUSAL_WORDS;
+    expect("one word for each number", (int64_t)(sizeof words / sizeof words[0]), HB_REFUSED_LONG + 1);
+    expect("no word for 0", strcmp(words[0], ""), 0);
+    expect("order", strcmp(words[HB_REFUSED_ORDER], "order"), 0);
+    expect("length", strcmp(words[HB_REFUSED_LENGTH], "length"), 0);
+    expect("range", strcmp(words[HB_REFUSED_RANGE], "range"), 0);
+    expect("crossed", strcmp(words[HB_REFUSED_CROSSED], "crossed"), 0);
+    expect("lopsided", strcmp(words[HB_REFUSED_LOPSIDED], "lopsided"), 0);
+    expect("factor", strcmp(words[HB_REFUSED_FACTOR], "factor"), 0);
+    expect("vector", strcmp(words[HB_REFUSED_VECTOR], "vector"), 0);
+    expect("flat", strcmp(words[HB_REFUSED_FLAT], "flat"), 0);
+    expect("far", strcmp(words[HB_REFUSED_FAR], "far"), 0);
+    expect("cut", strcmp(words[HB_REFUSED_CUT], "cut"), 0);
+    expect("tag", strcmp(words[HB_REFUSED_TAG], "tag"), 0);
+    expect("again", strcmp(words[HB_REFUSED_AGAIN], "again"), 0);
+    expect("absent", strcmp(words[HB_REFUSED_ABSENT], "absent"), 0);
+    expect("size", strcmp(words[HB_REFUSED_SIZE], "size"), 0);
+    expect("long", strcmp(words[HB_REFUSED_LONG], "long"), 0);
+}
+
+/* One table may be lent as low and as high. */
+static void run_one_table(void)
+{
+    const int64_t numbers[ENTRIES] = ROUND, zeros[ORDER] = ZEROS, still[2 * ORDER] = {0, 0, 0, 0};
+    uint8_t table[WHOLE], factor[WHOLE], vector[WHOLE_VECTOR], terms[WHOLE_VECTOR], middle[WHOLE_VECTOR], sides[WHOLE_SIDES];
+    store(table, numbers, ENTRIES);
+    store(terms, zeros, ORDER);
+    store(middle, zeros, ORDER);
+    expect("judge one table", hb_judge(ORDER, table, WHOLE, table, WHOLE, factor, WHOLE, vector, WHOLE_VECTOR), HB_DEFINITE);
+    expect("test its factor", hb_test_factor(ORDER, table, WHOLE, table, WHOLE, factor, WHOLE), HB_ACCEPTED);
+    store(vector, numbers, ORDER);
+    expect("test a vector", hb_test_vector(ORDER, table, WHOLE, table, WHOLE, vector, WHOLE_VECTOR), HB_NO);
+    expect("box it", hb_box(ORDER, table, WHOLE, table, WHOLE, terms, WHOLE_VECTOR, 0, middle, WHOLE_VECTOR, sides, WHOLE_SIDES), HB_BOX);
+    expect("its sides", holds(sides, still, 2 * ORDER), 1);
+}
+
 int main(void)
 {
     size_t k;
+    run_words();
+    run_one_table();
     for (k = 0; k < sizeof box_cases / sizeof box_cases[0]; k++)
         run_box_case(&box_cases[k]);
     run_box_of_order_1();

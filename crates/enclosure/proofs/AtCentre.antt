@@ -11,14 +11,14 @@ use Rattle.integers.specs.Numbers.{absℤ, minℤ, maxℤ}
 use Rattle.integers.specs.Sum.{sum}
 use Rattle.integers.proofs.Parts.{≤ℤ-trans, *ℤ-nonneg, square-nonneg, gap-nonneg, pos-nonneg}
 use Rattle.integers.proofs.Solver.{_&_, ring, order, solver}
-use Rattle.integers.proofs.Order.{≤ℤ-total, *ℤ-mono, abs-nonneg, ≤-abs, neg-≤-abs, min-≤ˡ, min-≤ʳ, ≤-maxˡ, ≤-maxʳ}
+use Rattle.integers.proofs.Order.{≤ℤ-total, *ℤ-mono, ≤-abs, neg-≤-abs, min-≤ˡ, min-≤ʳ, ≤-maxˡ, ≤-maxʳ}
 use Rattle.integers.proofs.Sums.{sum-ext, sum-+, sum-*, sum-mono}
 use Rattle.tables.specs.Matrix.{Matrix, form}
 use Rattle.tables.specs.Members.{Member}
 use Rattle.tables.proofs.Forms.{image, form-shift}
 use Rattle.vectors.specs.Least.{leastValue}
 use Rattle.vectors.proofs.Showing.{least-below}
-use Rattle.enclosure.specs.Box.{lowGradient, highGradient, gradient, atCentre}
+use Rattle.sides.specs.Sides.{lowGradient, highGradient, gradient, atCentre}
 use Rattle.enclosure.specs.Points.{Point}
 
 -- ---- q l ≤ z ≤ q u: z c lies from q times the smaller of l c and u c to q times the greater

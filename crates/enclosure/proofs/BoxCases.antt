@@ -1,34 +1,29 @@
 -- The box by its steps: flat, far, and else what its numbers give; and what the code states and hands out.
 use mathlib.Core.Path.{_≡_, refl, sym, ap, ap₂, _∙_}
 use mathlib.Core.Bool.{Bool, true, false, _&&_}
-use mathlib.Core.List.{List, [], _∷_, _++_}
-use Prim.Native.Nat.{ℕ, zero, suc, _+_, _*_, _≤_, _<_}
+use mathlib.Core.List.{List}
+use Prim.Native.Nat.{ℕ, _+_, _*_, _≤_, _<_}
 use native.Mathlib.Omega.{arith}
-use lib.IntN.{ℤ, pos, _+ℤ_, _-ℤ_, _*ℤ_}
+use lib.IntN.{ℤ, pos}
 use lib.Signed.{leZ}
-use lib.ListN.{length, set}
-use lib.Seq.{getD-set-same, getD-set-other}
+use lib.ListN.{length}
 use borrow.Author.Tests.{eqb-true}
 use lib.Dec.{eqb}
-use native.Mathlib.Decide.{ℕ-discrete}
-use Rattle.integers.specs.Numbers.{Within, minℤ}
-use Rattle.integers.specs.Sum.{sum}
-use Rattle.integers.specs.Division.{ceilDiv}
-use Rattle.integers.specs.Root.{leastRoot}
-use Rattle.integers.proofs.Sums.{sum-ext}
+use Rattle.integers.specs.Numbers.{Within}
 use Rattle.tables.specs.Ranges.{greatestOrder, linearRange, limitRange, centreRange}
 use Rattle.tables.specs.Matrix.{Matrix, at, nth, tabulate}
-use Rattle.tables.specs.Checks.{all, sizesOk, within, allWithin, firstRefusal, tableChecks}
+use Rattle.tables.specs.Checks.{all, sizesOk, within, allWithin, firstRefusal, problemChecks}
 use Rattle.tables.specs.declared.Checked.the-variants.{Passed, Refused}
 use Rattle.tables.specs.declared.Refusal.{Refusal}
-use Rattle.tables.specs.declared.Refusal.the-variants.{Range, Flat, Far}
-use Rattle.tables.proofs.Checks.{sizes-of, and-left, and-right, all-at, all-ext, within-of, first-passes, first-refuses, passed-bounds}
+use Rattle.tables.specs.declared.Refusal.the-variants.{Flat, Far}
+use Rattle.tables.proofs.Checks.{sizes-of, and-left, and-right, all-at, all-ext, within-of, first-passed, rest-passed, passed-bounds}
 use Rattle.tables.proofs.Answers.{after-refused, after-passed}
 use Rattle.tables.proofs.Matrix.{nth-tabulate}
 use Rattle.steps.specs.Steps.{step, stepAt}
-use Rattle.enclosure.specs.Box.{gradient, atCentre, bound, firstHalf, secondBound, halfSide, sidesFrom, Box, sides, empty, refused, boxOf, gradientRange, boxed, boxChecks, boxAnswer}
-use Rattle.enclosure.proofs.SameBox.{box-same}
-use Rattle.enclosure.specs.Contracts.{Centred, boxIn, Answered}
+use Rattle.sides.specs.Sides.{gradient, atCentre, boxOf, gradientRange}
+use Rattle.enclosure.specs.Box.{Box, sides, refused, boxed, boxAnswer}
+use Rattle.sides.proofs.SameBox.{box-same}
+use Rattle.sides.specs.Contracts.{Centred, boxIn, Answered}
 use Rattle.enclosure.specs.Act.{Enclosed, handed, boxSizes}
 use Rattle.enclosure.specs.Stating.{stated, Stated}
 use Rattle.enclosure.specs.declared.enclose.BoxAnswer.{BoxAnswer}
@@ -86,34 +81,31 @@ stated-by e s = record { box = e ∙ s .box; size = s .size }
 
 -- ---- checks 3, 4 and 5
 module _ (n : ℕ) (l u a : List ℤ) (α : ℤ) (c : List ℤ) where
-  -- what check 3 asks beside the tables
-  abbrev inRange : Bool
-  inRange = allWithin linearRange n a && (within limitRange α && allWithin centreRange n c)
+  pub answer-refused : (r : Refusal) → firstRefusal (problemChecks n l u a α c) ≡ Refused r → boxAnswer n l u a α c ≡ refused r
+  unfolding boxAnswer
+  answer-refused r e = sym (after-refused refused r _ e)
 
-  pub answer-range : inRange ≡ false → boxAnswer n l u a α c ≡ refused Range
-  unfolding boxAnswer boxChecks
-  answer-range e = sym (after-refused refused Range _ (first-refuses _ _ e))
+  module _ (e : firstRefusal (problemChecks n l u a α c) ≡ Passed) where
+    pub answer-passed : boxAnswer n l u a α c ≡ boxed n (at n l) (at n u) (nth a) α (nth c)
+    unfolding boxAnswer
+    answer-passed = sym (after-passed refused _ e)
 
-  module _ (e : inRange ≡ true) where
-    pub answer-tables : (r : Refusal) → firstRefusal (tableChecks n l u) ≡ Refused r → boxAnswer n l u a α c ≡ refused r
-    unfolding boxAnswer boxChecks
-    answer-tables r f = sym (after-refused refused r _ (first-passes _ _ e ∙ f))
-
-    pub answer-passed : firstRefusal (tableChecks n l u) ≡ Passed → boxAnswer n l u a α c ≡ boxed n (at n l) (at n u) (nth a) α (nth c)
-    unfolding boxAnswer boxChecks
-    answer-passed f = sym (after-passed refused _ (first-passes _ _ e ∙ f))
+    -- what check 3 found beside the tables
+    in-range : (allWithin linearRange n a && (within limitRange α && allWithin centreRange n c)) ≡ true
+    unfolding problemChecks
+    in-range = first-passed _ _ e
 
     pub limit-within : Within limitRange α
-    limit-within = within-of limitRange α (and-left (within limitRange α) (allWithin centreRange n c) (and-right (allWithin linearRange n a) _ e))
+    limit-within = within-of limitRange α (and-left (within limitRange α) (allWithin centreRange n c) (and-right (allWithin linearRange n a) _ in-range))
 
-    pub centred : n ≤ greatestOrder → n * n ≤ length l → n * n ≤ length u → n ≤ length a → n ≤ length c → firstRefusal (tableChecks n l u) ≡ Passed → Centred n l u a c
-    unfolding allWithin
-    centred o p q r s f = record {
-      tables = record { order = o; low-length = p; high-length = q; bounds = passed-bounds n l u f };
+    pub centred : n ≤ greatestOrder → n * n ≤ length l → n * n ≤ length u → n ≤ length a → n ≤ length c → Centred n l u a c
+    unfolding allWithin problemChecks
+    centred o p q r s = record {
+      tables = record { order = o; low-length = p; high-length = q; bounds = passed-bounds n l u (rest-passed _ _ e) };
       linear-length = r;
       centre-length = s;
-      linear = λ k h. within-of linearRange (nth a k) (all-at _ n (and-left _ (within limitRange α && allWithin centreRange n c) e) k h);
-      centre = λ k h. within-of centreRange (nth c k) (all-at _ n (and-right (within limitRange α) _ (and-right (allWithin linearRange n a) _ e)) k h);
+      linear = λ k h. within-of linearRange (nth a k) (all-at _ n (and-left _ (within limitRange α && allWithin centreRange n c) in-range) k h);
+      centre = λ k h. within-of centreRange (nth c k) (all-at _ n (and-right (within limitRange α) _ (and-right (allWithin linearRange n a) _ in-range)) k h);
     }
 
 -- ---- what is handed out with it, in a buffer of any kind
@@ -142,11 +134,3 @@ box-sizes-of size entries pairs l u a c s e =
     let t = and-right (sizesOk size entries l u a) (eqb c entries && eqb s pairs) e in
     let q = eqb-true c entries (and-left (eqb c entries) (eqb s pairs) t) in
     (z .0, z .1, z .2, omega arith, eqb-true s pairs (and-right (eqb c entries) (eqb s pairs) t))
-
--- one entry more of a list that is being filled
-pub one-more : (p : List ℤ) (m : ℕ) (v : ℤ) (f : ℕ → ℤ) → m < length p → v ≡ f m → (k : ℕ) → k < suc m → (k < m → nth p k ≡ f k) → nth (set p m v) k ≡ f k
-one-more p m v f h e k l g = go (ℕ-discrete k m)
-  where
-    go : Dec (k ≡ m) → nth (set p m v) k ≡ f k
-    go (yes q) = rw q (getD-set-same p m v (pos 0) h ∙ e)
-    go (no q) = getD-set-other p m k v (pos 0) q ∙ g (omega arith)

@@ -1,6 +1,6 @@
 -- The sides of a box have the size that the order calls for, and fit 64 bits.
 use mathlib.Core.Path.{_≡_, refl, sym, subst}
-use mathlib.Core.Bool.{Bool, true, false, _&&_}
+use mathlib.Core.Bool.{Bool, true, false}
 use mathlib.Core.List.{List}
 use Prim.Native.Nat.{ℕ, _+_, _*_, _/_, _^_, _≤_, _<_}
 use native.Mathlib.Omega.{arith}
@@ -12,20 +12,23 @@ use Rattle.integers.specs.Numbers.{Within}
 use Rattle.integers.specs.Division.{ceilDiv}
 use Rattle.integers.specs.Root.{leastRoot}
 use Rattle.integers.proofs.Machine.{within-more, within-+, within--}
-use Rattle.tables.specs.Ranges.{greatestOrder, linearRange, limitRange, centreRange}
+use Rattle.tables.specs.Ranges.{greatestOrder, limitRange, centreRange}
 use Rattle.tables.specs.Matrix.{Matrix, at, nth, tabulate}
-use Rattle.tables.specs.Checks.{all, within, allWithin, firstRefusal, tableChecks}
+use Rattle.tables.specs.Checks.{all, firstRefusal, problemChecks}
 use Rattle.tables.specs.declared.Checked.{Checked}
 use Rattle.tables.specs.declared.Checked.the-variants.{Passed, Refused}
 use Rattle.tables.proofs.Matrix.{length-tabulate, nth-tabulate}
 use Rattle.cholesky.proofs.Lists.{nth-past}
 use Rattle.steps.specs.Steps.{step, stepAt}
-use Rattle.enclosure.specs.Box.{gradient, bound, secondBound, halfSide, sidesFrom, Box, sides, empty, refused, boxOf, gradientRange, boxed, boxAnswer}
-use Rattle.enclosure.specs.Contracts.{boundRange, Centred, Filled, Ready}
+use Rattle.sides.specs.Sides.{gradient, bound, secondBound, halfSide, sidesFrom, boxOf, gradientRange}
+use Rattle.enclosure.specs.Box.{Box, sides, empty, refused, boxed, boxAnswer}
+use Rattle.tables.specs.Buffers.{Filled}
+use Rattle.arithmetic.specs.Contracts.{boundRange}
+use Rattle.sides.specs.Contracts.{Centred, Ready}
 use Rattle.enclosure.proofs.Halves.{one-of}
 use Rattle.enclosure.proofs.Enclosing.{length-sides, sides-at}
-use Rattle.enclosure.proofs.HalfSides.{ready-of, bound-within, halves-within, half-terms, second-within, smaller-within, second-is, half-is}
-use Rattle.enclosure.proofs.BoxCases.{box-flat, box-far, box-near, answer-range, answer-tables, answer-passed, limit-within, centred}
+use Rattle.sides.proofs.HalfSides.{ready-of, bound-within, halves-within, half-terms, second-within, smaller-within, second-is, half-is}
+use Rattle.enclosure.proofs.BoxCases.{box-flat, box-far, box-near, answer-refused, answer-passed, limit-within, centred}
 
 -- the numbers of a list, past its end too (where it reads 0), are within ±b
 pub record Sized (m b : ℕ) (x : List ℤ) : Type 0 where
@@ -38,7 +41,7 @@ Fitting n empty = Unit {0}
 Fitting n (refused r) = Unit {0}
 
 -- the first n of 8 entries
-filled : (n : ℕ) → n ≤ greatestOrder → (f : ℕ → ℤ) → Filled n f (tabulate 8 f)
+filled : (n : ℕ) → n ≤ greatestOrder → (f : ℕ → ℤ) → Filled 8 n f (tabulate 8 f)
 filled n o f = record { size = length-tabulate 8 f; entries = λ k h. nth-tabulate 8 f k (omega arith) }
 
 -- ---- sides c(k) - h(k) and c(k) + h(k)
@@ -66,7 +69,7 @@ module _ {n : ℕ} {c : List ℤ} {d t : ℤ} {g : List ℤ} (q : Ready n c d t 
   abbrev halves : ℕ → ℤ
   halves k = ceilDiv (nth g k) t +ℤ leastRoot t (bound n d t (nth g))
 
-  halves-filled : Filled n halves (tabulate 8 halves)
+  halves-filled : Filled 8 n halves (tabulate 8 halves)
   halves-filled = filled n (q .near .order) halves
 
   first-bound : Within boundRange (bound n d t (nth g))
@@ -108,7 +111,7 @@ module _ {n : ℕ} {l u a c : List ℤ} (q : Centred n l u a c) {α : ℤ} (w : 
   abbrev g : List ℤ
   g = tabulate 8 gradients
 
-  gradients-filled : Filled n gradients g
+  gradients-filled : Filled 8 n gradients g
   gradients-filled = filled n (q .tables .order) gradients
 
   boxed-fitting : Fitting n (boxed n L U (nth a) α (nth c))
@@ -123,13 +126,9 @@ module _ {n : ℕ} {l u a c : List ℤ} (q : Centred n l u a c) {α : ℤ} (w : 
 
 pub answer-fitting : (n : ℕ) → n ≤ greatestOrder → (l u a : List ℤ) (α : ℤ) (c : List ℤ) → n * n ≤ length l → n * n ≤ length u → n ≤ length a → n ≤ length c →
     Fitting n (boxAnswer n l u a α c)
-answer-fitting n o l u a α c h i j k =
-    go (allWithin linearRange n a && (within limitRange α && allWithin centreRange n c)) refl (firstRefusal (tableChecks n l u)) refl
+answer-fitting n o l u a α c h i j k = go (firstRefusal (problemChecks n l u a α c)) refl
   where
-    go : (x : Bool) → (allWithin linearRange n a && (within limitRange α && allWithin centreRange n c)) ≡ x →
-        (y : Checked) → firstRefusal (tableChecks n l u) ≡ y → Fitting n (boxAnswer n l u a α c)
-    go false e y f = subst (Fitting n) (sym (answer-range n l u a α c e)) tt
-    go true e (Refused r) f = subst (Fitting n) (sym (answer-tables n l u a α c e r f)) tt
-    go true e Passed f =
-        subst (Fitting n) (sym (answer-passed n l u a α c e f))
-        (boxed-fitting (centred n l u a α c e o h i j k f) (limit-within n l u a α c e))
+    go : (x : Checked) → firstRefusal (problemChecks n l u a α c) ≡ x → Fitting n (boxAnswer n l u a α c)
+    go (Refused r) e = subst (Fitting n) (sym (answer-refused n l u a α c r e)) tt
+    go Passed e =
+        subst (Fitting n) (sym (answer-passed n l u a α c e)) (boxed-fitting (centred n l u a α c e o h i j k) (limit-within n l u a α c e))

@@ -2,20 +2,18 @@
 use mathlib.Core.Path.{_≡_, refl}
 use mathlib.Core.Bool.{Bool, true, false, false≢true}
 use mathlib.Core.List.{List}
-use Prim.Native.Nat.{ℕ, _+_, _*_, _≤_}
+use Prim.Native.Nat.{ℕ, _≤_}
 use lib.IntN.{ℤ, natAbs}
-use lib.ListN.{length}
 use Rattle.tables.specs.Ranges.{greatestOrder}
 use Rattle.tables.specs.Matrix.{at, nth}
 use Rattle.tables.specs.Checks.{firstRefusal}
 use Rattle.tables.specs.Answers.{after, entryChecks}
-use Rattle.tables.specs.declared.Refusal.{Refusal}
 use Rattle.tables.specs.declared.Checked.{Checked}
 use Rattle.tables.specs.declared.Checked.the-variants.{Passed, Refused}
 use Rattle.tables.proofs.Checks.{first-passed, order-of}
 use Rattle.enclosure.specs.Box.{Box, sides, empty, refused, boxAnswer}
 use Rattle.enclosure.specs.Points.{Says}
-use Rattle.enclosure.specs.Act.{Enclosed, handed, boxSizes, enclose, Meaning}
+use Rattle.enclosure.specs.Act.{Enclosed, handed, enclose, Meaning}
 use Rattle.enclosure.proofs.Enclosing.{answer-says}
 
 -- the sides as they are

@@ -19,7 +19,7 @@ use Rattle.integers.proofs.Sums.{sum-ext}
 use Rattle.tables.specs.Ranges.{greatestOrder}
 use Rattle.tables.specs.Matrix.{Matrix, at, nth, tabulate, form}
 use Rattle.tables.specs.Bounds.{Bounds}
-use Rattle.tables.specs.Checks.{all, firstRefusal, tableChecks}
+use Rattle.tables.specs.Checks.{problemChecks, all, firstRefusal, tableChecks}
 use Rattle.tables.specs.Answers.{after}
 use Rattle.tables.specs.declared.Refusal.the-variants.{Flat, Far}
 use Rattle.tables.specs.declared.Checked.{Checked}
@@ -27,11 +27,12 @@ use Rattle.tables.specs.declared.Checked.the-variants.{Passed, Refused}
 use Rattle.tables.proofs.Matrix.{nth-tabulate}
 use Rattle.tables.proofs.Checks.{rest-passed, passed-bounds}
 use Rattle.steps.specs.Steps.{step, stepAt}
-use Rattle.enclosure.specs.Box.{gradient, atCentre, bound, secondBound, halfSide, sidesFrom, Box, sides, empty, refused, boxOf, gradientRange, boxed, boxChecks, boxAnswer}
+use Rattle.sides.specs.Sides.{gradient, atCentre, bound, secondBound, halfSide, sidesFrom, boxOf, gradientRange}
+use Rattle.enclosure.specs.Box.{Box, sides, empty, refused, boxed, boxAnswer}
 use Rattle.enclosure.specs.Points.{Point, Says}
 use Rattle.enclosure.proofs.Strong.{step-strong, step-at-strong}
 use Rattle.enclosure.proofs.AtCentre.{offset, from-offset, around}
-use Rattle.enclosure.proofs.Magnitudes.{gradient-nonneg}
+use Rattle.sides.proofs.Magnitudes.{gradient-nonneg}
 use Rattle.enclosure.proofs.Halves.{Near, one-of, bound-nonneg, second-bound-nonneg, half-side}
 
 -- ---- side k stands at 2 k and 2 k + 1
@@ -146,13 +147,13 @@ module _ (n : ℕ) (order-ok : n ≤ greatestOrder) (L U : Matrix) (b : Bounds n
 
 -- ---- the answer: refused, or the box of tables that are bounds
 module _ (n : ℕ) (order-ok : n ≤ greatestOrder) (l u a : List ℤ) (α : ℤ) (c : List ℤ) where
-  box-bounds : firstRefusal (boxChecks n l u a α c) ≡ Passed → Bounds n (at n l) (at n u)
-  unfolding boxChecks
+  box-bounds : firstRefusal (problemChecks n l u a α c) ≡ Passed → Bounds n (at n l) (at n u)
+  unfolding problemChecks
   box-bounds e = passed-bounds n l u (rest-passed _ (tableChecks n l u) e)
 
   pub answer-says : Says n (at n l) (at n u) (nth a) α (boxAnswer n l u a α c)
   unfolding boxAnswer after
-  answer-says = go (firstRefusal (boxChecks n l u a α c)) box-bounds
+  answer-says = go (firstRefusal (problemChecks n l u a α c)) box-bounds
     where
       go : (k : Checked) → (k ≡ Passed → Bounds n (at n l) (at n u)) →
           Says n (at n l) (at n u) (nth a) α (after refused k (boxed n (at n l) (at n u) (nth a) α (nth c)))

@@ -17,7 +17,7 @@ use Rattle.integers.proofs.Order.{<-suc, *ℤ-mono, *ℤ-cancel, square-cancel,
 use Rattle.integers.proofs.Sums.{sum-ext, sum-+, sum-*, sum-mono, sum-nonneg, term-≤-sum}
 use Rattle.integers.proofs.Division.{ceil-law}
 use Rattle.integers.proofs.Roots.{leastRoot-nonneg, leastRoot-law}
-use Rattle.enclosure.specs.Box.{bound, firstHalf, secondBound, halfSide}
+use Rattle.sides.specs.Sides.{bound, firstHalf, secondBound, halfSide}
 
 -- x is not 0 or less
 pub one-of : (x : ℤ) → leZ x (pos 0) ≡ false → pos 1 ≤ℤ x

@@ -4,8 +4,4 @@ pub mod Halves
 pub mod Enclosing
 pub mod BoxMeanings
 pub mod BoxCases
-pub mod Quotients
-pub mod Magnitudes
-pub mod HalfSides
-pub mod SameBox
 pub mod BoxFitting

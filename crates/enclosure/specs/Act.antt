@@ -1,13 +1,13 @@
 -- The box act: document 01, "Refused calls" and "Box". What it answers, what it writes, and what its answer means.
 use mathlib.Core.Path.{_≡_}
-use mathlib.Core.Bool.{Bool, true, false, _&&_}
+use mathlib.Core.Bool.{Bool, _&&_}
 use mathlib.Core.List.{List}
 use Prim.Native.Nat.{ℕ, _+_, _*_, _<_}
 use lib.Dec.{eqb}
 use lib.IntN.{ℤ, pos, negsuc, natAbs, _*ℤ_}
 use lib.Signed.{_≤ℤ_}
 use lib.ListN.{length}
-use Rattle.tables.specs.Matrix.{at, nth, tabulate}
+use Rattle.tables.specs.Matrix.{at, nth}
 use Rattle.tables.specs.Refusals.{refusalNumber}
 use Rattle.tables.specs.Checks.{sizesOk, firstRefusal}
 use Rattle.tables.specs.Answers.{after, entryChecks}

@@ -1,5 +1,4 @@
 pub mod Box
 pub mod Points
-pub mod Contracts
 pub mod Act
 pub mod Stating

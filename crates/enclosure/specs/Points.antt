@@ -1,6 +1,5 @@
 -- Demand 3 of the box: the points of the ellipsoid, and what an answer says of them.
 use Prim.Native.Nat.{ℕ, _+_, _<_}
-use mathlib.Core.List.{List}
 use lib.IntN.{ℤ, pos, _+ℤ_, _*ℤ_}
 use lib.Signed.{_≤ℤ_}
 use Rattle.integers.specs.Sum.{sum}

@@ -1,51 +1,28 @@
 // The box act.
 ghost use mathlib.Core.Path.{_≡_};
-ghost use mathlib.Core.Bool.{_&&_};
 ghost use mathlib.Core.List.{List};
 ghost use Prim.Native.Nat.{_+_, _*_, _≤_};
 ghost use lib.IntN.{ℤ, natAbs};
 ghost use lib.ListN.{length};
 ghost use Rattle.integers.specs.Numbers.{Within};
-ghost use Rattle.tables.specs.Ranges.{greatestOrder, linearRange, limitRange, centreRange};
-ghost use Rattle.tables.specs.Matrix.{at, nth, tabulate};
-ghost use Rattle.tables.specs.Checks.{within, allWithin};
+ghost use Rattle.tables.specs.Ranges.{greatestOrder, limitRange};
+ghost use Rattle.tables.specs.Matrix.{at, nth};
 ghost use Rattle.enclosure.specs.Box.{boxed, boxAnswer};
-ghost use Rattle.enclosure.specs.Contracts.{Centred};
+ghost use Rattle.sides.specs.Contracts.{Centred};
 ghost use Rattle.enclosure.specs.Act.{Enclosed, handed, boxSizes, enclose, Meaning};
 ghost use Rattle.enclosure.specs.Stating.{Stated};
-use crate::centre::at_centre;
-use crate::centre::gradients;
-use crate::centre::near;
-use crate::sides::box_of;
+use sides::box_of;
+use sides::centre::at_centre;
+use sides::centre::gradients;
+use sides::centre::near;
 use tables::Checked;
 use tables::Refusal;
-
-// Linear terms are within ±2^36, the limit within ±2^54, and entries of the centre within ±2^12.
-const LINEAR_RANGE: i64 = 1 << 36;
-
-const LIMIT_RANGE: i64 = 1 << 54;
-
-const CENTRE_RANGE: i64 = 1 << 12;
 
 // What the box act answers: sides, or that there is no point.
 pub enum BoxAnswer {
     Sides,
     Empty,
     Refused(Refusal),
-}
-
-// Whether the linear terms, the limit and the centre are within their ranges.
-fn in_range(n: usize, linear: &[i64], limit: i64, centre: &[i64]) -> bool
-    requires { ⌜ (n ≤ length (now linear)) × (n ≤ length (now centre)) ⌝ }
-    ensures { λ r. ⌜ r ≡ (allWithin linearRange n (now (linear .entry)) && (within limitRange limit && allWithin centreRange n (now (centre .entry)))) ⌝ }
-{
-    if !tables::all_within(linear, n, LINEAR_RANGE) {
-        return false;
-    }
-    if !tables::within(limit, LIMIT_RANGE) {
-        return false;
-    }
-    tables::all_within(centre, n, CENTRE_RANGE)
 }
 
 // Refusals 8 and 9, and the box, of numbers that passed checks 3 to 5. Side k stands at 2 k and 2 k + 1 of out.
@@ -92,26 +69,11 @@ pub fn answer(
     requires { ⌜ (n ≤ greatestOrder) × (n * n ≤ length (now low)) × (n * n ≤ length (now high)) × (n ≤ length (now linear)) × (n ≤ length (now centre)) × (length (now out) ≡ 16) ⌝ }
     ensures { λ r. ⌜ Stated (boxAnswer n (now (low .entry)) (now (high .entry)) (now (linear .entry)) limit (now (centre .entry))) n r (now (out .exit)) ⌝ }
 {
-    if !in_range(n, linear, limit, centre) {
-        return BoxAnswer::Refused(Refusal::Range);
-    }
-    let checked = tables::check_tables(n, low, high);
+    let checked = tables::check_problem(n, low, high, linear, limit, centre);
     if let Checked::Refused(r) = checked {
         return BoxAnswer::Refused(r);
     }
     bounded(n, low, high, linear, limit, centre, out)
-}
-
-// Writes the sides that stand in x.
-fn write_sides(count: usize, x: &[i64; 16], sides: &mut [i64])
-    requires { ⌜ (count ≤ 16) × (length (now sides) ≡ count) ⌝ }
-    ensures { λ r. ⌜ now (sides .exit) ≡ tabulate count (nth (now (x .entry))) ⌝ }
-{
-    let mut k = 0;
-    while k < count {
-        sides[k] = x[k];
-        k += 1;
-    }
 }
 
 // Checks 3, 4 and 5, refusals 8 and 9, and the box with its sides, on buffers of the sizes that n calls for.
@@ -131,7 +93,7 @@ fn enclose_tables(
     let given = answer(n, low, high, linear, limit, centre, &mut x);
     match given {
         BoxAnswer::Sides => {
-            write_sides(n + n, &x, sides);
+            tables::copy_numbers(n + n, &x, sides);
             BoxAnswer::Sides
         }
         BoxAnswer::Empty => BoxAnswer::Empty,

@@ -8,14 +8,14 @@ use lib.ListN.{replicate}
 use lib.Signed.{leZ}
 use Rattle.tables.specs.Ranges.{entryRange, vectorRange, linearRange, centreRange}
 use Rattle.tables.specs.Matrix.{Matrix, nth, at}
-use Rattle.tables.specs.Checks.{all, within, allWithin, nowhereCrossed, same, symmetric, Check, firstRefusal, tableChecks}
+use Rattle.tables.specs.Checks.{all, within, allWithin, nowhereCrossed, same, symmetric, Check, firstRefusal, tableChecks, problemChecks}
 use Rattle.tables.specs.declared.Refusal.the-variants.{Range, Crossed, Lopsided, Factor}
 use Rattle.tables.proofs.Matrix.{nth-padded, at-padded}
 use Rattle.residual.specs.Residual.{accepts}
 use Rattle.residual.specs.FactorTest.{factorShape, factorAnswer}
 use Rattle.vectors.specs.VectorTest.{vectorShape, vectorAnswer}
 use Rattle.verdict.specs.Judge.{judgement}
-use Rattle.enclosure.specs.Box.{boxChecks, boxAnswer}
+use Rattle.enclosure.specs.Box.{boxAnswer}
 
 abbrev zeros : ℕ → List ℤ
 zeros m = replicate m (pos 0)
@@ -50,6 +50,6 @@ unfolding judgement
 judgement-padded n i j x y = rw (checks-padded n i j x y, at-padded n x i, at-padded n y j)
 
 pub box-padded : (n i j k m : ℕ) (x y a : List ℤ) (α : ℤ) (c : List ℤ) → boxAnswer n (x ++ zeros i) (y ++ zeros j) (a ++ zeros k) α (c ++ zeros m) ≡ boxAnswer n x y a α c
-unfolding boxAnswer boxChecks
+unfolding boxAnswer problemChecks
 box-padded n i j k m x y a α c =
     rw (range-padded linearRange n k a, range-padded centreRange n m c, checks-padded n i j x y, at-padded n x i, at-padded n y j, nth-padded a k, nth-padded c m)

@@ -1,48 +1,21 @@
--- Copies of a table: each store adds a number, and diagonal entries are lowered one by one.
-use mathlib.Core.Path.{_≡_, refl, sym, ap, _∙_}
+-- Copies of a table, whose diagonal entries are lowered one by one.
+use mathlib.Core.Path.{_≡_, refl, sym, _∙_}
 use mathlib.Core.Bool.{Bool, true, false, _&&_}
 use mathlib.Core.Logic.{_≢_}
 use mathlib.Core.List.{List}
 use Prim.Native.Nat.{ℕ, suc, _+_, _*_, _/_, _%_, _≤_, _<_}
 use native.Mathlib.Omega.{arith}
 use native.Mathlib.Decide.{ℕ-discrete}
-use native.Mathlib.Nat.{mul-add-div-right, mul-add-mod-self-right, div-eq-of-lt, mod-eq-of-lt}
 use lib.Dec.{leb, ltb}
 use lib.IntN.{ℤ, pos, _-ℤ_, +ℤ-idr}
 use lib.ListN.{length, set, length-set}
 use lib.Seq.{getD-set-same, getD-set-other}
 use borrow.Author.Tests.{leb-true, leb-false}
 use Rattle.integers.proofs.Sums.{only-same, only-other}
-use Rattle.tables.specs.Matrix.{Matrix, nth, at}
-use Rattle.tables.proofs.Matrix.{inside, at-most-64, nth-at, row-inside, column-inside}
+use Rattle.tables.specs.Matrix.{Matrix, at}
+use Rattle.tables.proofs.Matrix.{inside, at-most-64, nth-at, row-inside, column-inside, same-row, same-column}
 use Rattle.steps.specs.Steps.{lowered}
 use Rattle.steps.specs.Diagonals.{taken, Copied, Apart, Lowered}
-
--- ---- a copy of the first numbers
-module _ {x c : List ℤ} where
-  pub copied-none : length c ≡ 64 → Copied x 0 c
-  copied-none e = record { size = e; numbers = λ k h. absurd (omega arith) }
-
-  pub copied-more : {k : ℕ} → k < 64 → Copied x k c → Copied x (suc k) (set c k (nth x k))
-  copied-more {k} h w = record { size = length-set c k (nth x k) ∙ w .size; numbers = λ l m. go l m (ℕ-discrete l k) }
-    where
-      go : (l : ℕ) → l < suc k → Dec (l ≡ k) → nth (set c k (nth x k)) l ≡ nth x l
-      go l m (yes e) = rw e (getD-set-same c k (nth x k) (pos 0) (omega (arith, w .size)))
-      go l m (no d) = getD-set-other c k l (nth x k) (pos 0) d ∙ w .numbers l (omega arith)
-
--- ---- the place of an entry belongs to it alone
-module _ {n : ℕ} (i j a b : ℕ) (h : j < n) (k : b < n) (e : a * n + b ≡ i * n + j) where
-  same-row : a ≡ i
-  same-row = sym (row a b k) ∙ ap (λ (m : ℕ). m / n) e ∙ row i j h
-    where
-      row : (c d : ℕ) → d < n → (c * n + d) / n ≡ c
-      row c d m = mul-add-div-right (omega arith) c d ∙ rw (div-eq-of-lt m) (omega arith)
-
-  same-column : b ≡ j
-  same-column = sym (column a b k) ∙ ap (λ (m : ℕ). m % n) e ∙ column i j h
-    where
-      column : (c d : ℕ) → d < n → (c * n + d) % n ≡ d
-      column c d m = mul-add-mod-self-right c n d ∙ mod-eq-of-lt m
 
 -- ---- what is taken off
 module _ (first last : ℕ) (t : ℤ) (i : ℕ) where
@@ -134,14 +107,14 @@ lowered-apart {n} {first} {last} t {x} {c} w = record { size = w .size; kept = �
 module _ {n : ℕ} {x c : List ℤ} where
   pub copied-apart : (first last : ℕ) → Copied x (n * n) c → Apart n first last x c
   unfolding at
-  copied-apart first last w = record { size = w .size; kept = λ i j h k f. w .numbers (i * n + j) (inside h k) }
+  copied-apart first last w = record { size = w .size; kept = λ i j h k f. w .entries (i * n + j) (inside h k) }
 
   -- 0 taken off
   pub lowered-copied : (first last : ℕ) → Lowered n (taken first last (pos 0)) x c → Copied x (n * n) c
   lowered-copied first last w =
       record {
         size = w .size;
-        numbers = λ k h.
+        entries = λ k h.
             nth-at n k c ∙ w .entries (k / n) (k % n) (row-inside n k h) (column-inside n k h) ∙ none (k / n) (k % n) (ℕ-discrete (k / n) (k % n))
             ∙ sym (nth-at n k x);
       }

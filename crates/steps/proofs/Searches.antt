@@ -4,11 +4,8 @@ use mathlib.Core.Bool.{true, false}
 use mathlib.Core.List.{List, [], _∷_}
 use Prim.Native.Nat.{ℕ, suc, _+_, _*_, _-_, _^_, _%_, _≤_, _<_}
 use native.Mathlib.Omega.{arith}
-use native.Mathlib.Decide.{ℕ-discrete}
 use lib.IntN.{ℤ, pos, _+ℤ_}
 use lib.Signed.{_≤ℤ_, ≤ℤ-refl}
-use lib.ListN.{length, set, length-set}
-use lib.Seq.{getD-set-same, getD-set-other}
 use lib.Pow.{pow-mono}
 use mir.Syntax.{w64}
 use mir.Val.{toZ}
@@ -16,10 +13,10 @@ use Rattle.integers.proofs.Parts.{pos-nonneg}
 use Rattle.integers.proofs.Solver.{_&_, order, solver}
 use Rattle.integers.proofs.Machine.{read-i64}
 use Rattle.tables.specs.Ranges.{entryRange}
-use Rattle.tables.specs.Matrix.{Matrix, nth, at}
+use Rattle.tables.specs.Matrix.{Matrix, at}
 use Rattle.cholesky.specs.Scaling.{Checked}
 use Rattle.steps.specs.Steps.{trial, bits, stepBits, step, stepAt}
-use Rattle.steps.specs.Diagonals.{taken, Copied, Apart, Lowered, Takeable, Tried, Found, StepsAt}
+use Rattle.steps.specs.Diagonals.{taken, Copied, Apart, Lowered, Takeable, Tried, Found}
 use Rattle.steps.proofs.Copies.{copied-apart, lowered-copied}
 use Rattle.steps.proofs.Trials.{trial-every, trial-only}
 use Rattle.steps.proofs.Bits.{power-suc, bits-more, bits-left, bits-ext}
@@ -108,15 +105,3 @@ module _ {n first last : ℕ} {l u c e : List ℤ} where
       Found n first last l u t c′ e′
   unfolding bits
   search-end w a b = record { found = sym (w .here); low = lowered-copied first last a; high = lowered-copied first last b }
-
--- ---- t(k) for each k
-module _ {n : ℕ} {L U : Matrix} {s : List ℤ} where
-  pub steps-none : length s ≡ 8 → StepsAt n L U s 0
-  steps-none e = record { size = e; steps = λ k h. absurd (omega arith) }
-
-  pub steps-more : {k : ℕ} {t : ℤ} → k < 8 → t ≡ stepAt n L U k → StepsAt n L U s k → StepsAt n L U (set s k t) (suc k)
-  steps-more {k} {t} h e w = record { size = length-set s k t ∙ w .size; steps = λ i m. go i m (ℕ-discrete i k) }
-    where
-      go : (i : ℕ) → i < suc k → Dec (i ≡ k) → nth (set s k t) i ≡ stepAt n L U i
-      go i m (yes q) = rw q (getD-set-same s k t (pos 0) (omega (arith, w .size)) ∙ e)
-      go i m (no q) = getD-set-other s k i t (pos 0) q ∙ w .steps i (omega arith)

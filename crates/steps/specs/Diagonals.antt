@@ -9,18 +9,18 @@ use lib.Signed.{_≤ℤ_}
 use lib.ListN.{length}
 use Rattle.integers.specs.Numbers.{Within}
 use Rattle.tables.specs.Ranges.{greatestOrder, entryRange}
-use Rattle.tables.specs.Matrix.{Matrix, nth, at}
+use Rattle.tables.specs.Matrix.{nth, at}
+use Rattle.tables.specs.Buffers.{Filled}
 use Rattle.cholesky.specs.Scaling.{Checked}
-use Rattle.steps.specs.Steps.{lowered, trial, bits, stepBits, stepAt}
+use Rattle.steps.specs.Steps.{lowered, trial, bits, stepBits}
 
 -- t for each of first, .., last - 1, and 0 elsewhere
 unfoldable pub taken : ℕ → ℕ → ℤ → ℕ → ℤ
 taken first last t i = elim (leb first i && ltb i last) [ true ↦ t | false ↦ pos 0 ]
 
 -- c begins with the first m numbers of x
-pub record Copied (x : List ℤ) (m : ℕ) (c : List ℤ) : Type 0 where
-  pub size : length c ≡ 64
-  pub numbers : (k : ℕ) → k < m → nth c k ≡ nth x k
+abbrev pub Copied : List ℤ → ℕ → List ℤ → Type 0
+Copied x m c = Filled 64 m (nth x) c
 
 -- c has the entries of x, of order n, but for the diagonal entries first, .., last - 1
 pub record Apart (n first last : ℕ) (x c : List ℤ) : Type 0 where
@@ -58,8 +58,3 @@ pub record Found (n first last : ℕ) (l u : List ℤ) (t : ℤ) (c d : List ℤ
   pub found : t ≡ bits (λ t. trial n (at n l) (at n u) (taken first last t)) stepBits (pos 0)
   pub low : Copied l (n * n) c
   pub high : Copied u (n * n) d
-
--- the first m numbers of s are t(0), .., t(m - 1)
-pub record StepsAt (n : ℕ) (L U : Matrix) (s : List ℤ) (m : ℕ) : Type 0 where
-  pub size : length s ≡ 8
-  pub steps : (k : ℕ) → k < m → nth s k ≡ stepAt n L U k

@@ -7,25 +7,15 @@ ghost use lib.Signed.{leZ};
 ghost use lib.ListN.{length};
 ghost use Rattle.tables.specs.Ranges.{greatestOrder};
 ghost use Rattle.tables.specs.Matrix.{at};
+ghost use Rattle.tables.specs.Buffers.{Filled};
 ghost use Rattle.tables.specs.Checks.{all};
 ghost use Rattle.cholesky.specs.Scaling.{Checked};
-ghost use Rattle.steps.specs.Steps.{step};
-ghost use Rattle.steps.specs.Diagonals.{taken, Copied, Apart, Lowered, Lowerable, Takeable, Tried, Found, StepsAt};
+ghost use Rattle.steps.specs.Steps.{step, stepAt};
+ghost use Rattle.steps.specs.Diagonals.{taken, Copied, Apart, Lowered, Lowerable, Takeable, Tried, Found};
+use tables::copy_numbers;
 
 // A step has 20 bits: 2^19 is tried first.
 const STEP_BITS: usize = 20;
-
-// Copies the first numbers of x, count of them.
-fn copy(x: &[i64], count: usize, c: &mut [i64; 64])
-    requires { ⌜ (count ≤ 64) × (count ≤ length (now x)) × (length (now c) ≡ 64) ⌝ }
-    ensures { λ r. ⌜ Copied (now (x .entry)) count (now (c .exit)) ⌝ }
-{
-    let mut k = 0;
-    while k < count {
-        c[k] = x[k];
-        k += 1;
-    }
-}
 
 // Sets the diagonal entries first to last - 1 of a copy of x, of order n, to those of x less t.
 fn lower(n: usize, x: &[i64], first: usize, last: usize, t: i64, c: &mut [i64; 64])
@@ -111,20 +101,20 @@ pub fn step(n: usize, low: &[i64], high: &[i64]) -> i64
 {
     let mut l = [0i64; 64];
     let mut u = [0i64; 64];
-    copy(low, n * n, &mut l);
-    copy(high, n * n, &mut u);
+    copy_numbers(n * n, low, &mut l);
+    copy_numbers(n * n, high, &mut u);
     search(n, low, high, 0, n, &mut l, &mut u)
 }
 
 // t(k), of diagonal entry k only, for each k.
 pub fn steps_at(n: usize, low: &[i64], high: &[i64], t: &mut [i64; 8])
     requires { ⌜ Checked n (now low) (now high) × (length (now t) ≡ 8) ⌝ }
-    ensures { λ r. ⌜ StepsAt n (at n (now (low .entry))) (at n (now (high .entry))) (now (t .exit)) n ⌝ }
+    ensures { λ r. ⌜ Filled 8 n (stepAt n (at n (now (low .entry))) (at n (now (high .entry)))) (now (t .exit)) ⌝ }
 {
     let mut l = [0i64; 64];
     let mut u = [0i64; 64];
-    copy(low, n * n, &mut l);
-    copy(high, n * n, &mut u);
+    copy_numbers(n * n, low, &mut l);
+    copy_numbers(n * n, high, &mut u);
     let mut k = 0;
     while k < n {
         let next = k + 1;

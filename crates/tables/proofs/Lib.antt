@@ -1,4 +1,5 @@
 pub mod Matrix
+pub mod Buffers
 pub mod Checks
 pub mod Answers
 pub mod Forms

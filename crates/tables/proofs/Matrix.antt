@@ -1,5 +1,5 @@
 -- Laws of tables: what is read from a table is what was written, and zeros behind a list change no entry.
-use mathlib.Core.Path.{_≡_, refl, ap₂, _∙_, fun-ext}
+use mathlib.Core.Path.{_≡_, refl, sym, ap, ap₂, _∙_, fun-ext}
 use mathlib.Core.List.{List, [], _∷_, _++_}
 use Prim.Native.Nat.{ℕ, zero, suc, _+_, _*_, _/_, _%_, _≤_, _<_}
 use native.Mathlib.Omega.{arith}
@@ -32,6 +32,21 @@ module _ (n k : ℕ) where
   pub nth-at : (t : List ℤ) → nth t k ≡ at n t (k / n) (k % n)
   unfolding at
   nth-at t = rw div-add-mod'
+
+-- a place belongs to one entry
+module _ {n : ℕ} (i j : ℕ) (h : j < n) where
+  row-of : (i * n + j) / n ≡ i
+  row-of = mul-add-div-right (omega arith) i j ∙ rw (div-eq-of-lt h) (omega arith)
+
+  column-of : (i * n + j) % n ≡ j
+  column-of = mul-add-mod-self-right i n j ∙ mod-eq-of-lt h
+
+module _ {n : ℕ} (i j a b : ℕ) (h : j < n) (k : b < n) (e : a * n + b ≡ i * n + j) where
+  pub same-row : a ≡ i
+  same-row = sym (row-of a b k) ∙ ap (λ (m : ℕ). m / n) e ∙ row-of i j h
+
+  pub same-column : b ≡ j
+  same-column = sym (column-of a b k) ∙ ap (λ (m : ℕ). m % n) e ∙ column-of i j h
 
 -- ---- f 0, .., f (n - 1)
 module _ {A : Type 0} where
@@ -70,7 +85,7 @@ pub at-table : (n : ℕ) (M : Matrix) (i j : ℕ) → i < n → j < n → at n (
 unfolding at table
 at-table n M i j h k =
     nth-tabulate (n * n) _ (i * n + j) (inside h k)
-    ∙ ap₂ M (mul-add-div-right (omega arith) i j ∙ rw (div-eq-of-lt k) (omega arith)) (mul-add-mod-self-right i n j ∙ mod-eq-of-lt k)
+    ∙ ap₂ M (row-of i j k) (column-of i j k)
 
 -- ---- zeros behind a list
 nth-zeros : (m k : ℕ) → nth (replicate m (pos 0)) k ≡ pos 0

@@ -5,7 +5,7 @@ use Prim.Native.Nat.{ℕ, zero, suc, _*_}
 use lib.Dec.{leb, eqb}
 use lib.IntN.{ℤ, pos, natAbs}
 use lib.Signed.{leZ}
-use Rattle.tables.specs.Ranges.{greatestOrder, entryRange}
+use Rattle.tables.specs.Ranges.{greatestOrder, entryRange, linearRange, limitRange, centreRange}
 use Rattle.tables.specs.Matrix.{nth, at}
 use Rattle.tables.specs.declared.Refusal.{Refusal}
 use Rattle.tables.specs.declared.Refusal.the-variants.{Range, Crossed, Lopsided}
@@ -63,3 +63,8 @@ tableChecks n l u =
     ∷ record { passes = nowhereCrossed (n * n) l u; otherwise = Crossed }
     ∷ record { passes = symmetric n l && symmetric n u; otherwise = Lopsided }
     ∷ []
+
+-- 3, 4 and 5 of a whole problem, with its linear terms a, limit α and centre c: these are within their ranges, and then as for the tables
+unfoldable pub problemChecks : ℕ → List ℤ → List ℤ → List ℤ → ℤ → List ℤ → List Check
+problemChecks n l u a α c =
+    record { passes = allWithin linearRange n a && (within limitRange α && allWithin centreRange n c); otherwise = Range } ∷ tableChecks n l u

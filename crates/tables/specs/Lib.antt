@@ -1,6 +1,7 @@
 pub mod Ranges
 pub mod Matrix
 pub mod Members
+pub mod Buffers
 pub mod Refusals
 pub mod Checks
 pub mod Answers

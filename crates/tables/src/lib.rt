@@ -1,14 +1,16 @@
 // Bounded symmetric matrices: refusals, and the checks 1 to 5 of a problem.
 ghost use mathlib.Core.Path.{_≡_};
+ghost use mathlib.Core.Bool.{_&&_};
 ghost use Prim.Native.Nat.{_*_, _≤_, _<_};
 ghost use lib.IntN.{pos, natAbs};
 ghost use lib.Signed.{_≤ℤ_};
 ghost use lib.ListN.{length};
-ghost use Rattle.tables.specs.Matrix.{at};
-ghost use Rattle.tables.specs.Ranges.{greatestOrder};
+ghost use Rattle.tables.specs.Matrix.{at, nth};
+ghost use Rattle.tables.specs.Buffers.{Filled};
+ghost use Rattle.tables.specs.Ranges.{greatestOrder, linearRange, limitRange, centreRange};
 ghost use Rattle.tables.specs.Refusals.{refusalNumber};
 ghost use Rattle.tables.specs.Answers.{answerCode};
-ghost use Rattle.tables.specs.Checks.{orderOk, sizesOk, within, allWithin, nowhereCrossed, rowSymmetric, symmetric, tableChecks, firstRefusal};
+ghost use Rattle.tables.specs.Checks.{orderOk, sizesOk, within, allWithin, nowhereCrossed, rowSymmetric, symmetric, tableChecks, problemChecks, firstRefusal};
 
 // Orders are 1 to 8.
 pub const GREATEST_ORDER: i64 = 8;
@@ -21,6 +23,15 @@ pub const FACTOR_RANGE: i64 = 1 << 26;
 
 // Entries of a vector are within ±2^15.
 pub const VECTOR_RANGE: i64 = 1 << 15;
+
+// Linear terms are within ±2^36.
+pub const LINEAR_RANGE: i64 = 1 << 36;
+
+// The limit is within ±2^54.
+pub const LIMIT_RANGE: i64 = 1 << 54;
+
+// Entries of the centre are within ±2^12.
+pub const CENTRE_RANGE: i64 = 1 << 12;
 
 // Document 01, "Refused calls", in the order of their numbers.
 pub enum Refusal {
@@ -94,6 +105,18 @@ pub fn entry(n: usize, t: &[i64], i: usize, j: usize) -> i64
     ensures { λ r. ⌜ r ≡ at n (now (t .entry)) i j ⌝ }
 {
     t[i * n + j]
+}
+
+// Copies the first numbers of x, count of them, to the front of out.
+pub fn copy_numbers(count: usize, x: &[i64], out: &mut [i64])
+    requires { ⌜ (count ≤ length (now x)) × (count ≤ length (now out)) ⌝ }
+    ensures { λ r. ⌜ Filled (length (now (out .entry))) count (nth (now (x .entry))) (now (out .exit)) ⌝ }
+{
+    let mut k = 0;
+    while k < count {
+        out[k] = x[k];
+        k += 1;
+    }
 }
 
 // Whether n is an order, 1 to 8.
@@ -200,4 +223,36 @@ pub fn check_tables(n: usize, low: &[i64], high: &[i64]) -> Checked
         return Checked::Refused(Refusal::Lopsided);
     }
     Checked::Passed
+}
+
+// Whether the linear terms, the limit and the centre are within their ranges.
+fn terms_within(n: usize, linear: &[i64], limit: i64, centre: &[i64]) -> bool
+    requires { ⌜ (n ≤ length (now linear)) × (n ≤ length (now centre)) ⌝ }
+    ensures { λ r. ⌜ r ≡ (allWithin linearRange n (now (linear .entry)) && (within limitRange limit && allWithin centreRange n (now (centre .entry)))) ⌝ }
+{
+    if !all_within(linear, n, LINEAR_RANGE) {
+        return false;
+    }
+    if !within(limit, LIMIT_RANGE) {
+        return false;
+    }
+    all_within(centre, n, CENTRE_RANGE)
+}
+
+// Checks 3, 4 and 5 of a whole problem of order n: the first n² or n numbers of each slice.
+pub fn check_problem(
+    n: usize,
+    low: &[i64],
+    high: &[i64],
+    linear: &[i64],
+    limit: i64,
+    centre: &[i64],
+) -> Checked
+    requires { ⌜ (n ≤ greatestOrder) × (n * n ≤ length (now low)) × (n * n ≤ length (now high)) × (n ≤ length (now linear)) × (n ≤ length (now centre)) ⌝ }
+    ensures { λ r. ⌜ r ≡ firstRefusal (problemChecks n (now (low .entry)) (now (high .entry)) (now (linear .entry)) limit (now (centre .entry))) ⌝ }
+{
+    if terms_within(n, linear, limit, centre) {
+        return check_tables(n, low, high);
+    }
+    Checked::Refused(Refusal::Range)
 }

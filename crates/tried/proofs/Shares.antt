@@ -3,25 +3,16 @@ use mathlib.Core.Path.{_≡_, refl, _∙_}
 use mathlib.Core.List.{List}
 use Prim.Native.Nat.{ℕ, suc, _+_, _*_, _^_, _≤_, _<_}
 use native.Mathlib.Omega.{arith}
-use native.Mathlib.Decide.{ℕ-discrete}
 use native.Mathlib.Numerals.{add-one}
 use lib.IntN.{ℤ, pos, negsuc, _+ℤ_, _*ℤ_, +ℤ-idl}
 use lib.ListN.{length, set, length-set}
-use lib.Seq.{getD-set-same, getD-set-other}
 use mir.Syntax.{w64}
 use mir.Val.{SFits}
 use Rattle.integers.specs.Numbers.{Within}
 use Rattle.integers.proofs.Machine.{within-more, within-+, within-*, fits-within}
 use Rattle.tables.specs.Matrix.{at, nth}
+use Rattle.tables.proofs.Buffers.{entry-more}
 use Rattle.tried.specs.Search.{Table, Open, Searching, Added, Chosen, Diagonal}
-
--- one entry more of a list that is being filled
-pub filled-more : (p : List ℤ) (m : ℕ) (v : ℤ) (f : ℕ → ℤ) → m < length p → v ≡ f m → (k : ℕ) → k < suc m → (k < m → nth p k ≡ f k) → nth (set p m v) k ≡ f k
-filled-more p m v f h e k l g = go (ℕ-discrete k m)
-  where
-    go : Dec (k ≡ m) → nth (set p m v) k ≡ f k
-    go (yes q) = rw q (getD-set-same p m v (pos 0) h ∙ e)
-    go (no q) = getD-set-other p m k v (pos 0) q ∙ g (omega arith)
 
 module _ {n : ℕ} {t : List ℤ} {d : ℕ} {c : ℤ} {p : List ℤ} where
   pub added-start : {p′ : List ℤ} → length p′ ≡ 8 → Added n t d c p p′ (suc d)
@@ -30,7 +21,7 @@ module _ {n : ℕ} {t : List ℤ} {d : ℕ} {c : ℤ} {p : List ℤ} where
   pub added-more : {p′ : List ℤ} {m : ℕ} → m < 8 → Added n t d c p p′ m → Added n t d c p (set p′ m (nth p m +ℤ c *ℤ at n t d m)) (suc m)
   added-more {p′} {m} h a = record {
     size = length-set p′ m _ ∙ a .size;
-    entries = λ k l q. filled-more p′ m _ (λ i. nth p i +ℤ c *ℤ at n t d i) (omega (arith, a .size)) refl k q (λ r. a .entries k l r);
+    entries = λ k l q. entry-more p′ m _ (λ i. nth p i +ℤ c *ℤ at n t d i) (omega (arith, a .size)) refl k q (λ r. a .entries k l r);
   }
 
   -- sizes
@@ -58,7 +49,7 @@ module _ {n : ℕ} {t : List ℤ} where
 
   pub diagonal-more : {p : List ℤ} {m : ℕ} → m < 8 → Diagonal n t p m → Diagonal n t (set p m (at n t m m)) (suc m)
   diagonal-more {p} {m} h a =
-      record { size = length-set p m _ ∙ a .size; entries = λ k q. filled-more p m _ (λ i. at n t i i) (omega (arith, a .size)) refl k q (a .entries k) }
+      record { size = length-set p m _ ∙ a .size; entries = λ k q. entry-more p m _ (λ i. at n t i i) (omega (arith, a .size)) refl k q (a .entries k) }
 
   pub diagonal-open : {p : List ℤ} → Table n t → Diagonal n t p n → Open n 0 p
   diagonal-open g a =

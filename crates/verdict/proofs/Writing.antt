@@ -1,15 +1,14 @@
 -- Laws of the table that the judge writes: each store adds an entry, and what is written is the table of the factor.
-use mathlib.Core.Path.{_≡_, refl, sym, ap, ap₂, _∙_}
+use mathlib.Core.Path.{_≡_, sym, ap, ap₂, _∙_}
 use mathlib.Core.List.{List, []}
-use Prim.Native.Nat.{ℕ, zero, suc, _+_, _*_, _/_, _%_, _≤_, _<_}
+use Prim.Native.Nat.{ℕ, suc, _+_, _*_, _/_, _%_, _<_}
 use native.Mathlib.Omega.{arith}
 use native.Mathlib.Decide.{ℕ-discrete, decLt}
-use native.Mathlib.Nat.{mul-add-div-right, mul-add-mod-self-right, div-eq-of-lt, mod-eq-of-lt}
 use lib.IntN.{ℤ, pos}
 use lib.ListN.{length, set}
 use lib.Seq.{ext-getD, getD-set-same, getD-set-other}
 use Rattle.tables.specs.Matrix.{Matrix, at, nth, table}
-use Rattle.tables.proofs.Matrix.{getD-tabulate, tabulate-ext, inside, row-inside, column-inside, nth-at, length-table, at-table}
+use Rattle.tables.proofs.Matrix.{getD-tabulate, tabulate-ext, inside, row-inside, column-inside, nth-at, same-row, same-column, length-table, at-table}
 use Rattle.cholesky.specs.Factoring.{entries}
 use Rattle.cholesky.specs.Store.{columnOf, columnsOf}
 use Rattle.cholesky.proofs.Lists.{nth-past}
@@ -33,20 +32,6 @@ triangle-entries t n i j h = go (decLt j i)
     go (yes k) = triangle-below t i j k ∙ sym (entries-past t n i j k h)
 
 -- ---- what is written
--- a place belongs to one entry
-module _ {n : ℕ} (i j a b : ℕ) (h : j < n) (k : b < n) (e : a * n + b ≡ i * n + j) where
-  same-row : a ≡ i
-  same-row = sym (row a b k) ∙ ap (λ (m : ℕ). m / n) e ∙ row i j h
-    where
-      row : (c d : ℕ) → d < n → (c * n + d) / n ≡ c
-      row c d m = mul-add-div-right (omega arith) c d ∙ rw (div-eq-of-lt m) (omega arith)
-
-  same-column : b ≡ j
-  same-column = sym (column a b k) ∙ ap (λ (m : ℕ). m % n) e ∙ column i j h
-    where
-      column : (c d : ℕ) → d < n → (c * n + d) % n ≡ d
-      column c d m = mul-add-mod-self-right c n d ∙ mod-eq-of-lt m
-
 module _ {n : ℕ} {M : Matrix} {f : List ℤ} where
   pub written-none : Written n M f 0
   written-none = record { entries = λ i j h k. absurd (omega arith) }

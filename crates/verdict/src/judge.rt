@@ -5,7 +5,6 @@ ghost use Prim.Native.Nat.{_*_, _≤_, _<_};
 ghost use lib.IntN.{ℤ, natAbs};
 ghost use lib.ListN.{length};
 ghost use Rattle.tables.specs.Ranges.{greatestOrder};
-ghost use Rattle.tables.specs.Matrix.{nth, tabulate};
 ghost use Rattle.verdict.specs.Judge.{Judged, judgement, judgeSizes, written, judge, Meaning};
 ghost use Rattle.verdict.specs.Deciding.{shownVerdict, Decided};
 use crate::factor_table::write_factor;
@@ -50,18 +49,6 @@ pub fn decide(n: usize, low: &[i64], high: &[i64], t: &mut [i64; 64], x: &mut [i
     }
 }
 
-// Writes the vector of order n that stands in x.
-fn write_vector(n: usize, x: &[i64; 8], vector: &mut [i64])
-    requires { ⌜ (n ≤ greatestOrder) × (length (now vector) ≡ n) ⌝ }
-    ensures { λ r. ⌜ now (vector .exit) ≡ tabulate n (nth (now (x .entry))) ⌝ }
-{
-    let mut k = 0;
-    while k < n {
-        vector[k] = x[k];
-        k += 1;
-    }
-}
-
 // Checks 3, 4 and 5, the verdict, and the factor or the vector that goes with it, on buffers of the sizes that n calls for.
 fn judge_tables(
     n: usize,
@@ -82,7 +69,7 @@ fn judge_tables(
             Verdict::Definite
         }
         Verdict::NotDefinite => {
-            write_vector(n, &x, vector);
+            tables::copy_numbers(n, &x, vector);
             Verdict::NotDefinite
         }
         Verdict::Undecided => Verdict::Undecided,

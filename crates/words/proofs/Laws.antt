@@ -143,7 +143,7 @@ module _ (w : Width) where
   bits-below : {v : ℤ} → SFits w v → ofZ w v < 256 ^ bytes w
   bits-below f = rw (pow-bytes w) (fits-ofZ f .fits)
 
-  unsignedAt-fits : (s : List ℕ) (at : ℕ) → AllBytes s → Fits w (unsignedAt (bytes w) s at)
+  pub unsignedAt-fits : (s : List ℕ) (at : ℕ) → AllBytes s → Fits w (unsignedAt (bytes w) s at)
   unsignedAt-fits s at b = record { fits = rw pow-bytes at (unsignedAt-below (bytes w) s at b) }
 
   bits-signedAt : (s : List ℕ) (at : ℕ) → AllBytes s → ofZ w (signedAt w s at) ≡ unsignedAt (bytes w) s at

@@ -1,15 +1,17 @@
--- The sign of a number of 64 bits: what the code's tests say of it, and what -1 - z is.
+-- The sign of a number of 64 bits: what the code's tests say of it, and what -1 - z is. The bits of a number of 32 or 64 bits, read as signed.
 use mathlib.Core.Path.{_≡_, refl, sym, ap, _∙_}
 use mathlib.Core.Bool.{true, false, cond}
-use Prim.Native.Nat.{ℕ, zero, suc, _-_, _^_, _<_, _≤_}
+use Prim.Native.Nat.{ℕ, zero, suc, _-_, _*_, _/_, _^_, _<_, _≤_}
 use native.Mathlib.Nat.{zero-add}
 use native.Mathlib.Omega.{arith}
 use borrow.Author.Tests.{le-ltb, leb-false}
+use lib.Dec.{eqb}
 use lib.IntN.{ℤ, pos, negsuc, _-ℤ_, natAbs}
 use lib.Signed.{leZ}
-use mir.Syntax.{w64}
-use mir.Val.{SFits, toZ, ofZ}
-use mir.Facts.{toZ-pos, toZ-neg, toZ-ofZ, clash}
+use mir.Syntax.{Width, w32, w64}
+use mir.Val.{bits, hbits, bytes, Fits, SFits, toZ, ofZ}
+use mir.Facts.{toZ-pos, toZ-neg, toZ-ofZ, sfits-toZ, clash}
+use Rattle.words.specs.Numbers.{widthOf}
 
 -- z ≥ 0
 pub record Nonnegative (z : ℤ) : Type 0 where
@@ -47,9 +49,36 @@ flip-pos : (k : ℕ) → negsuc 0 -ℤ pos k ≡ negsuc k
 flip-pos zero = refl
 flip-pos (suc k) = ap (λ (n : ℕ). negsuc (suc n)) (zero-add k)
 
--- bits from 2 ^ 63 on, read as signed
-pub flip-bits : (u : ℕ) → 2 ^ 63 ≤ u → u < 2 ^ 64 → negsuc 0 -ℤ toZ w64 (2 ^ 64 - 1 - u) ≡ toZ w64 u
-flip-bits u l h =
-    let k : 2 ^ 64 - 1 - u < 2 ^ 63 = omega arith in
-    let e : 2 ^ 64 - suc (2 ^ 64 - 1 - u) ≡ u = omega arith in
-    rw (toZ-pos w64 k) (flip-pos (2 ^ 64 - 1 - u) ∙ sym (toZ-neg w64 (2 ^ 64 - 1 - u) k) ∙ ap (toZ w64) e)
+-- a width of at most 64 bits
+pub record Narrow (w : Width) : Type 0 where
+  pub few : bytes w ≤ 8
+  pub halves : 2 ^ bits w ≡ 2 * 2 ^ hbits w
+  pub small : 2 ^ hbits w ≤ 2 ^ 63
+
+pub narrow-of : (size : ℕ) → Narrow (widthOf size)
+narrow-of size =
+    elim (eqb size 4) as (λ b. Narrow (cond b w32 w64)) [
+      | true ↦ record { few = omega arith; halves = refl; small = omega arith }
+      | false ↦ record { few = omega arith; halves = refl; small = omega arith }
+    ]
+
+-- its bits, read as signed
+module _ {w : Width} (n : Narrow w) {u : ℕ} (f : Fits w u) where
+  pub signed-fits : SFits w64 (toZ w u)
+  signed-fits = record { sfits = omega (arith, sfits-toZ f) }
+
+  -- those below half
+  pub low-bits : u ≤ (2 ^ bits w - 1) / 2 → toZ w64 u ≡ toZ w u
+  low-bits l =
+      let h : u < 2 ^ hbits w = omega arith in
+      let k : u < 2 ^ 63 = omega arith in
+      toZ-pos w64 k ∙ sym (toZ-pos w h)
+
+  -- and the others
+  pub high-bits : (2 ^ bits w - 1) / 2 < u → negsuc 0 -ℤ toZ w64 (2 ^ bits w - 1 - u) ≡ toZ w u
+  high-bits l =
+      let v = 2 ^ bits w - 1 - u in
+      let h : v < 2 ^ hbits w = omega arith in
+      let k : v < 2 ^ 63 = omega arith in
+      let e : 2 ^ bits w - suc v ≡ u = omega arith in
+      rw (toZ-pos w64 k) (flip-pos v ∙ sym (toZ-neg w v h) ∙ ap (toZ w) e)

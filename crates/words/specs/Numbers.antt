@@ -1,10 +1,16 @@
 -- Numbers in lists of bytes: low byte first, signed numbers in two's complement. A number of width w takes `bytes w` bytes.
 use Prim.Native.Nat.{ℕ, zero, suc, _+_, _-_, _*_, _/_, _%_, _<_}
+use mathlib.Core.Bool.{cond}
 use mathlib.Core.List.{List, [], _∷_, _++_}
+use lib.Dec.{eqb}
 use lib.ListN.{take, drop, getD, replicate}
 use lib.IntN.{ℤ, pos}
-use mir.Syntax.{Width}
+use mir.Syntax.{Width, w32, w64}
 use mir.Val.{bytes, toZ, ofZ, SFits}
+
+-- the width of a number of `size` bytes; `size ≡ bytes (widthOf size)` says that they are 4 or 8
+abbrev pub widthOf : ℕ → Width
+widthOf size = cond (eqb size 4) w32 w64
 
 -- the unsigned number that the bytes are
 unfoldable pub fromLeBytes : List ℕ → ℕ

@@ -1,15 +1,18 @@
-// Numbers in byte slices: low byte first, signed numbers in two's complement and 8 bytes.
+// Numbers in byte slices: low byte first, signed numbers in two's complement and 4 or 8 bytes.
 ghost use mathlib.Core.Path.{_≡_};
 ghost use mathlib.Core.List.{_++_};
-ghost use Prim.Native.Nat.{_+_, _*_, _<_, _≤_};
+ghost use Prim.Native.Nat.{_+_, _-_, _*_, _^_, _<_, _≤_};
 ghost use lib.ListN.{length, drop};
 ghost use lib.IntN.{natAbs};
-ghost use mir.Syntax.{w64};
-ghost use mir.Val.{toZ, ofZ, bytes};
-ghost use Rattle.words.specs.Numbers.{unsignedAt, signedAt, withUnsigned, withSigned, numbersOf, paddedNumbersOf, bytesOf};
+ghost use mir.Syntax.{w32, w64};
+ghost use mir.Val.{toZ, ofZ, bits, bytes, Fits};
+ghost use Rattle.words.specs.Numbers.{widthOf, unsignedAt, signedAt, withUnsigned, withSigned, numbersOf, paddedNumbersOf, bytesOf};
 
 // The bytes of an i64.
 pub const SIZE: usize = 8;
+
+// The bytes of a short number.
+pub const SHORT_SIZE: usize = 4;
 
 // The bits of v.
 fn bits_of(v: i64) -> u64
@@ -34,14 +37,27 @@ pub fn magnitude(v: i64) -> u64
     }
 }
 
-// The bits u, read as signed.
-fn signed_of(u: u64) -> i64
-    ensures { λ r. ⌜ r ≡ toZ w64 u ⌝ }
+// The greatest unsigned number of `size` bytes.
+fn greatest(size: usize) -> u64
+    ensures { λ r. ⌜ r ≡ 2 ^ bits (widthOf size) - 1 ⌝ }
 {
-    if u < 0x8000_0000_0000_0000 {
+    if size == SHORT_SIZE {
+        0x0000_0000_ffff_ffff
+    } else {
+        0xffff_ffff_ffff_ffff
+    }
+}
+
+// The bits u of a number of `size` bytes, read as signed.
+fn signed_of(u: u64, size: usize) -> i64
+    requires { ⌜ Fits (widthOf size) u ⌝ }
+    ensures { λ r. ⌜ r ≡ toZ (widthOf size) u ⌝ }
+{
+    let top = greatest(size);
+    if u <= top / 2 {
         u as i64
     } else {
-        -1 - ((0xffff_ffff_ffff_ffff - u) as i64)
+        -1 - ((top - u) as i64)
     }
 }
 
@@ -66,12 +82,20 @@ pub fn load_unsigned(b: &[u8], at: usize, k: usize) -> u64
     u
 }
 
+// The signed number of `size` bytes at `at`.
+fn load_signed(b: &[u8], at: usize, size: usize) -> i64
+    requires { ⌜ (size ≡ bytes (widthOf size)) × (at + size ≤ length (now b)) ⌝ }
+    ensures { λ r. ⌜ r ≡ signedAt (widthOf size) (now (b .entry)) at ⌝ }
+{
+    signed_of(load_unsigned(b, at, size), size)
+}
+
 // The number at `at`.
 pub fn load_i64(b: &[u8], at: usize) -> i64
     requires { ⌜ at + bytes w64 ≤ length (now b) ⌝ }
     ensures { λ r. ⌜ r ≡ signedAt w64 (now (b .entry)) at ⌝ }
 {
-    signed_of(load_unsigned(b, at, SIZE))
+    load_signed(b, at, SIZE)
 }
 
 // The k low bytes of u, to the place `at`.
@@ -96,14 +120,14 @@ pub fn store_i64(b: &mut [u8], at: usize, v: i64)
     store_unsigned(b, at, SIZE, bits_of(v));
 }
 
-// The first k numbers of b, to the start of out.
-pub fn load_numbers(b: &[u8], out: &mut [i64], k: usize)
-    requires { ⌜ (k * bytes w64 ≤ length (now b)) × (k ≤ length (now out)) ⌝ }
-    ensures { λ _. ⌜ now (out .exit) ≡ numbersOf w64 (now (b .entry)) k ++ drop k (now (out .entry)) ⌝ }
+// The first k numbers of b, of `size` bytes each, to the start of out.
+fn load_numbers(b: &[u8], out: &mut [i64], k: usize, size: usize)
+    requires { ⌜ (size ≡ bytes (widthOf size)) × (k * size ≤ length (now b)) × (k ≤ length (now out)) ⌝ }
+    ensures { λ _. ⌜ now (out .exit) ≡ numbersOf (widthOf size) (now (b .entry)) k ++ drop k (now (out .entry)) ⌝ }
 {
     let mut i = 0;
     while i < k {
-        let v = load_i64(b, i * SIZE);
+        let v = load_signed(b, i * size, size);
         out[i] = v;
         i += 1;
     }
@@ -115,7 +139,7 @@ pub fn load_table(b: &[u8], k: usize) -> [i64; 64]
     ensures { λ r. ⌜ r ≡ paddedNumbersOf w64 64 (now (b .entry)) k ⌝ }
 {
     let mut a = [0i64; 64];
-    load_numbers(b, &mut a, k);
+    load_numbers(b, &mut a, k, SIZE);
     a
 }
 
@@ -125,7 +149,17 @@ pub fn load_vector(b: &[u8], k: usize) -> [i64; 8]
     ensures { λ r. ⌜ r ≡ paddedNumbersOf w64 8 (now (b .entry)) k ⌝ }
 {
     let mut a = [0i64; 8];
-    load_numbers(b, &mut a, k);
+    load_numbers(b, &mut a, k, SIZE);
+    a
+}
+
+// The first k short numbers of b, and zeros after them.
+pub fn load_short_table(b: &[u8], k: usize) -> [i64; 64]
+    requires { ⌜ (k * bytes w32 ≤ length (now b)) × (k ≤ 64) ⌝ }
+    ensures { λ r. ⌜ r ≡ paddedNumbersOf w32 64 (now (b .entry)) k ⌝ }
+{
+    let mut a = [0i64; 64];
+    load_numbers(b, &mut a, k, SHORT_SIZE);
     a
 }
 

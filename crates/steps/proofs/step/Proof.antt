@@ -1,4 +1,4 @@
-use mathlib.Core.Path.{refl, _∙_}
+use mathlib.Core.Path.{_∙_}
 use native.Mathlib.Omega.{arith}
 use borrow.Author.Needs.{needs}
 use Rattle.integers.proofs.Machine.{clean-result}
@@ -12,8 +12,10 @@ step-spec =
     tie.close
     (tie.spec
     (λ c. let p = c .pre in omega (arith, at-most-64 (p .order)))
-    (λ c κs. let p = c .before .pre in (at-most-64 (p .order), p .low-length, refl))
-    (λ c. let p = c .before .before .pre in omega (arith, at-most-64 (p .order)))
-    (λ c κs. let p = c .before .before .before .pre in (at-most-64 (p .order), p .high-length, refl))
+    (λ c. search needs)
+    (λ c κs. let p = c .before .pre in (p .low-length, at-most-64 (p .order)))
+    (λ c. let p = c .before .before .before .pre in omega (arith, at-most-64 (p .order)))
+    (λ c. search needs)
+    (λ c κs. let p = c .before .before .before .before .pre in (p .high-length, at-most-64 (p .order)))
     (λ c κs. search needs)
     (λ c. clean-result (c .search) ∙ c .search .ensures .found ∙ step-every _ _ _))

@@ -1,14 +1,13 @@
 -- 8, then 9, then the box of the numbers.
 use mathlib.Core.Path.{_≡_, refl}
-use mathlib.Core.Bool.{Bool, true, false}
-use borrow.Author.Needs.{needs}
+use mathlib.Core.Bool.{Bool, false}
 use lib.IntN.{pos}
 use lib.Signed.{leZ}
 use Rattle.integers.proofs.Machine.{clean, clean-result}
 use Rattle.tables.specs.Matrix.{at}
 use Rattle.tables.proofs.Checks.{call-true, call-false}
 use Rattle.steps.specs.Steps.{step}
-use Rattle.enclosure.proofs.HalfSides.{ready-of}
+use Rattle.sides.proofs.HalfSides.{ready-of}
 use Rattle.enclosure.proofs.Halves.{one-of}
 use Rattle.enclosure.proofs.BoxCases.{box-flat, box-far, box-near, stated-sides, stated-empty, stated-refused}
 use Rattle.enclosure.proofs.enclose.bounded.Statement.{statement}
@@ -48,10 +47,10 @@ bounded-spec =
     (λ c.
     let s = c .before .before .before .before .before .before .before .before .before .before .before .before .before .before .before in
     stated-sides
-    (box-near _ _ _ _ _ _ (steep (c .before .before .before .before .before .before .before .before .before .before .before .before .before)) _ (c .before .before .before .before .before .before .before .before .before .before .before .gradients .ensures .entries) (call-true (c .before .before .before .before .before .before .before .before .before .near .ensures) (c .before .before .before .before .before .before .before .before .if2 .left)) _ (c .before .before .before .before .before .before .steps-at .ensures .steps))
+    (box-near _ _ _ _ _ _ (steep (c .before .before .before .before .before .before .before .before .before .before .before .before .before)) _ (c .before .before .before .before .before .before .before .before .before .before .before .gradients .ensures .entries) (call-true (c .before .before .before .before .before .before .before .before .before .near .ensures) (c .before .before .before .before .before .before .before .before .if2 .left)) _ (c .before .before .before .before .before .before .steps-at .ensures .entries))
     (rw (clean-result (c .before .before .before .before .before .before .before .before .before .before .before .before .before .before .step), c .before .before .before .before .before .before .before .before .before .before .before .before .before .before .step .ensures, clean-result (c .before .before .before .before .before .at-centre), c .before .before .before .before .before .at-centre .ensures, clean (s .fits .limit), c .if3 .taken) at (c .before .box-of .ensures)))
     (λ c.
     let s = c .before .before .before .before .before .before .before .before .before .before .before .before .before .before .before in
     stated-empty
-    (box-near _ _ _ _ _ _ (steep (c .before .before .before .before .before .before .before .before .before .before .before .before .before)) _ (c .before .before .before .before .before .before .before .before .before .before .before .gradients .ensures .entries) (call-true (c .before .before .before .before .before .before .before .before .before .near .ensures) (c .before .before .before .before .before .before .before .before .if2 .left)) _ (c .before .before .before .before .before .before .steps-at .ensures .steps))
+    (box-near _ _ _ _ _ _ (steep (c .before .before .before .before .before .before .before .before .before .before .before .before .before)) _ (c .before .before .before .before .before .before .before .before .before .before .before .gradients .ensures .entries) (call-true (c .before .before .before .before .before .before .before .before .before .near .ensures) (c .before .before .before .before .before .before .before .before .if2 .left)) _ (c .before .before .before .before .before .before .steps-at .ensures .entries))
     (rw (clean-result (c .before .before .before .before .before .before .before .before .before .before .before .before .before .before .step), c .before .before .before .before .before .before .before .before .before .before .before .before .before .before .step .ensures, clean-result (c .before .before .before .before .before .at-centre), c .before .before .before .before .before .at-centre .ensures, clean (s .fits .limit), c .if3 .left) at (c .before .box-of .ensures))))

@@ -1,0 +1,313 @@
+/*
+ * Measures the deepest stack of each entry at each order. A call runs on a stack of its own, which is painted: filled with one byte. How far down it is
+ * overwritten is what the call took. It is counted from the frame of the function that makes the call, so arguments and return address are in it.
+ * Ends with status 1 where a call took more than the header says.
+ */
+#define _XOPEN_SOURCE 700
+#include "../include/hankboulder.h"
+
+#include <stdio.h>
+#include <string.h>
+#include <ucontext.h>
+
+#define INPUTS 2000
+#define SEED 20240229u
+#define STACK_BYTES 65536
+#define MAX_ENTRIES (HB_MAX_ORDER * HB_MAX_ORDER)
+#define ENTRIES 4
+#define KINDS 10
+#define LEAST_ANSWER (-2)
+#define ANSWERS (HB_REFUSED_FAR - LEAST_ANSWER + 1)
+
+/* What the calls are made with. The processor stores the low byte first, so that tables of int64_t are the library's bytes. */
+struct input {
+    int64_t n;
+    int64_t low[MAX_ENTRIES];
+    int64_t high[MAX_ENTRIES];
+    int64_t factor[MAX_ENTRIES];
+    int64_t vector[HB_MAX_ORDER];
+    int64_t linear[HB_MAX_ORDER];
+    int64_t limit;
+    int64_t centre[HB_MAX_ORDER];
+};
+
+static struct input input;
+static int64_t factor[MAX_ENTRIES], vector[HB_MAX_ORDER], sides[2 * HB_MAX_ORDER];
+static int64_t answer;
+
+/* Where the frame of the call's caller is */
+static const unsigned char *frame;
+
+static _Alignas(16) unsigned char stack[STACK_BYTES];
+static ucontext_t measuring, measured;
+
+static const uint8_t *bytes(const int64_t *numbers)
+{
+    return (const uint8_t *)numbers;
+}
+
+/* Each of these makes one call, on the painted stack. */
+static void call_judge(void)
+{
+    frame = __builtin_frame_address(0);
+    answer = hb_judge(input.n, bytes(input.low), HB_TABLE_BYTES(input.n), bytes(input.high), HB_TABLE_BYTES(input.n), (uint8_t *)factor,
+                      HB_TABLE_BYTES(input.n), (uint8_t *)vector, HB_VECTOR_BYTES(input.n));
+}
+
+static void call_test_factor(void)
+{
+    frame = __builtin_frame_address(0);
+    answer = hb_test_factor(input.n, bytes(input.low), HB_TABLE_BYTES(input.n), bytes(input.high), HB_TABLE_BYTES(input.n), bytes(input.factor),
+                            HB_TABLE_BYTES(input.n));
+}
+
+static void call_test_vector(void)
+{
+    frame = __builtin_frame_address(0);
+    answer = hb_test_vector(input.n, bytes(input.low), HB_TABLE_BYTES(input.n), bytes(input.high), HB_TABLE_BYTES(input.n), bytes(input.vector),
+                            HB_VECTOR_BYTES(input.n));
+}
+
+static void call_box(void)
+{
+    frame = __builtin_frame_address(0);
+    answer = hb_box(input.n, bytes(input.low), HB_TABLE_BYTES(input.n), bytes(input.high), HB_TABLE_BYTES(input.n), bytes(input.linear),
+                    HB_VECTOR_BYTES(input.n), input.limit, bytes(input.centre), HB_VECTOR_BYTES(input.n), (uint8_t *)sides, HB_SIDES_BYTES(input.n));
+}
+
+/* An entry: its call, what the header says of its stack, the most that was measured at each order, and how often each answer was given. */
+struct entry {
+    const char *name;
+    void (*call)(void);
+    long allowed;
+    long deepest[HB_MAX_ORDER + 1];
+    long answers[ANSWERS];
+};
+
+static struct entry entries[ENTRIES] = {
+    {.name = "hb_judge", .call = call_judge, .allowed = HB_JUDGE_STACK},
+    {.name = "hb_test_factor", .call = call_test_factor, .allowed = HB_TEST_FACTOR_STACK},
+    {.name = "hb_test_vector", .call = call_test_vector, .allowed = HB_TEST_VECTOR_STACK},
+    {.name = "hb_box", .call = call_box, .allowed = HB_BOX_STACK},
+};
+
+/* The stack that a call takes, seen by one paint: from the caller's frame down to the last byte that is not as it was painted */
+static long depth(void (*call)(void), int paint)
+{
+    long place = 0;
+    memset(stack, paint, sizeof stack);
+    getcontext(&measured);
+    measured.uc_stack.ss_sp = stack;
+    measured.uc_stack.ss_size = sizeof stack;
+    measured.uc_link = &measuring;
+    makecontext(&measured, call, 0);
+    swapcontext(&measuring, &measured);
+    while (place < STACK_BYTES && stack[place] == paint)
+        place++;
+    return (long)(frame - (stack + place));
+}
+
+/* Two paints: what a call writes may be one of them. */
+static void measure(struct entry *entry)
+{
+    static const int paints[] = {0xA5, 0x5A};
+    for (size_t k = 0; k < sizeof paints / sizeof paints[0]; k++) {
+        long taken = depth(entry->call, paints[k]);
+        if (taken > entry->deepest[input.n])
+            entry->deepest[input.n] = taken;
+    }
+    entry->answers[answer - LEAST_ANSWER]++;
+}
+
+/* A number from low to high (splitmix64) */
+static int64_t draw(int64_t low, int64_t high)
+{
+    static uint64_t state = SEED;
+    uint64_t z = state += 0x9E3779B97F4A7C15u;
+    z = (z ^ (z >> 30)) * 0xBF58476D1CE4E5B9u;
+    z = (z ^ (z >> 27)) * 0x94D049BB133111EBu;
+    z ^= z >> 31;
+    return low + (int64_t)(z % (uint64_t)(high - low + 1));
+}
+
+/* Sets an entry and its mirror image to bounds width apart, cut to the range */
+static void set_pair(int64_t i, int64_t j, int64_t low, int64_t width)
+{
+    int64_t high = low + width;
+    low = low < -HB_ENTRY_RANGE ? -HB_ENTRY_RANGE : low > HB_ENTRY_RANGE ? HB_ENTRY_RANGE : low;
+    high = high > HB_ENTRY_RANGE ? HB_ENTRY_RANGE : high < low ? low : high;
+    input.low[i * input.n + j] = input.low[j * input.n + i] = low;
+    input.high[i * input.n + j] = input.high[j * input.n + i] = high;
+}
+
+/* B'B for a random B of some rows, with something added on the diagonal: definite, or nearly so. */
+static void draw_product(int64_t rows, int64_t size, int64_t added, int64_t width)
+{
+    int64_t b[MAX_ENTRIES];
+    for (int64_t place = 0; place < rows * input.n; place++)
+        b[place] = draw(-size, size);
+    for (int64_t i = 0; i < input.n; i++) {
+        for (int64_t j = 0; j <= i; j++) {
+            int64_t sum = i == j ? added : 0;
+            for (int64_t k = 0; k < rows; k++)
+                sum += b[k * input.n + i] * b[k * input.n + j];
+            set_pair(i, j, sum, draw(0, width));
+        }
+    }
+}
+
+/* Any entries of some size, with greater ones on the diagonal */
+static void draw_entries(int64_t size, int64_t diagonal, int64_t width)
+{
+    for (int64_t i = 0; i < input.n; i++)
+        for (int64_t j = 0; j <= i; j++)
+            set_pair(i, j, i == j ? draw(0, diagonal) : draw(-size, size), draw(0, width));
+}
+
+/* Definite bounds, but [1 3; 3 10] in two rows and columns next to each other: factoring stops, and no vector shows anything. */
+static void draw_undecided(void)
+{
+    int64_t at = draw(0, input.n - 2);
+    for (int64_t i = 0; i < input.n; i++)
+        for (int64_t j = 0; j <= i; j++)
+            set_pair(i, j, i == j ? draw(500000, 1000000) : draw(-1, 1), 0);
+    set_pair(at, at, 1, 0);
+    set_pair(at + 1, at, 3, 0);
+    set_pair(at + 1, at + 1, 10, 0);
+}
+
+/* Bounds with one entry of low changed: beyond the range, above its entry of high, or off from its mirror image */
+static void draw_refused(int kind)
+{
+    int64_t place = draw(0, input.n * input.n - 1);
+    draw_entries(1, 20, 0);
+    if (kind == 0)
+        input.low[place] = -HB_ENTRY_RANGE - 1;
+    else if (kind == 1)
+        input.low[place] = input.high[place] + 1;
+    else
+        input.low[place]--;
+}
+
+/* Bounds of one kind: with a good margin, with little, with none; small and great entries of any signs; a stop without a vector; refused */
+static void draw_bounds(int kind)
+{
+    if (kind == 0)
+        draw_product(input.n, 300, draw(100, 10000), 2);
+    else if (kind == 1)
+        draw_product(input.n, 3, draw(0, 3), 1);
+    else if (kind == 2)
+        draw_product(input.n - 1, 300, 0, 0);
+    else if (kind == 3)
+        draw_product(input.n - 1, 9, 1, 0);
+    else if (kind == 4 || (kind == 6 && input.n == 1))
+        draw_entries(3, 12, 1);
+    else if (kind == 5)
+        draw_entries(HB_ENTRY_RANGE, HB_ENTRY_RANGE, HB_ENTRY_RANGE);
+    else if (kind == 6)
+        draw_undecided();
+    else
+        draw_refused(kind - 7);
+}
+
+/* A centre, linear terms that put the middle of the ellipsoid near it, and a limit with which it may be empty; or any terms and limit. */
+static void draw_terms(int near)
+{
+    int64_t centres = near ? 100 : HB_CENTRE_RANGE, others = near ? 1000 : 1 << 20;
+    for (int64_t i = 0; i < input.n; i++)
+        input.centre[i] = draw(-centres, centres);
+    input.limit = near ? draw(-1000, 1000000) : draw(-HB_LIMIT_RANGE - 1, HB_LIMIT_RANGE + 1);
+    for (int64_t i = 0; i < input.n; i++) {
+        int64_t product = 0;
+        for (int64_t j = 0; j < input.n; j++)
+            product += input.low[i * input.n + j] * input.centre[j];
+        input.linear[i] = draw(-others, others) - product;
+        if (near)
+            input.limit += (2 * input.linear[i] + product) * input.centre[i];
+    }
+}
+
+/* Offers the factor and the vector that the judge has just written, or those from before; now and then with one entry changed */
+static void offer(void)
+{
+    int64_t count = input.n * input.n;
+    memcpy(input.factor, factor, sizeof factor);
+    memcpy(input.vector, vector, sizeof vector);
+    if (draw(0, 3) == 0) {
+        input.factor[draw(0, count - 1)] += draw(-1000000, 1000000);
+        input.vector[draw(0, input.n - 1)] = draw(-HB_VECTOR_RANGE, HB_VECTOR_RANGE + 100);
+    }
+}
+
+/* Many calls of each entry at one order. The judge's come first, since its factor and vector are offered to the tests. */
+static void measure_order(int64_t n)
+{
+    input.n = n;
+    for (int64_t i = 0; i < n; i++)
+        for (int64_t j = 0; j < n; j++)
+            factor[i * n + j] = i == j ? 65536 : 0;
+    for (int64_t i = 0; i < n; i++)
+        vector[i] = 1;
+    for (int place = 0; place < INPUTS; place++) {
+        draw_bounds(place % KINDS);
+        draw_terms(place % 3 != 0);
+        for (int k = 0; k < ENTRIES; k++) {
+            measure(&entries[k]);
+            if (k == 0)
+                offer();
+        }
+    }
+}
+
+/* The most at any order */
+static long greatest(const struct entry *entry)
+{
+    long most = 0;
+    for (int64_t n = 1; n <= HB_MAX_ORDER; n++)
+        if (entry->deepest[n] > most)
+            most = entry->deepest[n];
+    return most;
+}
+
+static void print_answers(const struct entry *entry)
+{
+    printf("%s answered", entry->name);
+    for (int k = 0; k < ANSWERS; k++)
+        if (entry->answers[k])
+            printf("  %d: %ld times", k + LEAST_ANSWER, entry->answers[k]);
+    printf("\n");
+}
+
+static void print_table(void)
+{
+    printf("%-10s", "order");
+    for (int k = 0; k < ENTRIES; k++)
+        printf(" %15s", entries[k].name);
+    for (int64_t n = 1; n <= HB_MAX_ORDER; n++) {
+        printf("\n%-10d", (int)n);
+        for (int k = 0; k < ENTRIES; k++)
+            printf(" %15ld", entries[k].deepest[n]);
+    }
+    printf("\n%-10s", "greatest");
+    for (int k = 0; k < ENTRIES; k++)
+        printf(" %15ld", greatest(&entries[k]));
+    printf("\n%-10s", "header");
+    for (int k = 0; k < ENTRIES; k++)
+        printf(" %15ld", entries[k].allowed);
+    printf("\n\n");
+}
+
+int main(void)
+{
+    int within = 1;
+    for (int64_t n = 1; n <= HB_MAX_ORDER; n++)
+        measure_order(n);
+    print_table();
+    for (int k = 0; k < ENTRIES; k++) {
+        print_answers(&entries[k]);
+        within &= greatest(&entries[k]) <= entries[k].allowed;
+    }
+    if (!within)
+        printf("a call took more stack than the header says\n");
+    return !within;
+}

@@ -1,0 +1,12 @@
+// The program: a summary file on standard input, its verdict and its box on standard output.
+use libc::STDIN_FILENO;
+use libc::STDOUT_FILENO;
+
+fn main() {
+    let mut file = [0u8; 4097];
+    let size = io::read_full(STDIN_FILENO, &mut file);
+    let report = report::report::report(&file[..size]);
+    let text = report.text;
+    let length = report.length;
+    io::write_all(STDOUT_FILENO, &text[..length]);
+}

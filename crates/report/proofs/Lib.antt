@@ -1,0 +1,7 @@
+mod Examples
+pub mod Puts
+pub mod Digits
+pub mod SameLines
+pub mod StatedText
+pub mod Fitting
+pub mod Printed

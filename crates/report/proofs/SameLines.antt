@@ -1,0 +1,49 @@
+-- Lines rest on the numbers that they print alone: a table or a vector may stand at the front of a longer array.
+use mathlib.Core.Path.{_≡_, refl, sym, ap₂, _∙_}
+use mathlib.Core.List.{List, _∷_, _++_}
+use Prim.Native.Nat.{ℕ, zero, suc, _+_, _*_, _/_, _%_, _≤_, _<_}
+use native.Mathlib.Nat.{suc-mul, mul-le-mul}
+use native.Mathlib.Omega.{arith}
+use lib.IntN.{ℤ}
+use Rattle.tables.specs.Ranges.{greatestOrder}
+use Rattle.tables.specs.Matrix.{Matrix, nth, table, tabulate}
+use Rattle.tables.proofs.Matrix.{inside, row-inside, column-inside, nth-at, at-table, nth-tabulate}
+use Rattle.verdict.specs.FactorTable.{Written}
+use Rattle.report.specs.Text.{space, widest, decimal, numbers, line, lines}
+
+numbers-ext : (f g : ℕ → ℤ) (n : ℕ) → ((k : ℕ) → k < n → f k ≡ g k) → numbers f n ≡ numbers g n
+unfolding numbers
+numbers-ext f g zero h = refl
+numbers-ext f g (suc n) h =
+    ap₂ (λ (s : List ℕ) (z : ℤ). s ++ (space ∷ decimal z)) (numbers-ext f g n (λ k l. h k (omega arith))) (h n (omega arith))
+
+-- a table that was written has the numbers of the matrix's table
+written-nth : {n : ℕ} {M : Matrix} {f : List ℤ} → Written n M f (n * n) → (k : ℕ) → k < n * n → nth f k ≡ nth (table n M) k
+written-nth {n} {M} {f} w k h =
+    let r = row-inside n k h in
+    let c = column-inside n k h in
+    nth-at n k f ∙ w .entries (k / n) (k % n) c (inside r c) ∙ sym (nth-at n k (table n M) ∙ at-table n M (k / n) (k % n) r c)
+
+module _ (word : List ℕ) where
+  line-ext : (f g : ℕ → ℤ) (n : ℕ) → ((k : ℕ) → k < n → f k ≡ g k) → line word f n ≡ line word g n
+  unfolding line
+  line-ext f g n h = rw (numbers-ext f g n h)
+
+  pub lines-ext : (x y : List ℤ) (d n : ℕ) → ((k : ℕ) → k < n * d → nth x k ≡ nth y k) → lines word x d n ≡ lines word y d n
+  unfolding lines
+  lines-ext x y d zero h = refl
+  lines-ext x y d (suc n) h =
+      ap₂ (λ (s t : List ℕ). s ++ t) (lines-ext x y d n (λ k l. h k (omega (arith, suc-mul n d))))
+      (line-ext (λ k. nth x (n * d + k)) (λ k. nth y (n * d + k)) d (λ k l. h (n * d + k) (omega (arith, suc-mul n d))))
+
+  -- the rows of a table that was written
+  pub table-lines : {n : ℕ} {M : Matrix} {f : List ℤ} → Written n M f (n * n) → lines word f n n ≡ lines word (table n M) n n
+  table-lines {n} {M} {f} w = lines-ext f (table n M) n n (written-nth w)
+
+  -- the first m numbers of an array
+  pub first-lines : (x : List ℤ) (d n m : ℕ) → n * d ≤ m → lines word x d n ≡ lines word (tabulate m (nth x)) d n
+  first-lines x d n m l = lines-ext x (tabulate m (nth x)) d n (λ k h. sym (nth-tabulate m (nth x) k (omega arith)))
+
+-- the rows of the greatest order take up most
+pub rows-room : {n : ℕ} → n ≤ greatestOrder → n * (3 + n * (widest + 1) + 1) ≤ greatestOrder * (3 + greatestOrder * (widest + 1) + 1)
+rows-room {n} h = let l : 3 + n * (widest + 1) + 1 ≤ 3 + greatestOrder * (widest + 1) + 1 = omega arith in mul-le-mul h l

@@ -1,0 +1,36 @@
+-- The rows follow the word; those that are printed are the rows of the factor's table.
+use native.Mathlib.Omega.{arith}
+use borrow.Author.Needs.{needs}
+use Rattle.tables.proofs.Matrix.{at-most-64}
+use Rattle.report.specs.Text.{ascii}
+use Rattle.report.specs.Lines.{verdictText}
+use Rattle.report.proofs.Puts.{put-within, put-room, put-then}
+use Rattle.report.proofs.SameLines.{table-lines, rows-room}
+use Rattle.report.proofs.lines.put_factor.Statement.{statement}
+use Rattle.report.proofs.lines.put_factor.Tie as tie
+
+put-lines-requires : tie.Need-put-lines-requires
+put-lines-requires c κs =
+    let p = c .before .before .before .before .before .before .before .before .before .before .before .before .pre in
+    (put-room (c .before .before .before .before .before .put-text .ensures) _ (omega (arith, rows-room (p .0), p .1)), omega (arith, at-most-64 (p .0), c .before .before .before .before .before .before .before .before .before .write-factor .kept .1 .1 .0))
+
+returns : tie.Need-returns
+unfolding verdictText
+returns c =
+    let p = c .before .before .before .before .before .before .before .before .before .before .before .before .before .before .before .pre in
+    rw (← table-lines (ascii "row") (c .before .before .before .before .before .before .before .before .before .before .before .before .write-factor .ensures))
+    (put-within (put-then (c .before .before .before .before .before .before .before .before .put-text .ensures) (omega (arith, p .1)) (c .before .before .put-lines .ensures)) (omega (arith, rows-room (p .0))))
+
+pub put-factor-spec : {M : Type 1} → statement M
+put-factor-spec =
+    tie.close
+    (tie.spec
+    (λ c. search needs)
+    (λ c κs. let p = c .before .before .pre in (p .0, at-most-64 (p .0)))
+    (λ c. search needs)
+    (λ c κs. search needs)
+    (λ c. search needs)
+    (λ c. search needs)
+    put-lines-requires
+    (λ c. search needs)
+    returns)

@@ -1,0 +1,26 @@
+use Prim.Native.Nat.{_≤_}
+use native.Mathlib.Omega.{arith}
+use borrow.Author.Needs.{needs}
+use lib.ListN.{length}
+use Rattle.report.specs.Text.{line}
+use Rattle.report.proofs.Puts.{put-then}
+use Rattle.report.proofs.text.put_line.Statement.{statement}
+use Rattle.report.proofs.text.put_line.Tie as tie
+
+returns : tie.Need-returns
+unfolding line
+returns c =
+    let n = c .before .before .before .before .before .before in
+    let w = n .before .before .before .before in
+    let h : w .before .before .before .before .args .at ≤ length (w .before .before .before .before .args .out .now) = omega (arith, w .before .before .before .before .pre .0) in
+    put-then (put-then (w .put-text .ensures) h (n .put-numbers .ensures)) h (c .before .before .put .ensures)
+
+pub put-line-spec : {M : Type 1} → statement M
+put-line-spec =
+    tie.close
+    (tie.spec
+    (λ c κs. search needs)
+    (λ c κs. search needs)
+    (λ c κs. search needs)
+    (λ c. search needs)
+    returns)

@@ -1,0 +1,4 @@
+pub mod Text
+pub mod Putting
+pub mod Lines
+pub mod Report

@@ -1,0 +1,4 @@
+// What the program prints of a summary file.
+pub mod lines;
+pub mod report;
+pub mod text;

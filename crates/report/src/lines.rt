@@ -1,0 +1,85 @@
+// The lines of a verdict and of a box.
+ghost use mathlib.Core.Path.{_≡_};
+ghost use Prim.Native.Nat.{_+_, _*_, _≤_, _<_};
+ghost use lib.ListN.{length};
+ghost use Rattle.tables.specs.Ranges.{greatestOrder};
+ghost use Rattle.tables.specs.Matrix.{nth, table, tabulate};
+ghost use Rattle.residual.specs.Slack.{triangle};
+ghost use Rattle.verdict.specs.Judge.{definite, notDefinite, judgement};
+ghost use Rattle.enclosure.specs.Box.{boxAnswer};
+ghost use Rattle.report.specs.Putting.{Put};
+ghost use Rattle.report.specs.Lines.{numbered, numberRoom, verdictRoom, verdictText, boxRoom, boxText};
+use crate::text::put_line;
+use crate::text::put_lines;
+use crate::text::put_text;
+use enclosure::enclose::BoxAnswer;
+use tables::Refusal;
+use verdict::judge::Verdict;
+
+// A word and the number of a refusal.
+pub fn put_refused(out: &mut [u8], at: usize, word: &[u8], r: Refusal) -> usize
+    requires { ⌜ at + (length (now word) + numberRoom) ≤ length (now out) ⌝ }
+    ensures { λ k. ⌜ Put (now (out .entry)) at (numbered (now (word .entry)) r) (length (now (word .entry)) + numberRoom) k (now (out .exit)) ⌝ }
+{
+    let number = [tables::refusal_number(r) as i64; 1];
+    put_line(out, at, word, &number, 0, 1)
+}
+
+// 'definite', and the rows of the factor whose columns stand in t.
+fn put_factor(out: &mut [u8], at: usize, n: usize, t: &[i64; 64]) -> usize
+    requires { ⌜ (n ≤ greatestOrder) × (at + verdictRoom ≤ length (now out)) ⌝ }
+    ensures { λ k. ⌜ Put (now (out .entry)) at (verdictText n (definite (table n (triangle (now (t .entry)))))) verdictRoom k (now (out .exit)) ⌝ }
+{
+    let mut f = [0i64; 64];
+    verdict::factor_table::write_factor(n, t, &mut f);
+    let next = put_text(out, at, b"definite\n");
+    put_lines(out, next, b"row", &f, n, n)
+}
+
+// 'not', and the vector that stands in x.
+fn put_vector(out: &mut [u8], at: usize, n: usize, x: &[i64; 8]) -> usize
+    requires { ⌜ (n ≤ greatestOrder) × (length (now x) ≡ 8) × (at + verdictRoom ≤ length (now out)) ⌝ }
+    ensures { λ k. ⌜ Put (now (out .entry)) at (verdictText n (notDefinite (tabulate n (nth (now (x .entry)))))) verdictRoom k (now (out .exit)) ⌝ }
+{
+    let next = put_text(out, at, b"not\n");
+    put_lines(out, next, b"vector", x, n, 1)
+}
+
+// The lines of the verdict.
+pub fn put_verdict(out: &mut [u8], at: usize, n: usize, low: &[i64], high: &[i64]) -> usize
+    requires { ⌜ (n ≤ greatestOrder) × (0 < n) × (n * n ≤ length (now low)) × (n * n ≤ length (now high)) × (at + verdictRoom ≤ length (now out)) ⌝ }
+    ensures { λ k. ⌜ Put (now (out .entry)) at (verdictText n (judgement n (now (low .entry)) (now (high .entry)))) verdictRoom k (now (out .exit)) ⌝ }
+{
+    let mut t = [0i64; 64];
+    let mut x = [0i64; 8];
+    let verdict = verdict::judge::decide(n, low, high, &mut t, &mut x);
+    match verdict {
+        Verdict::Definite => put_factor(out, at, n, &t),
+        Verdict::NotDefinite => put_vector(out, at, n, &x),
+        Verdict::Undecided => put_text(out, at, b"undecided\n"),
+        Verdict::Refused(r) => put_refused(out, at, b"refused", r),
+    }
+}
+
+// The lines of the box.
+pub fn put_box(
+    out: &mut [u8],
+    at: usize,
+    n: usize,
+    low: &[i64],
+    high: &[i64],
+    linear: &[i64],
+    limit: i64,
+    centre: &[i64],
+) -> usize
+    requires { ⌜ (n ≤ greatestOrder) × (n * n ≤ length (now low)) × (n * n ≤ length (now high)) × (n ≤ length (now linear)) × (n ≤ length (now centre)) × (at + boxRoom ≤ length (now out)) ⌝ }
+    ensures { λ k. ⌜ Put (now (out .entry)) at (boxText n (boxAnswer n (now (low .entry)) (now (high .entry)) (now (linear .entry)) limit (now (centre .entry)))) boxRoom k (now (out .exit)) ⌝ }
+{
+    let mut x = [0i64; 16];
+    let answer = enclosure::enclose::answer(n, low, high, linear, limit, centre, &mut x);
+    match answer {
+        BoxAnswer::Sides => put_lines(out, at, b"side", &x, 2, n),
+        BoxAnswer::Empty => put_text(out, at, b"empty\n"),
+        BoxAnswer::Refused(r) => put_refused(out, at, b"box refused", r),
+    }
+}

@@ -1,0 +1,105 @@
+// Document 01, "Box": from D, t, t(k), g(k) and the centre to the sides.
+ghost use mathlib.Core.Path.{_≡_};
+ghost use Prim.Native.Nat.{_^_};
+ghost use lib.IntN.{pos, _+ℤ_, _*ℤ_};
+ghost use lib.ListN.{length};
+ghost use Rattle.integers.specs.Numbers.{Within};
+ghost use Rattle.integers.specs.Sum.{sum};
+ghost use Rattle.integers.specs.Division.{ceilDiv};
+ghost use Rattle.integers.specs.Root.{leastRoot};
+ghost use Rattle.tables.specs.Matrix.{nth};
+ghost use Rattle.tables.specs.Buffers.{Filled};
+ghost use Rattle.arithmetic.specs.Contracts.{boundRange, Terms};
+ghost use Rattle.sides.specs.Sides.{bound, boxOf};
+ghost use Rattle.sides.specs.Contracts.{Near, Ready, smallerHalf, Halved, SidesIn, Answered};
+use arithmetic::ceil_div;
+use arithmetic::least_root;
+use arithmetic::product_sum;
+use arithmetic::smaller;
+
+pub mod centre;
+
+// B
+fn bound(n: usize, d: i64, t: i64, g: &[i64; 8]) -> i64
+    requires { ⌜ Near n t (now g) × Within (2 ^ 56) d ⌝ }
+    ensures { λ r. ⌜ r ≡ bound n d t (nth (now (g .entry))) ⌝ }
+{
+    let squares = product_sum(n, g, g);
+    d + ceil_div(squares, t)
+}
+
+// Fills in Y(k) for each k below n.
+fn first_halves(n: usize, t: i64, g: &[i64; 8], b: i64, y: &mut [i64; 8])
+    requires { ⌜ Near n t (now g) × Within boundRange b × (length (now y) ≡ 8) ⌝ }
+    ensures { λ r. ⌜ Filled 8 n (λ k. ceilDiv (nth (now (g .entry)) k) t +ℤ leastRoot t b) (now (y .exit)) ⌝ }
+{
+    let s = least_root(t, b);
+    let mut k = 0;
+    while k < n {
+        y[k] = ceil_div(g[k], t) + s;
+        k += 1;
+    }
+}
+
+// B2
+fn second_bound(n: usize, d: i64, g: &[i64; 8], y: &[i64; 8]) -> i64
+    requires { ⌜ Terms n (now g) (now y) × Within (2 ^ 56) d ⌝ }
+    ensures { λ r. ⌜ r ≡ d +ℤ pos 2 *ℤ sum n (λ k. nth (now (g .entry)) k *ℤ nth (now (y .entry)) k) ⌝ }
+{
+    let products = product_sum(n, g, y);
+    d + 2 * products
+}
+
+// h: the smaller of Y(k) and Z(k), or Y(k) where t(k) is 0.
+fn half_side(y: i64, t: i64, b: i64) -> i64
+    requires { ⌜ Within boundRange b ⌝ }
+    ensures { λ r. ⌜ r ≡ smallerHalf y t b ⌝ }
+{
+    if t <= 0 {
+        return y;
+    }
+    let z = least_root(t, b);
+    smaller(y, z)
+}
+
+// Writes the sides: low, then high, for each k.
+fn write_sides(n: usize, c: &[i64], tk: &[i64; 8], y: &[i64; 8], b: i64, out: &mut [i64; 16])
+    requires { ⌜ Halved n (now c) (now y) b × (length (now out) ≡ 16) ⌝ }
+    ensures { λ r. ⌜ SidesIn n (nth (now (c .entry))) (λ k. smallerHalf (nth (now (y .entry)) k) (nth (now (tk .entry)) k) b) (now (out .exit)) ⌝ }
+{
+    let mut k = 0;
+    while k < n {
+        let h = half_side(y[k], tk[k], b);
+        let x = c[k];
+        out[2 * k] = x - h;
+        out[2 * k + 1] = x + h;
+        k += 1;
+    }
+}
+
+// The box. Answers false where it is empty; else side k stands at 2 k and 2 k + 1.
+pub fn box_of(
+    n: usize,
+    c: &[i64],
+    d: i64,
+    t: i64,
+    tk: &[i64; 8],
+    g: &[i64; 8],
+    out: &mut [i64; 16],
+) -> bool
+    requires { ⌜ Ready n (now c) d t (now g) × (length (now out) ≡ 16) ⌝ }
+    ensures { λ r. ⌜ Answered (boxOf n (nth (now (c .entry))) d t (nth (now (tk .entry))) (nth (now (g .entry)))) n r (now (out .exit)) ⌝ }
+{
+    let b = bound(n, d, t, g);
+    if b < 0 {
+        return false;
+    }
+    let mut y = [0i64; 8];
+    first_halves(n, t, g, b, &mut y);
+    let b2 = second_bound(n, d, g, &y);
+    if b2 < 0 {
+        return false;
+    }
+    write_sides(n, c, tk, &y, b2, out);
+    true
+}

@@ -1,0 +1,82 @@
+-- The problems of some files: what the rules give, beside what was worked out apart from them. One list with one proof.
+use mathlib.Core.Path.{_≡_, refl}
+use mathlib.Core.List.{List, [], _∷_, _++_, map}
+use Prim.Native.Nat.{ℕ}
+use lib.IntN.{ℤ, pos, negsuc}
+use lib.ListN.{length, replicate}
+use Rattle.words.specs.Numbers.{fromLeBytes, unsignedAt, signedAt, numbersOf, paddedNumbersOf}
+use Rattle.tables.specs.Matrix.{at}
+use Rattle.tables.specs.Checks.{all, firstRefusal, orderOk, within, allWithin, nowhereCrossed, same, symmetric, tableChecks, problemChecks}
+use Rattle.tables.specs.declared.Refusal.{Refusal}
+use Rattle.tables.specs.declared.Refusal.the-variants.{Order, Range, Crossed, Tag, Absent, Size, Long}
+use Rattle.tables.specs.declared.Checked.the-variants.{Passed, Refused}
+use Rattle.summary.specs.declared.problem.Reading.{Reading}
+use Rattle.summary.specs.Fields.{tags, kindIn, kindOf, tagged, fieldAt}
+use Rattle.summary.specs.Layouts.{startOf, lengthOf, seen, unseen, placed, walkOn, walkFields, walk, walked, content}
+use Rattle.summary.specs.Problems.{allPresent, orderIn, sizesOk, fieldChecks, problemIn, noProblem, readAs, handed, readIn, readWalked, reading}
+
+-- ---- files
+abbrev field : ℕ → List ℕ → List ℕ
+field tag bytes = tag ∷ length bytes ∷ 0 ∷ bytes
+
+-- the bytes of a small number in L or U, and elsewhere
+abbrev short : ℕ → List ℕ
+short x = x ∷ replicate 3 0
+
+abbrev long : ℕ → List ℕ
+long x = x ∷ replicate 7 0
+
+-- document 01's case P, with other contents of the tags 01, 02 and 06
+abbrev file : List ℕ → ℕ → List ℕ → List ℕ
+file n l c = field 1 n ++ field 2 (short l) ++ field 3 (short 4) ++ field 4 (0xf8 ∷ replicate 7 0xff) ++ field 5 (long 0) ++ field 6 c
+
+-- ---- readings
+abbrev refused : Refusal → Reading
+refused r = record { checked = Refused r; problem = noProblem }
+
+-- a number, and zeros after it
+abbrev alone : ℕ → ℤ → List ℤ
+alone zeros x = x ∷ replicate zeros (pos 0)
+
+abbrev readingP : Reading
+readingP =
+    record {
+      checked = Passed;
+      problem = record { order = 1; low = alone 63 (pos 4); high = alone 63 (pos 4); linear = alone 7 (negsuc 7); limit = pos 0; centre = alone 7 (pos 2) };
+    }
+
+record Line : Type 0 where
+  bytes : List ℕ
+  expected : Reading
+
+abbrev lines : List Line
+lines =
+    record { bytes = file (1 ∷ []) 4 (long 2); expected = readingP }
+    -- fields in another order
+    ∷ record { bytes = field 6 (long 2) ++ field 5 (long 0) ++ field 3 (short 4) ++ field 1 (1 ∷ []) ++ field 4 (0xf8 ∷ replicate 7 0xff) ++ field 2 (short 4); expected = readingP }
+    -- 13, also where a field that is there has another length
+    ∷ record { bytes = []; expected = refused Absent }
+    ∷ record { bytes = field 1 (1 ∷ 1 ∷ []) ++ field 2 (short 4); expected = refused Absent }
+    -- 14 for tag 01 comes before 1
+    ∷ record { bytes = file [] 4 (long 2); expected = refused Size }
+    ∷ record { bytes = file (9 ∷ 0 ∷ []) 4 (long 2); expected = refused Size }
+    -- 1 comes before 14 for the other tags
+    ∷ record { bytes = file (0 ∷ []) 4 (long 2); expected = refused Order }
+    ∷ record { bytes = file (9 ∷ []) 4 (long 2); expected = refused Order }
+    ∷ record { bytes = file (2 ∷ []) 4 (long 2); expected = refused Size }
+    -- 14 comes before 4, and 3 before 4
+    ∷ record { bytes = file (1 ∷ []) 5 (short 2); expected = refused Size }
+    ∷ record { bytes = file (1 ∷ []) 5 (0 ∷ long 1); expected = refused Size }
+    ∷ record { bytes = file (1 ∷ []) 5 (0 ∷ 0 ∷ 1 ∷ replicate 5 0); expected = refused Range }
+    ∷ record { bytes = file (1 ∷ []) 5 (long 2); expected = refused Crossed }
+    -- 15 comes before 11, from 4097 bytes on
+    ∷ record { bytes = replicate 4096 0; expected = refused Tag }
+    ∷ record { bytes = replicate 4097 0; expected = refused Long }
+    ∷ []
+
+as-worked-out : map (λ (l : Line). reading (l .bytes)) lines ≡ map (λ (l : Line). l .expected) lines
+unfolding reading readWalked readIn readAs handed problemIn fieldChecks allPresent orderIn sizesOk
+    content lengthOf walked walk walkFields walkOn seen startOf unseen placed fieldAt tagged kindOf kindIn tags
+    unsignedAt fromLeBytes signedAt numbersOf paddedNumbersOf
+    all firstRefusal orderOk within allWithin nowhereCrossed same symmetric tableChecks problemChecks at
+as-worked-out = refl

@@ -1,0 +1,41 @@
+use Prim.Native.Nat.{_≤_}
+use native.Mathlib.Omega.{arith}
+use borrow.Author.Needs.{needs}
+use Rattle.integers.proofs.Machine.{clean-result}
+use Rattle.tables.proofs.Matrix.{at-most-64}
+use Rattle.summary.specs.Problems.{problemIn}
+use Rattle.summary.proofs.Spelled.{Lengths, lengths-of}
+use Rattle.summary.proofs.problem.problem_in.Statement.{statement}
+use Rattle.summary.proofs.problem.problem_in.Tie as tie
+
+-- n, and the lengths that it calls for
+small : (c : tie.After-order-in) → c .order-in .result ≤ 8
+small c = let e = c .order-in .ensures in let h = c .before .before .pre .order in omega arith
+
+lengths : (c : tie.After-order-in) → Lengths (c .before .before .args .layout) (c .order-in .result)
+lengths c = lengths-of _ _ (rw (c .order-in .ensures) (c .before .before .pre .sizes))
+
+pub problem-in-spec : {M : Type 1} → statement M
+unfolding problemIn
+problem-in-spec =
+    tie.close
+    (tie.spec (λ c κs. search needs)
+    (λ c. search needs)
+    (λ c. omega (arith, at-most-64 (small c)))
+    (λ c κs. let z = lengths c in (c .before .before .pre .inside, omega arith, at-most-64 (small c)))
+    (λ c. omega (arith, at-most-64 (small (c .before))))
+    (λ c κs. let d = c .before in let z = lengths d in (d .before .before .pre .inside, omega arith, at-most-64 (small d)))
+    (λ c κs. let d = c .before .before in let z = lengths d in (d .before .before .pre .inside, omega arith, small d))
+    (λ c κs. let d = c .before .before .before in let z = lengths d in (d .before .before .pre .inside, omega arith))
+    (λ c κs. let d = c .before .before .before .before in let z = lengths d in (d .before .before .pre .inside, omega arith, small d))
+    (λ c.
+    let d = c .before .before .before in
+    rw (
+      clean-result (c .before .number-in),
+      d .before .table-in .ensures,
+      d .table-in2 .ensures,
+      c .before .before .vector-in .ensures,
+      c .before .number-in .ensures,
+      c .vector-in2 .ensures,
+      d .before .before .order-in .ensures,
+    )))

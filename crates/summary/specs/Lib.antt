@@ -1,0 +1,5 @@
+pub mod Fields
+pub mod Layouts
+pub mod Entries
+pub mod Pieces
+pub mod Problems

@@ -1,0 +1,211 @@
+// The problem that a file spells.
+ghost use mathlib.Core.Path.{_≡_};
+ghost use Prim.Native.Nat.{_*_, _≤_};
+ghost use mir.Syntax.{w32, w64};
+ghost use mir.Val.{bytes};
+ghost use Rattle.words.specs.Numbers.{signedAt, paddedNumbersOf};
+ghost use Rattle.tables.specs.Ranges.{greatestOrder};
+ghost use Rattle.tables.specs.Checks.{firstRefusal};
+ghost use Rattle.tables.specs.declared.Checked.the-variants.{Passed};
+ghost use Rattle.summary.specs.declared.field.Kind.the-variants.{Order};
+ghost use Rattle.summary.specs.Layouts.{lengthOf, content, Inside};
+ghost use Rattle.summary.specs.Problems.{allPresent, orderIn, sizesOk, Sized, fieldChecks, problemIn, noProblem, handed, readIn, reading, LetThrough};
+use crate::field::Kind;
+use crate::layout::Layout;
+use crate::layout::content;
+use crate::layout::length_of;
+use crate::layout::walk;
+use tables::Checked;
+use tables::Refusal;
+
+// A file has at most 4096 bytes.
+pub const LONGEST: usize = 4096;
+
+// A problem of order n. L and U stand row by row in the first n² numbers of low and high, a and c in the first n of linear and centre; zeros follow.
+pub struct Problem {
+    pub order: usize,
+    pub low: [i64; 64],
+    pub high: [i64; 64],
+    pub linear: [i64; 8],
+    pub limit: i64,
+    pub centre: [i64; 8],
+}
+
+// What the reading of a file finds: its problem, or the first refusal, with zeros for a problem.
+pub struct Reading {
+    pub checked: Checked,
+    pub problem: Problem,
+}
+
+// Zeros alone.
+fn no_problem() -> Problem
+    ensures { λ r. ⌜ r ≡ noProblem ⌝ }
+{
+    Problem {
+        order: 0,
+        low: [0; 64],
+        high: [0; 64],
+        linear: [0; 8],
+        limit: 0,
+        centre: [0; 8],
+    }
+}
+
+// 13: whether all six fields are there.
+fn all_present(layout: Layout) -> bool
+    ensures { λ r. ⌜ r ≡ allPresent layout ⌝ }
+{
+    let starts = layout.starts;
+    let mut k = 0;
+    while k < 6 {
+        if starts[k] == 0 {
+            return false;
+        }
+        k += 1;
+    }
+    true
+}
+
+// 14, of the tags 02 to 06: whether each field has the length that n calls for.
+fn sizes_ok(layout: Layout, n: usize) -> bool
+    requires { ⌜ n ≤ greatestOrder ⌝ }
+    ensures { λ r. ⌜ r ≡ sizesOk layout n ⌝ }
+{
+    let table = n * n * words::SHORT_SIZE;
+    let vector = n * words::SIZE;
+    length_of(layout, Kind::Low) == table
+        && (length_of(layout, Kind::High) == table
+            && (length_of(layout, Kind::Linear) == vector
+                && (length_of(layout, Kind::Limit) == words::SIZE
+                    && length_of(layout, Kind::Centre) == vector)))
+}
+
+// n, from the content of tag 01.
+fn order_in(file: &[u8], layout: Layout) -> u8
+    requires { ⌜ Inside (now file) layout × (lengthOf layout Order ≡ 1) ⌝ }
+    ensures { λ r. ⌜ r ≡ orderIn (now (file .entry)) layout ⌝ }
+{
+    let part = content(file, layout, Kind::Order);
+    part[0]
+}
+
+// 13, then 14 for tag 01, then 1, then 14 for the other tags.
+fn check_fields(file: &[u8], layout: Layout) -> Checked
+    requires { ⌜ Inside (now file) layout ⌝ }
+    ensures { λ r. ⌜ r ≡ firstRefusal (fieldChecks (now (file .entry)) layout) ⌝ }
+{
+    if !all_present(layout) {
+        return Checked::Refused(Refusal::Absent);
+    }
+    if length_of(layout, Kind::Order) != 1 {
+        return Checked::Refused(Refusal::Size);
+    }
+    let n = order_in(file, layout);
+    if !tables::order_ok(n as i64) {
+        return Checked::Refused(Refusal::Order);
+    }
+    if !sizes_ok(layout, n as usize) {
+        return Checked::Refused(Refusal::Size);
+    }
+    Checked::Passed
+}
+
+// The short numbers in the content of a kind, count of them.
+fn table_in(file: &[u8], layout: Layout, kind: Kind, count: usize) -> [i64; 64]
+    requires { ⌜ Inside (now file) layout × (count * bytes w32 ≤ lengthOf layout kind) × (count ≤ 64) ⌝ }
+    ensures { λ r. ⌜ r ≡ paddedNumbersOf w32 64 (content (now (file .entry)) layout kind) count ⌝ }
+{
+    words::load_short_table(content(file, layout, kind), count)
+}
+
+// The numbers in the content of a kind, count of them.
+fn vector_in(file: &[u8], layout: Layout, kind: Kind, count: usize) -> [i64; 8]
+    requires { ⌜ Inside (now file) layout × (count * bytes w64 ≤ lengthOf layout kind) × (count ≤ 8) ⌝ }
+    ensures { λ r. ⌜ r ≡ paddedNumbersOf w64 8 (content (now (file .entry)) layout kind) count ⌝ }
+{
+    words::load_vector(content(file, layout, kind), count)
+}
+
+// The number in the content of a kind.
+fn number_in(file: &[u8], layout: Layout, kind: Kind) -> i64
+    requires { ⌜ Inside (now file) layout × (bytes w64 ≤ lengthOf layout kind) ⌝ }
+    ensures { λ r. ⌜ r ≡ signedAt w64 (content (now (file .entry)) layout kind) 0 ⌝ }
+{
+    words::load_i64(content(file, layout, kind), 0)
+}
+
+// The problem in fields of the sizes that n calls for.
+fn problem_in(file: &[u8], layout: Layout) -> Problem
+    requires { ⌜ Sized (now file) layout ⌝ }
+    ensures { λ r. ⌜ r ≡ problemIn (now (file .entry)) layout ⌝ }
+{
+    let n = order_in(file, layout) as usize;
+    Problem {
+        order: n,
+        low: table_in(file, layout, Kind::Low, n * n),
+        high: table_in(file, layout, Kind::High, n * n),
+        linear: vector_in(file, layout, Kind::Linear, n),
+        limit: number_in(file, layout, Kind::Limit),
+        centre: vector_in(file, layout, Kind::Centre, n),
+    }
+}
+
+// 3, 4 and 5 of a problem, which is handed out where it passes.
+fn handed(problem: Problem) -> Reading
+    requires { ⌜ problem .order ≤ greatestOrder ⌝ }
+    ensures { λ r. ⌜ r ≡ handed problem ⌝ }
+{
+    let low = problem.low;
+    let high = problem.high;
+    let linear = problem.linear;
+    let centre = problem.centre;
+    let n = problem.order;
+    let checked = tables::check_problem(n, &low, &high, &linear, problem.limit, &centre);
+    match checked {
+        Checked::Passed => Reading {
+            checked: Checked::Passed,
+            problem,
+        },
+        Checked::Refused(r) => Reading {
+            checked: Checked::Refused(r),
+            problem: no_problem(),
+        },
+    }
+}
+
+// The problem in the fields that the walk found, or the first refusal.
+fn read_in(file: &[u8], layout: Layout) -> Reading
+    requires { ⌜ Inside (now file) layout ⌝ }
+    ensures { λ r. ⌜ r ≡ readIn (now (file .entry)) layout ⌝ }
+{
+    let checked = check_fields(file, layout);
+    match checked {
+        Checked::Passed => handed(problem_in(file, layout)),
+        Checked::Refused(r) => Reading {
+            checked: Checked::Refused(r),
+            problem: no_problem(),
+        },
+    }
+}
+
+// The problem of a summary file, of any bytes at all: 15; then field by field 10, 11, 12; then 13; 14 for tag 01; 1; 14 for the other tags; 3, 4, 5.
+pub fn read(file: &[u8]) -> Reading
+    ensures exact { λ r. ⌜ r ≡ reading (now (file .entry)) ⌝ }
+    ensures meaning { λ r. ⌜ (r .checked ≡ Passed → LetThrough (r .problem)) ⌝ }
+{
+    if LONGEST < file.len() {
+        return Reading {
+            checked: Checked::Refused(Refusal::Long),
+            problem: no_problem(),
+        };
+    }
+    let walked = walk(file);
+    let checked = walked.checked;
+    match checked {
+        Checked::Passed => read_in(file, walked.layout),
+        Checked::Refused(r) => Reading {
+            checked: Checked::Refused(r),
+            problem: no_problem(),
+        },
+    }
+}

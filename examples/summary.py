@@ -1,0 +1,353 @@
+#!/usr/bin/env python3
+"""Summary files, which the program "judge" reads, from text and back.
+
+    python3 examples/summary.py make < problem.txt > problem.summary
+    python3 examples/summary.py show < problem.summary > problem.txt
+    python3 examples/summary.py hex < problem.summary
+
+`make` writes the file of a problem, `show` prints the problem of a file, and `hex` lists a file's bytes, a line for each field.
+
+The text form is this. `#` starts a comment, and empty lines are passed over. All numbers are whole.
+
+    order 2          # n, from 1 to 8: always the first line
+    low              # L: a line for each row
+    4 1
+    1 5
+    high             # U
+    5 2
+    2 6
+    linear 1 -2      # a: n numbers
+    limit 100        # the limit
+    centre 0 0       # c: n numbers
+
+`matrix` with rows stands for `low` and `high` with the same rows. `show` prints it so where L = U. The parts after `order` may stand in any order;
+`show` prints them, and `make` writes their fields, in the order above.
+
+Where a file is damaged, `show` and `hex` say which of the judge's refusals it meets and why, and end with status 1; `hex` lists first what can be
+read. A file can hold a problem that the judge refuses for its numbers (refusals 3 to 5): `make` writes it and `show` prints it, with a note.
+"""
+
+import re
+import sys
+
+MAX_FILE = 4096
+MAX_ORDER = 8
+HEAD = 3
+
+# The fields: tag, word, bytes of a number, and the greatest size of a number, either way.
+FIELDS = [
+    (1, "order", 1, None),
+    (2, "low", 4, 2**20),
+    (3, "high", 4, 2**20),
+    (4, "linear", 8, 2**36),
+    (5, "limit", 8, 2**54),
+    (6, "centre", 8, 2**12),
+]
+WORD = {tag: word for tag, word, _, _ in FIELDS}
+WIDTH = {word: width for _, word, width, _ in FIELDS}
+RANGE = {word: size for _, word, _, size in FIELDS}
+
+REFUSALS = {
+    1: "order",
+    3: "range",
+    4: "crossed",
+    5: "lopsided",
+    10: "cut",
+    11: "tag",
+    12: "again",
+    13: "absent",
+    14: "size",
+    15: "long",
+}
+
+
+class Refused(Exception):
+    """The judge refuses a file: the number of the refusal and what is wrong."""
+
+    def __init__(self, number, reason):
+        super().__init__(f"refused {number}, {REFUSALS[number]}: {reason}")
+
+
+class TextError(Exception):
+    """A text is not in the form."""
+
+    def __init__(self, line, reason):
+        super().__init__(f"line {line}: {reason}")
+
+
+def count(word, order):
+    """How many numbers a part has."""
+    return {"order": 1, "low": order**2, "high": order**2, "linear": order, "limit": 1, "centre": order}[word]
+
+
+def many(number, thing):
+    return f"{number} {thing}" if number == 1 else f"{number} {thing}s"
+
+
+# From text.
+
+
+def text_lines(text):
+    """The lines that say something: line number and words."""
+    lines = [(number, line.split("#")[0].split()) for number, line in enumerate(text.split("\n"), 1)]
+    return [(number, words) for number, words in lines if words]
+
+
+def whole(word, line):
+    if not re.fullmatch("-?[0-9]+", word):
+        raise TextError(line, f"'{word}' is not a whole number")
+    if len(word) > 20:
+        raise TextError(line, f"a number of {len(word)} places fits no field of the file")
+    return int(word)
+
+
+def numbers(words, expected, width, line, what):
+    """The numbers of a line, each of which fits its bytes."""
+    found = [whole(word, line) for word in words]
+    if len(found) != expected:
+        raise TextError(line, f"{what} has {many(expected, 'number')}, and here are {len(found)}")
+    for number in found:
+        if not -(2 ** (8 * width - 1)) <= number < 2 ** (8 * width - 1):
+            raise TextError(line, f"{number} does not fit the {width} bytes that the file has for it")
+    return found
+
+
+def rows(lines, order, width, line, word):
+    """The rows of a table, which are taken off the lines."""
+    table = []
+    for row in range(1, order + 1):
+        if not lines or lines[0][1][0] in [*WIDTH, "matrix"]:
+            end = "the text ends" if not lines else f"'{lines[0][1][0]}' follows in line {lines[0][0]}"
+            raise TextError(line, f"'{word}' has {many(order, 'row')}, but {end} after {row - 1}")
+        at, words = lines.pop(0)
+        table += numbers(words, order, width, at, f"row {row} of '{word}'")
+    return table
+
+
+def parse(text):
+    """The problem of a text: the numbers of each part by its word."""
+    lines, problem = text_lines(text), {}
+    while lines:
+        line, (word, *words) = lines.pop(0)
+        parts = ["low", "high"] if word == "matrix" else [word]
+        if word != "matrix" and word not in WIDTH:
+            raise TextError(line, f"'{word}' is none of {', '.join(WIDTH)} and matrix")
+        for part in parts:
+            if part in problem:
+                raise TextError(line, f"'{part}' is given a second time")
+        if word != "order" and "order" not in problem:
+            raise TextError(line, f"'order' has to come before '{word}'")
+        order = problem.get("order", [1])[0]
+        width = WIDTH[parts[0]]
+        if word == "order":
+            problem[word] = numbers(words, 1, 8, line, "'order'")
+            if not 1 <= problem[word][0] <= MAX_ORDER:
+                raise TextError(line, f"the order is from 1 to {MAX_ORDER}, not {problem[word][0]}")
+        elif parts[0] in ["low", "high"]:
+            if words:
+                raise TextError(line, f"the rows of '{word}' start in the next line")
+            table = rows(lines, order, width, line, word)
+            problem.update({part: table for part in parts})
+        else:
+            problem[word] = numbers(words, count(word, order), width, line, f"'{word}'")
+    missing = [f"'{word}'" for word in WIDTH if word not in problem]
+    if missing:
+        raise TextError(max(1, len(text.splitlines())), f"the text ends without {' and '.join(missing)}")
+    return problem
+
+
+def write(problem):
+    """The file of a problem, tags rising."""
+    file = b""
+    for tag, word, width, _ in FIELDS:
+        content = b"".join(number.to_bytes(width, "little", signed=width > 1) for number in problem[word])
+        file += bytes([tag]) + len(content).to_bytes(2, "little") + content
+    return file
+
+
+# From a file.
+
+
+def walk(file):
+    """The fields of a file: where each starts, its tag and its content. Refused by 15, then field by field by 10, 11 and 12."""
+    if len(file) > MAX_FILE:
+        raise Refused(15, f"the file has more than {MAX_FILE} bytes")
+    at, seen = 0, set()
+    while at < len(file):
+        rest = len(file) - at
+        if rest < HEAD:
+            raise Refused(10, f"a field starts at byte {at}, with only {many(rest, 'byte')} left for its tag and length")
+        tag, length = file[at], int.from_bytes(file[at + 1 : at + HEAD], "little")
+        if length > rest - HEAD:
+            raise Refused(10, f"the field at byte {at} has the length {length}, with only {many(rest - HEAD, 'byte')} left for its content")
+        if tag not in WORD:
+            raise Refused(11, f"the field at byte {at} has the tag {tag:02X}, which is not one of 01 to 06")
+        if tag in seen:
+            raise Refused(12, f"the field at byte {at} is a second one with the tag {tag:02X}, {WORD[tag]}")
+        seen.add(tag)
+        yield at, tag, file[at + HEAD : at + HEAD + length]
+        at += HEAD + length
+
+
+def decode(content, width):
+    """The numbers of a content. The order is unsigned, all others are signed."""
+    parts = [content[at : at + width] for at in range(0, len(content), width)]
+    return [int.from_bytes(part, "little", signed=width > 1) for part in parts]
+
+
+def check_size(contents, word, order):
+    expected = WIDTH[word] * count(word, order)
+    if len(contents[word]) != expected:
+        caller = "the form" if word == "order" else f"order {order}"
+        raise Refused(14, f"the field of {word} has {many(len(contents[word]), 'byte')}, where {caller} calls for {expected}")
+
+
+def read(file):
+    """The problem of a file. Refused by all but 3, 4 and 5."""
+    contents = {WORD[tag]: content for _, tag, content in walk(file)}
+    missing = [f"{word} (tag {tag:02X})" for tag, word in WORD.items() if word not in contents]
+    if missing:
+        raise Refused(13, f"there is no field of {', '.join(missing)}")
+    check_size(contents, "order", 1)
+    order = contents["order"][0]
+    if not 1 <= order <= MAX_ORDER:
+        raise Refused(1, f"the order is {order}, not from 1 to {MAX_ORDER}")
+    for word in list(WIDTH)[1:]:
+        check_size(contents, word, order)
+    return {word: decode(contents[word], width) for word, width in WIDTH.items()}
+
+
+def place(word, index, order):
+    """The name of a number: (row, column) in a table, (k) in a list, counted from 1."""
+    if word in ["low", "high"]:
+        return f"{word}({index // order + 1},{index % order + 1})"
+    return word if word == "limit" else f"{word}({index + 1})"
+
+
+def check_numbers(problem):
+    """Refusals 3, 4 and 5, each over the whole problem before the next."""
+    order = problem["order"][0]
+    for word in list(WIDTH)[1:]:
+        for index, number in enumerate(problem[word]):
+            if abs(number) > RANGE[word]:
+                raise Refused(3, f"{place(word, index, order)} is {number}, beyond {RANGE[word]} either way")
+    low, high = problem["low"], problem["high"]
+    for index in range(order**2):
+        if low[index] > high[index]:
+            at = place("low", index, order), place("high", index, order)
+            raise Refused(4, f"{at[0]} is {low[index]}, above {at[1]}, which is {high[index]}")
+    for word in ["low", "high"]:
+        for index in range(order**2):
+            mirror = index % order * order + index // order
+            if problem[word][index] != problem[word][mirror]:
+                at = place(word, index, order), place(word, mirror, order)
+                raise Refused(5, f"{at[0]} is {problem[word][index]}, and {at[1]} is {problem[word][mirror]}")
+
+
+# To text.
+
+
+def table_rows(table, order):
+    return [" ".join(map(str, table[at : at + order])) for at in range(0, len(table), order)]
+
+
+def text_of(problem):
+    """The text of a problem."""
+    order = problem["order"][0]
+    tables = ["matrix"] if problem["low"] == problem["high"] else ["low", "high"]
+    lines = [f"order {order}"]
+    for word in tables:
+        lines += [word, *table_rows(problem["low" if word == "matrix" else word], order)]
+    lines += [" ".join(map(str, [word, *problem[word]])) for word in ["linear", "limit", "centre"]]
+    return "\n".join(lines) + "\n"
+
+
+def meaning(word, content, order):
+    """What the content of a field says."""
+    width = WIDTH[word]
+    size = f"{word}, {many(len(content), 'byte')}"
+    if len(content) % width:
+        return f"{size}: not whole numbers of {width} bytes"
+    found = decode(content, width)
+    if word in ["low", "high"] and 0 < len(found) == order**2:
+        return f"{size}: [{'; '.join(table_rows(found, order))}]"
+    return f"{size}: {' '.join(map(str, found))}".rstrip()
+
+
+def grouped(content, width):
+    return " ".join(content[at : at + width].hex().upper() for at in range(0, len(content), width))
+
+
+def listing(file):
+    """The lines of a file's fields, and the refusal that ended the walk, if any."""
+    fields, refused, end = [], None, 0
+    try:
+        for at, tag, content in walk(file):
+            fields.append((at, tag, content))
+            end = at + HEAD + len(content)
+    except Refused as refusal:
+        refused = refusal
+    orders = [content[0] for _, tag, content in fields if WORD[tag] == "order" and len(content) == 1]
+    lines = []
+    for at, tag, content in fields:
+        head = f"{tag:02X} {file[at + 1 : at + HEAD].hex().upper()} {grouped(content, WIDTH[WORD[tag]])}"
+        lines.append((head, meaning(WORD[tag], content, *orders or [0])))
+    if end < len(file):
+        lines.append((grouped(file[end:], 1), "not read"))
+    room = min(48, max((len(head) for head, _ in lines), default=0))
+    return [f"{head:<{room}}  {meant}" for head, meant in lines], refused
+
+
+# The commands.
+
+
+def note(problem):
+    """Says on standard error why the judge will refuse the numbers of a problem, if it will."""
+    try:
+        check_numbers(problem)
+    except Refused as refusal:
+        print(f"note: the judge will answer {refusal}", file=sys.stderr)
+
+
+def make():
+    try:
+        text = sys.stdin.buffer.read().decode()
+    except UnicodeDecodeError:
+        raise TextError(1, "this is not a text") from None
+    problem = parse(text)
+    note(problem)
+    sys.stdout.buffer.write(write(problem))
+
+
+def show():
+    problem = read(sys.stdin.buffer.read())
+    note(problem)
+    print(text_of(problem), end="")
+
+
+def hex_listing():
+    file = sys.stdin.buffer.read()
+    lines, refused = listing(file)
+    print("".join(line + "\n" for line in lines), end="")
+    if refused:
+        raise refused
+    note(read(file))
+
+
+COMMANDS = {"make": make, "show": show, "hex": hex_listing}
+
+
+def main(arguments):
+    if len(arguments) != 1 or arguments[0] not in COMMANDS:
+        print(__doc__, file=sys.stderr)
+        return 2
+    try:
+        COMMANDS[arguments[0]]()
+    except (Refused, TextError) as error:
+        print(error, file=sys.stderr)
+        return 1
+    return 0
+
+
+if __name__ == "__main__":
+    sys.exit(main(sys.argv[1:]))

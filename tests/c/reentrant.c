@@ -1,0 +1,140 @@
+/*
+ * Calls the functions from several threads at once, and from a signal handler that interrupts them: every call must give what it gives alone.
+ * The last line printed is 'N passed, M failed'.
+ */
+#define _XOPEN_SOURCE 700
+#include "hankboulder.h"
+
+#include <pthread.h>
+#include <signal.h>
+#include <stdio.h>
+#include <string.h>
+#include <sys/time.h>
+
+#define N HB_MAX_ORDER
+#define PROBLEMS 3
+#define THREADS 3
+#define ROUNDS 2000
+#define INTERRUPTS 200
+#define PERIOD_MICROSECONDS 300
+
+/* The numbers of a problem, where the processor stores the low byte first */
+struct problem {
+    int64_t table[N * N];
+    int64_t linear[N];
+    int64_t centre[N];
+};
+
+/* All that the four functions answer and write for a problem */
+struct result {
+    int64_t answers[4];
+    int64_t factor[N * N];
+    int64_t vector[N];
+    int64_t sides[2 * N];
+};
+
+static struct problem problems[PROBLEMS];
+static struct result alone[PROBLEMS];
+static volatile sig_atomic_t interrupts, differing_interrupts;
+
+static const uint8_t *bytes(const int64_t *numbers)
+{
+    return (const uint8_t *)numbers;
+}
+
+static void call(const struct problem *problem, struct result *result)
+{
+    const uint8_t *table = bytes(problem->table);
+    const size_t size = sizeof problem->table;
+    memset(result, 0, sizeof *result);
+    result->answers[0] = hb_judge(N, table, size, table, size, (uint8_t *)result->factor, sizeof result->factor, (uint8_t *)result->vector,
+                                  sizeof result->vector);
+    result->answers[1] = hb_test_factor(N, table, size, table, size, bytes(result->factor), sizeof result->factor);
+    result->answers[2] = hb_test_vector(N, table, size, table, size, bytes(result->vector), sizeof result->vector);
+    result->answers[3] = hb_box(N, table, size, table, size, bytes(problem->linear), sizeof problem->linear, 100000, bytes(problem->centre),
+                                sizeof problem->centre, (uint8_t *)result->sides, sizeof result->sides);
+}
+
+/* Whether a problem's calls give what they gave alone */
+static int same(int k)
+{
+    struct result result;
+    call(&problems[k], &result);
+    return memcmp(&result, &alone[k], sizeof result) == 0;
+}
+
+static void interrupt(int number)
+{
+    (void)number;
+    if (!same((int)(interrupts % PROBLEMS)))
+        differing_interrupts = 1;
+    interrupts = interrupts + 1;
+}
+
+/* Calls over and over, and counts how often a problem comes out otherwise. */
+static void *work(void *differing)
+{
+    for (int round = 0; round < ROUNDS; round++)
+        for (int k = 0; k < PROBLEMS; k++)
+            *(long *)differing += !same(k);
+    return NULL;
+}
+
+/* A definite table, one that is undecided and one that is not definite, so that all of the code is run */
+static void make_problems(void)
+{
+    for (int i = 0; i < N; i++) {
+        for (int j = 0; j < N; j++) {
+            problems[0].table[i * N + j] = i == j ? 1000 + i : i + j;
+            problems[1].table[i * N + j] = i == j ? 500000 : (i + j) % 2;
+            problems[2].table[i * N + j] = 1;
+        }
+        problems[0].linear[i] = -3000 * (i + 1);
+        problems[0].centre[i] = 3 * (i + 1);
+    }
+    problems[1].table[N * N - 1 - N - 1] = 1;
+    problems[1].table[N * N - 1 - N] = problems[1].table[N * N - 2] = 3;
+    problems[1].table[N * N - 1] = 10;
+    for (int k = 0; k < PROBLEMS; k++)
+        call(&problems[k], &alone[k]);
+}
+
+static int passed;
+static int failed;
+
+static void expect(const char *what, int good)
+{
+    if (!good)
+        printf("%s: no\n", what);
+    passed += good;
+    failed += !good;
+}
+
+int main(void)
+{
+    const struct itimerval period = {{0, PERIOD_MICROSECONDS}, {0, PERIOD_MICROSECONDS}}, none = {{0, 0}, {0, 0}};
+    struct sigaction action;
+    pthread_t threads[THREADS];
+    long differing[THREADS + 1] = {0};
+    make_problems();
+    expect("definite, and boxed", alone[0].answers[0] == HB_DEFINITE && alone[0].answers[1] == HB_ACCEPTED && alone[0].answers[3] == HB_BOX);
+    expect("undecided", alone[1].answers[0] == HB_UNDECIDED);
+    expect("not definite, as the vector shows", alone[2].answers[0] == HB_NOT_DEFINITE && alone[2].answers[2] == HB_YES);
+    memset(&action, 0, sizeof action);
+    action.sa_handler = interrupt;
+    action.sa_flags = SA_RESTART;
+    sigaction(SIGALRM, &action, NULL);
+    for (int k = 0; k < THREADS; k++)
+        expect("a thread starts", pthread_create(&threads[k], NULL, work, &differing[k]) == 0);
+    setitimer(ITIMER_REAL, &period, NULL);
+    while (interrupts < INTERRUPTS)
+        work(&differing[THREADS]);
+    for (int k = 0; k < THREADS; k++)
+        pthread_join(threads[k], NULL);
+    setitimer(ITIMER_REAL, &none, NULL);
+    for (int k = 0; k <= THREADS; k++)
+        expect("a thread's calls give what they give alone", differing[k] == 0);
+    expect("a handler's calls give what they give alone", !differing_interrupts);
+    printf("%d passed, %d failed\n", passed, failed);
+    return failed != 0;
+}

@@ -1,0 +1,268 @@
+//! The files of the folder `cases`: each has a name and stands there as
+//! NAME.summary, with what the program prints for it as NAME.expected.
+//! `cargo run --release --offline --bin write_cases` writes the folder anew.
+
+use std::path::PathBuf;
+
+use hankboulder_reference::cases::bytes;
+use hankboulder_reference::generate::RawProblem;
+use hankboulder_reference::summary::{
+    encode, write_summary, MAX_FILE, TABLE_WIDTH, TAG_CENTRE, TAG_HIGH, TAG_LIMIT, TAG_LOW,
+    TAG_ORDER,
+};
+
+use crate::problem_file::{bounds, definite, fields, file, thin, wide, Fields};
+
+/// A file of the folder. A name that begins with `refused-` goes on with the
+/// number.
+#[derive(Clone, Debug, PartialEq, Eq)]
+pub struct Case {
+    /// The name
+    pub name: String,
+    /// The bytes
+    pub file: Vec<u8>,
+}
+
+impl Case {
+    fn new(name: &str, file: Vec<u8>) -> Case {
+        let name = name.to_string();
+        Case { name, file }
+    }
+
+    fn of(name: &str, problem: &RawProblem) -> Case {
+        Case::new(name, file(problem))
+    }
+
+    /// Where the file stands.
+    pub fn summary_path(&self) -> PathBuf {
+        folder().join(format!("{}.summary", self.name))
+    }
+
+    /// Where the expected output stands.
+    pub fn expected_path(&self) -> PathBuf {
+        folder().join(format!("{}.expected", self.name))
+    }
+}
+
+/// The folder.
+pub fn folder() -> PathBuf {
+    PathBuf::from(env!("CARGO_MANIFEST_DIR")).join("cases")
+}
+
+/// Every case.
+pub fn cases() -> Vec<Case> {
+    [
+        cut_and_tag_refusals(),
+        size_refusals(),
+        entry_refusals(),
+        long_files(),
+        verdicts(),
+        boxes(),
+        listed(),
+    ]
+    .concat()
+}
+
+/// The fields of the problem that the refused files are made of, of order 2.
+fn good() -> Fields {
+    fields(&definite(2))
+}
+
+/// The file of the good problem with another content for a tag.
+fn with(tag: u8, content: &[u8]) -> Vec<u8> {
+    let mut fields = good();
+    set(&mut fields, tag, content);
+    write_summary(&fields)
+}
+
+fn set(fields: &mut Fields, tag: u8, content: &[u8]) {
+    let mut found = fields.iter_mut().filter(|field| field.0 == tag);
+    found.next().expect("a field of the tag").1 = content.to_vec();
+}
+
+/// The file of the good problem with bytes after it.
+fn followed_by(tail: &str) -> Vec<u8> {
+    [write_summary(&good()), bytes(tail)].concat()
+}
+
+/// The file of the good problem with bytes before it.
+fn led_by(head: &str) -> Vec<u8> {
+    [bytes(head), write_summary(&good())].concat()
+}
+
+/// 10, 11, 12 and 13
+fn cut_and_tag_refusals() -> Vec<Case> {
+    let mut no_limit = good();
+    no_limit.retain(|field| field.0 != TAG_LIMIT);
+    let mut no_centre_and_long_order = good();
+    no_centre_and_long_order.retain(|field| field.0 != TAG_CENTRE);
+    set(&mut no_centre_and_long_order, TAG_ORDER, &[2, 0]);
+    let mut past_the_end = write_summary(&good());
+    past_the_end.pop();
+    vec![
+        Case::new("refused-10-one-byte-left", followed_by("01")),
+        Case::new("refused-10-two-bytes-left", followed_by("01 01")),
+        Case::new("refused-10-length-past-the-end", past_the_end),
+        Case::new("refused-10-with-tag-ff-comes-before-11", followed_by("FF")),
+        Case::new("refused-10-again-comes-before-12", followed_by("06 0100")),
+        Case::new("refused-11-tag-00", followed_by("00 0000")),
+        Case::new("refused-11-tag-07", led_by("07 0100 02")),
+        Case::new("refused-12-order-again", followed_by("01 0100 02")),
+        Case::new("refused-12-then-cut", led_by("06 0000 06 0000 01 FFFF")),
+        Case::new("refused-13-empty-file", vec![]),
+        Case::new("refused-13-no-limit", write_summary(&no_limit)),
+        Case::new(
+            "refused-13-comes-before-14",
+            write_summary(&no_centre_and_long_order),
+        ),
+    ]
+}
+
+/// 14 and 1
+fn size_refusals() -> Vec<Case> {
+    let mut order_9 = good();
+    set(&mut order_9, TAG_ORDER, &[9]);
+    set(&mut order_9, TAG_LOW, &[]);
+    let low = encode(&definite(2).low, TABLE_WIDTH);
+    let mut beyond_and_short = good();
+    set(&mut beyond_and_short, TAG_LOW, &[0x7F; 16]);
+    set(&mut beyond_and_short, TAG_CENTRE, &[0; 8]);
+    vec![
+        Case::new("refused-14-order-of-no-bytes", with(TAG_ORDER, &[])),
+        Case::new(
+            "refused-14-order-of-two-bytes-comes-before-1",
+            with(TAG_ORDER, &[9, 0]),
+        ),
+        Case::new("refused-01-order-0", with(TAG_ORDER, &[0])),
+        Case::new("refused-01-order-9", with(TAG_ORDER, &[9])),
+        Case::new("refused-01-order-255", with(TAG_ORDER, &[255])),
+        Case::new(
+            "refused-01-comes-before-14-of-others",
+            write_summary(&order_9),
+        ),
+        Case::new("refused-14-low-short", with(TAG_LOW, &low[..15])),
+        Case::new("refused-14-high-of-order-1", with(TAG_HIGH, &low[..4])),
+        Case::new("refused-14-centre-long", with(TAG_CENTRE, &[0; 17])),
+        Case::new(
+            "refused-14-comes-before-3",
+            write_summary(&beyond_and_short),
+        ),
+    ]
+}
+
+/// 3, 4 and 5
+fn entry_refusals() -> Vec<Case> {
+    let changed = |name: &str, change: fn(&mut RawProblem)| {
+        let mut problem = definite(2);
+        change(&mut problem);
+        Case::of(name, &problem)
+    };
+    vec![
+        changed("refused-03-low-below", |p| p.low[3] = -(1 << 20) - 1),
+        changed("refused-03-high-above", |p| p.high[0] = (1 << 20) + 1),
+        changed("refused-03-linear-above", |p| p.linear[1] = (1 << 36) + 1),
+        changed("refused-03-limit-below", |p| p.limit = -(1 << 54) - 1),
+        changed("refused-03-centre-below", |p| p.centre[0] = -(1 << 12) - 1),
+        changed("refused-03-comes-before-4-and-5", |p| {
+            p.low[1] = p.high[1] + 1;
+            p.centre[1] = 1 << 13;
+        }),
+        changed("refused-04-crossed", |p| {
+            p.low[3] = p.high[3] + 1;
+        }),
+        changed("refused-04-comes-before-5", |p| p.low[2] = p.high[2] + 1),
+        changed("refused-05-low-lopsided", |p| p.low[1] -= 1),
+        changed("refused-05-high-lopsided", |p| p.high[2] += 1),
+    ]
+}
+
+/// 15, and the greatest size that passes it
+fn long_files() -> Vec<Case> {
+    let grown = |size: usize| {
+        let missing = size - write_summary(&good()).len();
+        with(TAG_HIGH, &vec![0; 4 * TABLE_WIDTH + missing])
+    };
+    vec![
+        Case::new("refused-14-in-4096-bytes", grown(MAX_FILE)),
+        Case::new("refused-15-4097-bytes", grown(MAX_FILE + 1)),
+        Case::new(
+            "refused-15-comes-before-10-and-11",
+            vec![0xFF; MAX_FILE + 1],
+        ),
+    ]
+}
+
+/// 'not' from each list, 'undecided' and 'definite' without a box
+fn verdicts() -> Vec<Case> {
+    let thin = |name: &str, matrix: &str| Case::of(name, &bounds(matrix, matrix));
+    let end = 1 << 20;
+    let mut widest = definite(8);
+    for place in 0..64 {
+        widest.low[place] = if place % 9 == 0 { end } else { 0 };
+    }
+    widest.high = widest.low.clone();
+    let none_for_1 = "[2 181 0 0; 181 17473 4 -2; 0 4 4000 -2000; 0 -2 -2000 999]";
+    vec![
+        thin("not-by-tried-vector", "[1 2; 2 1]"),
+        thin("not-by-the-first-of-two-tried", "[1 1 0; 1 1 1; 0 1 1]"),
+        Case::of("not-by-high-alone", &bounds("[1 0; 0 1]", "[1 2; 2 1]")),
+        thin("not-by-solved-1", "[1 1000; 1000 10000]"),
+        thin(
+            "not-by-solved-1-stopped-in-row-1",
+            "[1 0 1000; 0 1 5; 1000 5 10000]",
+        ),
+        thin("not-by-solved-1-of-32768", "[1 28672; 28672 1048576]"),
+        thin("not-by-solved-64", "[100 37; 37 13]"),
+        thin("not-by-solved-64-where-1-gives-none", none_for_1),
+        thin("undecided", "[1 3; 3 10]"),
+        thin("definite-box-refused-8", "[2 -1; -1 2]"),
+        Case::of("definite-widest-factor-of-order-8", &widest),
+        Case::of(
+            "not-at-the-ends-of-every-range",
+            &wide(
+                "[-1048576 -1048576; -1048576 -1048576]",
+                "[1048576 1048576; 1048576 1048576]",
+                &[1 << 36, -(1 << 36)],
+                -(1 << 54),
+                &[1 << 12, -(1 << 12)],
+            ),
+        ),
+    ]
+}
+
+/// Sides of each order, 'empty', 8 and 9
+fn boxes() -> Vec<Case> {
+    let of_order = |order| Case::of(&format!("sides-of-order-{order}"), &definite(order));
+    let four = |name: &str, a: i64, limit: i64| Case::of(name, &thin("[4]", &[a], limit, &[0]));
+    let stepless = "[609851 712448 1296; 712448 834162 1529; 1296 1529 4]";
+    let mut boxes: Vec<Case> = (1..=8).map(of_order).collect();
+    boxes.extend([
+        four("sides-of-no-length", 0, 0),
+        four("sides-with-a-point-on-the-rim", 0, 9),
+        four("sides-where-the-quotient-rounds-up", 1, -1),
+        four("sides-of-the-greatest-gradient", 1 << 20, 0),
+        four("definite-box-refused-9", (1 << 20) + 1, 0),
+        four("definite-empty", 0, -1),
+        Case::of("sides-widest", &thin("[2]", &[0], 1 << 54, &[0])),
+        Case::of(
+            "sides-with-high-off-the-diagonal",
+            &wide("[4 0; 0 4]", "[4 1; 1 4]", &[0, 0], 2, &[1, -1]),
+        ),
+        Case::of(
+            "sides-without-step-3",
+            &thin(stepless, &[1, -2, 3], 100, &[0, 0, 0]),
+        ),
+    ]);
+    boxes
+}
+
+/// Case P of document 01, and its fields in falling order
+fn listed() -> Vec<Case> {
+    let case_p = thin("[4]", &[-8], 0, &[2]);
+    let mut falling = fields(&case_p);
+    falling.reverse();
+    vec![
+        Case::of("case-p", &case_p),
+        Case::new("case-p-fields-falling", write_summary(&falling)),
+    ]
+}

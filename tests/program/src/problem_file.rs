@@ -1,0 +1,70 @@
+//! Files of problems.
+
+use hankboulder_reference::cases::numbers;
+use hankboulder_reference::generate::RawProblem;
+use hankboulder_reference::summary::{problem_fields, write_summary};
+
+/// The fields of a file in the order they stand: tag and content.
+pub type Fields = Vec<(u8, Vec<u8>)>;
+
+/// A problem whose bounds are written as in document 01, such as `[2 1; 1 2]`.
+pub fn wide(low: &str, high: &str, linear: &[i64], limit: i64, centre: &[i64]) -> RawProblem {
+    RawProblem {
+        order: linear.len(),
+        low: numbers(low),
+        high: numbers(high),
+        linear: linear.to_vec(),
+        limit,
+        centre: centre.to_vec(),
+    }
+}
+
+/// The same of L = U.
+pub fn thin(matrix: &str, linear: &[i64], limit: i64, centre: &[i64]) -> RawProblem {
+    wide(matrix, matrix, linear, limit, centre)
+}
+
+/// Bounds alone: linear terms, limit and centre are 0.
+pub fn bounds(low: &str, high: &str) -> RawProblem {
+    let order = numbers(low).len().isqrt();
+    let zeros = vec![0; order];
+    wide(low, high, &zeros, 0, &zeros)
+}
+
+/// A definite problem of an order that has a box. L, U, a and c have entries of
+/// both signs, and no two rows are alike.
+pub fn definite(order: usize) -> RawProblem {
+    let places = (0..order * order).map(|place| (place / order, place % order));
+    let low = |(i, j): (usize, usize)| {
+        let entry = (i + j) % 3;
+        let diagonal = if i == j { 40 + 10 * i } else { 0 };
+        (entry + diagonal) as i64 - 1
+    };
+    let high = |(i, j)| low((i, j)) + ((i + j) % 2) as i64;
+    let indices = 0..order as i64;
+    RawProblem {
+        order,
+        low: places.clone().map(low).collect(),
+        high: places.map(high).collect(),
+        linear: indices.clone().map(|k| 7 - 3 * k).collect(),
+        limit: 5000,
+        centre: indices.map(|k| k % 3 - 1).collect(),
+    }
+}
+
+/// The six fields of a problem, tags rising.
+pub fn fields(problem: &RawProblem) -> Fields {
+    problem_fields(
+        problem.order as u8,
+        &problem.low,
+        &problem.high,
+        &problem.linear,
+        problem.limit,
+        &problem.centre,
+    )
+}
+
+/// The file of a problem, tags rising.
+pub fn file(problem: &RawProblem) -> Vec<u8> {
+    write_summary(&fields(problem))
+}

@@ -1,0 +1,135 @@
+//! Refusals 1, 3, 4, 5, 11 and 14 at every number of a file: each entry, each
+//! order, each tag and each length.
+
+use hankboulder_program::problem_file::{definite, fields, file};
+use hankboulder_program::{on_threads, Program};
+use hankboulder_reference::generate::RawProblem;
+use hankboulder_reference::summary::{write_summary, TAG_ORDER};
+
+use crate::support::expect_all_refused;
+
+const ENTRY: i64 = 1 << 20;
+const LINEAR: i64 = 1 << 36;
+const LIMIT: i64 = 1 << 54;
+const CENTRE: i64 = 1 << 12;
+
+/// All numbers of a problem but n, each with its range.
+fn numbers(problem: &mut RawProblem) -> Vec<(&mut i64, i64)> {
+    fn each(list: &mut [i64], range: i64) -> impl Iterator<Item = (&mut i64, i64)> {
+        list.iter_mut().map(move |number| (number, range))
+    }
+    each(&mut problem.low, ENTRY)
+        .chain(each(&mut problem.high, ENTRY))
+        .chain(each(&mut problem.linear, LINEAR))
+        .chain([(&mut problem.limit, LIMIT)])
+        .chain(each(&mut problem.centre, CENTRE))
+        .collect()
+}
+
+/// A file for each order and each number of its problem, which is changed.
+fn files_with(change: impl Fn(&mut i64, i64)) -> Vec<Vec<u8>> {
+    let mut files = vec![];
+    for order in 1..=8 {
+        for place in 0..numbers(&mut definite(order)).len() {
+            let mut problem = definite(order);
+            let (number, range) = numbers(&mut problem).swap_remove(place);
+            change(number, range);
+            files.push(file(&problem));
+        }
+    }
+    files
+}
+
+#[test]
+fn refusal_3_at_every_number() {
+    expect_all_refused(files_with(|number, range| *number = range + 1), 3);
+    expect_all_refused(files_with(|number, range| *number = -range - 1), 3);
+}
+
+#[test]
+fn the_ends_of_every_range_pass_3() {
+    let program = Program::under_test();
+    for sign in [1, -1] {
+        let files = files_with(|number, range| *number = sign * range);
+        let texts = on_threads(&files, |file| program.agree(file));
+        assert!(!texts.contains(&"refused 3\n".to_string()));
+    }
+}
+
+/// All places (i, j) at every order.
+fn places() -> impl Iterator<Item = (usize, usize, usize)> {
+    let rows = (1..=8).flat_map(|order| (0..order).map(move |i| (order, i)));
+    rows.flat_map(|(order, i)| (0..order).map(move |j| (order, i, j)))
+}
+
+#[test]
+fn refusal_4_at_every_entry() {
+    let crossed = |(order, i, j)| {
+        let mut problem = definite(order);
+        let place = i * order + j;
+        problem.low[place] = problem.high[place] + 1;
+        file(&problem)
+    };
+    expect_all_refused(places().map(crossed), 4);
+}
+
+#[test]
+fn refusal_5_at_every_entry_off_the_diagonal() {
+    for (lower, higher) in [(1, 0), (0, 1)] {
+        let lopsided = |(order, i, j)| {
+            let mut problem = definite(order);
+            let place = i * order + j;
+            problem.low[place] -= lower;
+            problem.high[place] += higher;
+            file(&problem)
+        };
+        let places = places().filter(|(_, i, j)| i != j);
+        expect_all_refused(places.map(lopsided), 5);
+    }
+}
+
+/// The file of a problem of an order with another content for a tag.
+fn with(order: usize, tag: u8, content: Vec<u8>) -> Vec<u8> {
+    let mut fields = fields(&definite(order));
+    fields[usize::from(tag - TAG_ORDER)].1 = content;
+    write_summary(&fields)
+}
+
+#[test]
+fn refusal_1_of_every_other_n() {
+    let others = (0..=255).filter(|n| !(1..=8).contains(n));
+    expect_all_refused(others.map(|n| with(2, TAG_ORDER, vec![n])), 1);
+}
+
+#[test]
+fn refusal_11_of_every_other_tag() {
+    let mut files = vec![];
+    for tag in (0..=255).filter(|tag| !(1..=6).contains(tag)) {
+        for place in [0, 6] {
+            let mut fields = fields(&definite(2));
+            fields.insert(place, (tag, vec![]));
+            files.push(write_summary(&fields));
+        }
+    }
+    expect_all_refused(files, 11);
+}
+
+#[test]
+fn refusal_14_of_every_other_length() {
+    let mut files = vec![];
+    let of_orders = |tag: usize| (1..=8).map(move |order| fields(&definite(order))[tag].1.len());
+    for order in 1..=8 {
+        for (place, (tag, content)) in fields(&definite(order)).into_iter().enumerate() {
+            let size = content.len();
+            let near = [0, 1, size - 1, size + 1, size + 4, size + 8, size + 256];
+            for length in near.into_iter().chain(of_orders(place)) {
+                if length != size {
+                    let mut content = content.clone();
+                    content.resize(length, 0);
+                    files.push(with(order, tag, content));
+                }
+            }
+        }
+    }
+    expect_all_refused(files, 14);
+}

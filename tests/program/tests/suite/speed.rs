@@ -1,0 +1,51 @@
+//! The time of a run.
+
+use std::time::{Duration, Instant};
+
+use hankboulder_program::problem_file::{definite, file};
+use hankboulder_program::Program;
+use hankboulder_reference::program::output;
+
+const RUNS: usize = 20;
+const LONGEST: Duration = Duration::from_millis(20);
+
+/// The shortest of some runs, from start to end: other work on the machine makes
+/// single runs longer.
+fn shortest(program: &Program, file: &[u8]) -> Duration {
+    let expected = output(file);
+    let run = |_| {
+        let start = Instant::now();
+        let text = program.print(file);
+        let time = start.elapsed();
+        assert_eq!(text, expected);
+        time
+    };
+    (0..RUNS).map(run).min().expect("some runs")
+}
+
+#[test]
+fn a_file_of_order_8_takes_less_than_20_milliseconds() {
+    let program = Program::under_test();
+    // 'definite' with sides
+    let with_box = file(&definite(8));
+    // 'undecided': [1 3; 3 10] in the last two rows, and no tried vector shows it.
+    let mut problem = definite(8);
+    for place in 0..64 {
+        let (i, j) = (place / 8, place % 8);
+        problem.low[place] = match (i.min(j), i.max(j)) {
+            (6, 6) => 1,
+            (6, 7) => 3,
+            (7, 7) => 10,
+            (i, j) if i == j => 1 << 20,
+            _ => 0,
+        };
+    }
+    problem.high = problem.low.clone();
+    let without = file(&problem);
+    assert_eq!(output(&without), "undecided\nbox refused 8\n");
+    for file in [with_box, without] {
+        let time = shortest(&program, &file);
+        println!("order 8: {time:?}");
+        assert!(time < LONGEST, "{time:?}");
+    }
+}
