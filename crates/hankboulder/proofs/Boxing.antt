@@ -17,7 +17,7 @@ use Rattle.tables.specs.declared.Checked.the-variants.{Passed, Refused}
 use Rattle.tables.proofs.Checks.{first-passed, order-of}
 use Rattle.tables.proofs.Answers.{refusal-positive}
 use Rattle.enclosure.specs.Box.{Box, sides, empty, refused, boxAnswer}
-use Rattle.enclosure.specs.Act.{Enclosed, handed, boxSizes, boxCode, Meaning}
+use Rattle.enclosure.specs.Act.{handed, boxSizes, boxCode, Meaning}
 use Rattle.enclosure.specs.declared.enclose.BoxAnswer.{BoxAnswer}
 use Rattle.enclosure.specs.declared.enclose.BoxAnswer.the-variants as BoxAnswer
 use Rattle.enclosure.proofs.BoxFitting.{Fitting, answer-fitting}

@@ -1,8 +1,8 @@
 -- What hb_judge's number means: the numbers that it stores are read back from the buffers as they are left.
-use mathlib.Core.Path.{_≡_, refl, sym, ap, subst, _∙_}
-use mathlib.Core.Bool.{Bool, true, false}
+use mathlib.Core.Path.{_≡_, refl, ap, subst}
+use mathlib.Core.Bool.{Bool}
 use mathlib.Core.List.{List}
-use Prim.Native.Nat.{ℕ, _*_, _≤_, _<_}
+use Prim.Native.Nat.{ℕ, _*_, _≤_}
 use native.Mathlib.Omega.{arith}
 use lib.IntN.{ℤ, pos, negsuc, natAbs}
 use lib.ListN.{length}
@@ -11,15 +11,14 @@ use mir.Val.{bytes}
 use Rattle.tables.specs.Refusals.{refusalNumber}
 use Rattle.tables.specs.Checks.{firstRefusal}
 use Rattle.tables.specs.Answers.{after, entryChecks}
-use Rattle.tables.specs.declared.Refusal.{Refusal}
 use Rattle.tables.specs.declared.Checked.{Checked}
 use Rattle.tables.specs.declared.Checked.the-variants.{Passed, Refused}
 use Rattle.tables.proofs.Checks.{first-passed, order-of}
 use Rattle.tables.proofs.Answers.{refusal-positive}
-use Rattle.verdict.specs.Judge.{Judgement, definite, notDefinite, undecided, refused, judgement, Judged, written, judgeSizes, verdictCode, Meaning}
+use Rattle.verdict.specs.Judge.{Judgement, definite, notDefinite, undecided, refused, judgement, written, judgeSizes, verdictCode, Meaning}
 use Rattle.verdict.specs.declared.judge.Verdict.{Verdict}
 use Rattle.verdict.specs.declared.judge.Verdict.the-variants as Verdict
-use Rattle.verdict.proofs.Fitting.{Sized, Fitting, judgement-fitting}
+use Rattle.verdict.proofs.Fitting.{Fitting, judgement-fitting}
 use Rattle.verdict.proofs.Meanings.{entry-means}
 use Rattle.hankboulder.specs.Entries.{tableOf, vectorOf, stored, judgeStored, judgeEntry, JudgeMeaning}
 use Rattle.hankboulder.proofs.Stores.{read-numbers}

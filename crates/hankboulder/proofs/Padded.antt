@@ -1,24 +1,29 @@
 -- Zeros behind a table change no check and no answer: the code loads a buffer's n² numbers into 64.
-use mathlib.Core.Path.{_≡_, refl, sym, ap, ap₂, _∙_}
-use mathlib.Core.Bool.{Bool, _&&_}
-use mathlib.Core.List.{List, [], _∷_, _++_}
-use Prim.Native.Nat.{ℕ, _*_}
+use mathlib.Core.Path.{_≡_, ap, ap₂}
+use mathlib.Core.List.{List, _++_}
+use Prim.Native.Nat.{ℕ, _*_, _≤_}
+use native.Mathlib.Omega.{arith}
+use mir.Syntax.{w64}
 use lib.IntN.{ℤ, pos}
-use lib.ListN.{replicate}
+use lib.ListN.{length, replicate}
 use lib.Signed.{leZ}
+use Rattle.words.specs.Numbers.{paddedNumbersOf}
+use Rattle.words.proofs.Laws.{length-paddedNumbersOf}
 use Rattle.tables.specs.Ranges.{entryRange, vectorRange, linearRange, centreRange}
-use Rattle.tables.specs.Matrix.{Matrix, nth, at}
-use Rattle.tables.specs.Checks.{all, within, allWithin, nowhereCrossed, same, symmetric, Check, firstRefusal, tableChecks, problemChecks}
-use Rattle.tables.specs.declared.Refusal.the-variants.{Range, Crossed, Lopsided, Factor}
+use Rattle.tables.specs.Matrix.{Matrix}
+use Rattle.tables.specs.Checks.{all, within, allWithin, nowhereCrossed, same, symmetric, tableChecks, problemChecks}
 use Rattle.tables.proofs.Matrix.{nth-padded, at-padded}
-use Rattle.residual.specs.Residual.{accepts}
-use Rattle.residual.specs.FactorTest.{factorShape, factorAnswer}
+use Rattle.residual.specs.FactorTest.{factorAnswer}
 use Rattle.vectors.specs.VectorTest.{vectorShape, vectorAnswer}
 use Rattle.verdict.specs.Judge.{judgement}
 use Rattle.enclosure.specs.Box.{boxAnswer}
 
 abbrev zeros : ℕ → List ℤ
 zeros m = replicate m (pos 0)
+
+-- what a buffer's k numbers are loaded into has room for them
+pub loaded : {m k : ℕ} (s : List ℕ) {x : List ℤ} → x ≡ paddedNumbersOf w64 m s k → k ≤ m → k ≤ length x
+loaded {m} {k} s e h = omega (arith, ap length e, length-paddedNumbersOf w64 m s k h)
 
 range-padded : (b m k : ℕ) (x : List ℤ) → allWithin b m (x ++ zeros k) ≡ allWithin b m x
 unfolding allWithin

@@ -1,19 +1,19 @@
 -- What the judge stores: the bytes of the factor's table, or of the vector; and what is read back from them.
 use mathlib.Core.Path.{_≡_, refl, sym, ap, ap₂, _∙_}
 use mathlib.Core.List.{List, [], _++_, append-nil}
-use Prim.Native.Nat.{ℕ, zero, suc, _/_, _%_, _*_, _^_, _≤_, _<_}
+use Prim.Native.Nat.{ℕ, zero, suc, _/_, _%_, _*_, _^_, _<_}
 use native.Mathlib.Omega.{arith}
-use lib.IntN.{ℤ, pos}
+use lib.IntN.{ℤ}
 use lib.ListN.{length, drop}
 use lib.Seq.{take-all}
 use mir.Syntax.{Width, w64}
-use mir.Val.{bytes, ofZ, SFits}
+use mir.Val.{bytes, ofZ}
 use Rattle.integers.specs.Numbers.{Within}
 use Rattle.integers.proofs.Machine.{fits-within}
-use Rattle.words.specs.Numbers.{toLeBytes, numbersOf, bytesOf, AllFit}
+use Rattle.words.specs.Numbers.{toLeBytes, numbersOf, bytesOf}
 use Rattle.words.proofs.Laws.{numbersOf-bytesOf}
 use Rattle.words.proofs.Lists.{append-drop-end}
-use Rattle.tables.specs.Matrix.{Matrix, at, nth, table, tabulate}
+use Rattle.tables.specs.Matrix.{Matrix, nth, table, tabulate}
 use Rattle.tables.proofs.Matrix.{inside, row-inside, column-inside, nth-at, at-table, nth-tabulate}
 use Rattle.verdict.specs.FactorTable.{Written}
 

@@ -21,7 +21,7 @@ use Rattle.summary.specs.declared.layout.Layout.{Layout}
 use Rattle.summary.specs.declared.layout.Walked.{Walked}
 use Rattle.summary.specs.Fields.{head, kindOf, tagged, fieldAt, Stands}
 use Rattle.summary.specs.Layouts.{placeOf, startOf, lengthOf, seen, unseen, placed, walk, walked, content}
-use Rattle.summary.specs.Entries.{Entry, tagOf, headBytes, entryBytes, fileOf, entryOf, Writable, contentOf, Written}
+use Rattle.summary.specs.Entries.{Entry, tagOf, headBytes, entryBytes, fileOf, entryOf, Writable, contentSeen, Written}
 use Rattle.summary.proofs.Finding.{kind-place, same-kind, tag-known, field-end, field-whole, found-inside, found-end}
 use Rattle.summary.proofs.Walking.{seen-yes, seen-no, walk-end, walk-more, walk-ind}
 use Rattle.summary.proofs.Parts.{kind-discrete, Sized, unseen-start, unseen-sized, start-placed, length-placed, start-kept, length-kept, placed-sized}
@@ -135,13 +135,13 @@ module _ (s : List ℕ) (w : Written s) where
   pub written-passes : walked s .checked ≡ Checked.Passed
   written-passes = whole .passed
 
-  pub written-contents : (k : Kind) → contentOf s (walked s .layout) k ≡ entryOf (w .entries) k
-  unfolding contentOf
+  pub written-contents : (k : Kind) → contentSeen s (walked s .layout) k ≡ entryOf (w .entries) k
+  unfolding contentSeen
   written-contents k = go (entryOf (w .entries) k) refl
     where
-      go : (o : Option (List ℕ)) → entryOf (w .entries) k ≡ o → contentOf s (walked s .layout) k ≡ o
-      go none q = rw (seen-no (walked s .layout) k refl (omega (arith, whole .kept k q .0, unseen-start k)), contentOf)
-      go (some b) q = let f = whole .found k b q in rw (seen-yes (walked s .layout) k refl (f .0), contentOf) (ap some (f .1))
+      go : (o : Option (List ℕ)) → entryOf (w .entries) k ≡ o → contentSeen s (walked s .layout) k ≡ o
+      go none q = rw (seen-no (walked s .layout) k refl (omega (arith, whole .kept k q .0, unseen-start k)), contentSeen)
+      go (some b) q = let f = whole .found k b q in rw (seen-yes (walked s .layout) k refl (f .0), contentSeen) (ap some (f .1))
 
 -- ---- a file that passes is made of entries
 module _ (s : List ℕ) (v : AllBytes s) where

@@ -4,4 +4,5 @@ pub mod Parts
 pub mod Entries
 pub mod Examples
 pub mod Spelled
+pub mod AnyOrder
 pub mod ReadingExamples

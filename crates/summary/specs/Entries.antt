@@ -43,8 +43,8 @@ Writable [] = Unit
 Writable (e ∷ es) = (length (e .bytes) < 256 ^ 2) × (entryOf es (e .kind) ≡ none) × Writable es
 
 -- the content of a kind in a file with this layout
-unfoldable pub contentOf : List ℕ → Layout → Kind → Option (List ℕ)
-contentOf s l k = elim (seen l k) [ true ↦ some (content s l k) | false ↦ none ]
+unfoldable pub contentSeen : List ℕ → Layout → Kind → Option (List ℕ)
+contentSeen s l k = elim (seen l k) [ true ↦ some (content s l k) | false ↦ none ]
 
 -- s is a file of entries
 pub record Written (s : List ℕ) : Type 0 where

@@ -12,6 +12,7 @@ mod counts;
 pub mod enclosure;
 mod guarded;
 pub mod judge;
+mod offered;
 pub mod test_factor;
 pub mod test_vector;
 mod variation;

@@ -1,11 +1,9 @@
 //! The vector test.
 
 use hankboulder_reference::entries;
-use hankboulder_reference::generate::Generator;
 
 use crate::act::{Act, Call};
-use crate::counts::Outcome;
-use crate::guarded::Lent;
+use crate::offered::{library, reference};
 
 extern "C" {
     fn hb_test_vector(
@@ -27,42 +25,15 @@ pub const TEST_VECTOR: Act = Act {
     not_at_order_1: &[5],
     inputs: 3,
     limited: false,
-    generate,
-    reference,
-    library,
+    generate: |generator| {
+        let call = generator.vector_call();
+        Call {
+            n: call.n,
+            limit: 0,
+            buffers: vec![call.low, call.high, call.vector],
+        }
+    },
+    reference: |call| reference(call, entries::test_vector),
+    library: |n, _, lent| library(n, lent, hb_test_vector),
     confirm: |_, _| {},
 };
-
-fn generate(generator: &mut Generator) -> Call {
-    let call = generator.vector_call();
-    Call {
-        n: call.n,
-        limit: 0,
-        buffers: vec![call.low, call.high, call.vector],
-    }
-}
-
-fn reference(call: &mut Call) -> Outcome {
-    let [low, high, vector] = &call.buffers[..] else {
-        unreachable!("the vector test has three buffers");
-    };
-    entries::test_vector(call.n, low, high, vector).into()
-}
-
-fn library(n: i64, _limit: i64, lent: &[Lent]) -> i64 {
-    let [low, high, vector] = lent else {
-        unreachable!("the vector test has three buffers");
-    };
-    // SAFETY: each pointer has its length in readable bytes, and no two overlap.
-    unsafe {
-        hb_test_vector(
-            n,
-            low.pointer,
-            low.length,
-            high.pointer,
-            high.length,
-            vector.pointer,
-            vector.length,
-        )
-    }
-}

@@ -1,34 +1,17 @@
-use mathlib.Core.Path.{_≡_, ap, _∙_}
-use Prim.Native.Nat.{_*_, _-_, _≤_}
-use native.Mathlib.Omega.{arith}
+use mathlib.Core.Path.{_∙_}
+use Prim.Native.Nat.{_*_, _-_}
 use borrow.Author.Needs.{needs}
-use mir.Syntax.{w64}
-use lib.ListN.{length}
 use Rattle.words.specs.Numbers.{paddedNumbersOf}
-use Rattle.words.proofs.Laws.{length-paddedNumbersOf}
 use Rattle.tables.proofs.Matrix.{at-most-64}
-use Rattle.hankboulder.proofs.Padded.{factor-padded}
+use Rattle.hankboulder.proofs.Padded.{loaded, factor-padded}
 use Rattle.hankboulder.proofs.answer_factor.Statement.{statement}
 use Rattle.hankboulder.proofs.answer_factor.Tie as tie
 
-start : (c : tie.After-f) → tie.Start
+abbrev start : (c : tie.After-f) → tie.Start
 start c = c .before .before .before .before .before .before .before .before .before
 
-answer-requires : tie.Need-answer-requires
-unfolding start
-answer-requires c κs =
-    let s = start c in
-    let n = s .args .n in
-    let m : n * n ≤ 64 = at-most-64 (s .pre .0) in
-    let t = c .before .before .before in (
-      s .pre .0,
-      omega (arith, ap length (t .before .before .load-table .ensures), length-paddedNumbersOf w64 64 (s .args .low .now) (n * n) m),
-      omega (arith, ap length (t .before .load-table2 .ensures), length-paddedNumbersOf w64 64 (s .args .high .now) (n * n) m),
-      omega (arith, ap length (t .load-table3 .ensures), length-paddedNumbersOf w64 64 (s .args .factor .now) (n * n) m),
-    )
-
 returns : tie.Need-returns
-unfolding paddedNumbersOf start
+unfolding paddedNumbersOf
 returns c =
     let t = c .before .before .before .before in
     let z = 64 - start (c .before) .args .n * start (c .before) .args .n in
@@ -45,5 +28,9 @@ answer-factor-spec =
     (λ c. search needs)
     (λ c. search needs)
     (λ c. search needs)
-    answer-requires
+    (λ c κs.
+    let p = start c .pre in
+    let m = at-most-64 (p .0) in
+    let t = c .before .before .before in
+    (p .0, loaded _ (t .before .before .load-table .ensures) m, loaded _ (t .before .load-table2 .ensures) m, loaded _ (t .load-table3 .ensures) m))
     returns)

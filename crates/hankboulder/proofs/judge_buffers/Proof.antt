@@ -1,18 +1,15 @@
 -- The numbers are loaded, the verdict is reached, and what goes with it is stored.
-use mathlib.Core.Path.{_≡_, refl, sym, ap, _∙_}
-use Prim.Native.Nat.{_*_, _-_, _≤_}
+use mathlib.Core.Path.{_≡_, refl, sym, _∙_}
+use Prim.Native.Nat.{_*_, _-_}
 use native.Mathlib.Omega.{arith}
 use borrow.Author.Needs.{needs}
-use mir.Syntax.{w64}
-use lib.ListN.{length}
-use Rattle.words.specs.Numbers.{bytesOf, paddedNumbersOf}
-use Rattle.words.proofs.Laws.{length-paddedNumbersOf}
+use Rattle.words.specs.Numbers.{paddedNumbersOf}
 use Rattle.tables.proofs.Matrix.{at-most-64}
 use Rattle.verdict.specs.Deciding.{stated}
 use Rattle.verdict.specs.Judge.{judgement}
 use Rattle.verdict.proofs.Decisions.{given-definite, given-not, given-undecided, given-refused}
 use Rattle.hankboulder.specs.Entries.{tableOf}
-use Rattle.hankboulder.proofs.Padded.{judgement-padded}
+use Rattle.hankboulder.proofs.Padded.{loaded, judgement-padded}
 use Rattle.hankboulder.proofs.Stores.{vector-stored}
 use Rattle.hankboulder.proofs.judge_buffers.Statement.{statement}
 use Rattle.hankboulder.proofs.judge_buffers.Tie as tie
@@ -30,19 +27,6 @@ reached c =
     let t = c .before .before .before .before .before in
     sym (judgement-padded n z z _ _) ∙ (rw (t .before .load-table .ensures, t .load-table2 .ensures) at (c .decide .ensures .verdict))
 
-decide-requires : tie.Need-decide-requires
-decide-requires c κs =
-    let s = c .before .before .before .before .before .before .before .before .before .before in
-    let n = s .args .n in
-    let m : n * n ≤ 64 = at-most-64 (s .pre .0) in (
-      s .pre .0,
-      s .pre .1,
-      omega (arith, ap length (c .before .before .before .before .before .load-table .ensures), length-paddedNumbersOf w64 64 (s .args .low .now) (n * n) m),
-      omega (arith, ap length (c .before .before .before .before .load-table2 .ensures), length-paddedNumbersOf w64 64 (s .args .high .now) (n * n) m),
-      refl,
-      refl,
-    )
-
 pub judge-buffers-spec : {M : Type 1} → statement M
 unfolding start
 judge-buffers-spec =
@@ -52,7 +36,11 @@ judge-buffers-spec =
     (λ c κs. let p = c .before .before .before .before .before .pre in (p .3, at-most-64 (p .0)))
     (λ c. search needs)
     (λ c. search needs)
-    decide-requires
+    (λ c κs.
+    let t = c .before .before .before .before in
+    let p = t .before .before .before .before .before .before .pre in
+    let m = at-most-64 (p .0) in
+    (p .0, p .1, loaded _ (t .before .load-table .ensures) m, loaded _ (t .load-table2 .ensures) m, refl, refl))
     (λ c. search needs)
     (λ c κs. search needs)
     (λ c. search needs)

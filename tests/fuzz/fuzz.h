@@ -1,0 +1,15 @@
+/* The second implementation's output for a summary file, and new files: the C side of src/lib.rs. */
+#ifndef FUZZ_H
+#define FUZZ_H
+
+#include <stddef.h>
+#include <stdint.h>
+
+/* Writes what the program has to print for a file; its length. */
+size_t fuzz_expected(const uint8_t *file, size_t size, uint8_t *text, size_t room);
+/* Puts right what refuses a file; its new length, the old where it has no room. */
+size_t fuzz_repair(uint8_t *file, size_t size, size_t room);
+/* Writes a generated file; its length, 0 where it has no room. */
+size_t fuzz_generate(uint32_t seed, uint8_t *file, size_t room);
+
+#endif

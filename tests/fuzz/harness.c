@@ -1,0 +1,206 @@
+/*
+ * A fuzz of summary files, for libFuzzer. Each file goes through the second implementation, in this process and with its coverage counted, and
+ * through the program that HANKBOULDER_JUDGE names, as a child process. What the program prints has to be the same byte for byte, with nothing on
+ * standard error, and its exit status 0.
+ */
+#define _GNU_SOURCE
+#include <errno.h>
+#include <fcntl.h>
+#include <signal.h>
+#include <spawn.h>
+#include <stdbool.h>
+#include <stdio.h>
+#include <stdlib.h>
+#include <string.h>
+#include <sys/wait.h>
+#include <unistd.h>
+
+#include "fuzz.h"
+
+#define ROOM 65536
+#define KINDS 32
+
+extern char **environ;
+size_t LLVMFuzzerMutate(uint8_t *data, size_t size, size_t max_size);
+int LLVMFuzzerInitialize(int *count, char ***arguments);
+size_t LLVMFuzzerCustomMutator(uint8_t *data, size_t size, size_t max_size, unsigned seed);
+int LLVMFuzzerTestOneInput(const uint8_t *data, size_t size);
+
+static char *program;
+static posix_spawnattr_t attributes;
+
+/* Outputs by kind: their lines without those of factors and vectors, and without the numbers of sides. */
+static struct kind {
+    char words[64];
+    unsigned long count;
+} kinds[KINDS];
+
+static _Noreturn void fail(const char *what) {
+    perror(what);
+    abort();
+}
+
+static int by_words(const void *one, const void *other) {
+    return strcmp(((const struct kind *)one)->words, ((const struct kind *)other)->words);
+}
+
+static void print_kinds(void) {
+    size_t met = 0;
+    while (met < KINDS && kinds[met].count > 0) {
+        met++;
+    }
+    qsort(kinds, met, sizeof kinds[0], by_words);
+    for (size_t k = 0; k < met; k++) {
+        fprintf(stderr, "%-30s %10lu files\n", kinds[k].words, kinds[k].count);
+    }
+    fprintf(stderr, "%zu kinds of output\n", met);
+}
+
+/* The kind of an output. */
+static void tell_kind(const char *text, char *words, size_t room) {
+    size_t used = 0;
+    for (size_t length; *text != 0; text += length + 1) {
+        length = strcspn(text, "\n");
+        bool side = *text == 's', left_out = *text == 'v' || (text[0] == 'r' && text[1] == 'o');
+        if (left_out) {
+            continue;
+        }
+        used += (size_t)snprintf(words + used, room - used, "%s%.*s", used > 0 ? ", " : "", side ? 4 : (int)length, text);
+        if (side || used >= room) {
+            return;
+        }
+    }
+}
+
+/* strcmp would have libFuzzer take the words for parts of files. */
+static bool same(const char *one, const char *other) {
+    while (*one == *other && *one != 0) {
+        one++;
+        other++;
+    }
+    return *one == *other;
+}
+
+static void count_kind(const char *text) {
+    char words[sizeof kinds[0].words] = "";
+    size_t k = 0;
+    tell_kind(text, words, sizeof words);
+    while (k < KINDS && kinds[k].count > 0 && !same(kinds[k].words, words)) {
+        k++;
+    }
+    if (k == KINDS) {
+        fprintf(stderr, "too many kinds of output: %s\n", words);
+        abort();
+    }
+    strcpy(kinds[k].words, words);
+    kinds[k].count++;
+}
+
+int LLVMFuzzerInitialize(int *count, char ***arguments) {
+    (void)count;
+    (void)arguments;
+    sigset_t pipes;
+    program = getenv("HANKBOULDER_JUDGE");
+    if (program == NULL || access(program, X_OK) != 0) {
+        fprintf(stderr, "HANKBOULDER_JUDGE names no program\n");
+        exit(2);
+    }
+    /* The program may end before it has read all. It is started as from a shell, with a broken pipe not ignored. */
+    signal(SIGPIPE, SIG_IGN);
+    sigemptyset(&pipes);
+    sigaddset(&pipes, SIGPIPE);
+    posix_spawnattr_init(&attributes);
+    posix_spawnattr_setsigdefault(&attributes, &pipes);
+    posix_spawnattr_setflags(&attributes, POSIX_SPAWN_SETSIGDEF);
+    atexit(print_kinds);
+    return 0;
+}
+
+/* One file in sixteen is a generated one, and half of all are put right after a mutation, so that they come to a verdict. */
+size_t LLVMFuzzerCustomMutator(uint8_t *data, size_t size, size_t max_size, unsigned seed) {
+    if (seed % 16 == 0) {
+        return fuzz_generate(seed, data, max_size);
+    }
+    size = LLVMFuzzerMutate(data, size, max_size);
+    return seed % 2 == 0 ? size : fuzz_repair(data, size, max_size);
+}
+
+static pid_t start(int input, int output) {
+    posix_spawn_file_actions_t actions;
+    pid_t child;
+    char *arguments[] = {program, NULL};
+    posix_spawn_file_actions_init(&actions);
+    posix_spawn_file_actions_adddup2(&actions, input, STDIN_FILENO);
+    posix_spawn_file_actions_adddup2(&actions, output, STDOUT_FILENO);
+    posix_spawn_file_actions_adddup2(&actions, output, STDERR_FILENO);
+    if (posix_spawn(&child, program, &actions, &attributes, arguments, environ) != 0) {
+        fail("posix_spawn");
+    }
+    posix_spawn_file_actions_destroy(&actions);
+    return child;
+}
+
+/* Writes all, as far as the program reads it. A file is shorter than a pipe is, so that this does not wait for the program. */
+static void put(int pipe, const uint8_t *data, size_t size) {
+    while (size > 0) {
+        ssize_t done = write(pipe, data, size);
+        if (done < 0 && errno == EPIPE) {
+            return;
+        }
+        if (done < 0 && errno != EINTR) {
+            fail("write");
+        }
+        data += done > 0 ? done : 0;
+        size -= done > 0 ? (size_t)done : 0;
+    }
+}
+
+/* Reads to the end; the count of bytes. */
+static size_t get(int pipe, uint8_t *text, size_t room) {
+    size_t size = 0;
+    for (;;) {
+        ssize_t done = read(pipe, text + size, room - size);
+        if (done < 0 && errno != EINTR) {
+            fail("read");
+        }
+        if (done == 0) {
+            return size;
+        }
+        size += done > 0 ? (size_t)done : 0;
+    }
+}
+
+/* What the program prints for a file; its exit status. */
+static int run(const uint8_t *data, size_t size, uint8_t *text, size_t *length) {
+    int input[2], output[2], status;
+    if (pipe2(input, O_CLOEXEC) != 0 || pipe2(output, O_CLOEXEC) != 0) {
+        fail("pipe2");
+    }
+    pid_t child = start(input[0], output[1]);
+    close(input[0]);
+    close(output[1]);
+    put(input[1], data, size);
+    close(input[1]);
+    *length = get(output[0], text, ROOM);
+    close(output[0]);
+    while (waitpid(child, &status, 0) < 0) {
+        if (errno != EINTR) {
+            fail("waitpid");
+        }
+    }
+    return status;
+}
+
+int LLVMFuzzerTestOneInput(const uint8_t *data, size_t size) {
+    static uint8_t expected[ROOM], printed[ROOM];
+    size_t length, expected_length = fuzz_expected(data, size, expected, ROOM - 1);
+    expected[expected_length] = 0;
+    int status = run(data, size, printed, &length);
+    if (status != 0 || length != expected_length || memcmp(printed, expected, length) != 0) {
+        fprintf(stderr, "DIFFERENCE on %zu bytes: wait status %d\n-- the program:\n%.*s-- the second implementation:\n%s", size, status, (int)length,
+                (char *)printed, (char *)expected);
+        abort();
+    }
+    count_kind((char *)expected);
+    return 0;
+}

@@ -1,0 +1,72 @@
+//! The second implementation's output for a summary file, and new files, for
+//! the fuzz harness in C. `fuzz.h` has the C side of what is here.
+
+#![warn(missing_docs)]
+#![deny(unsafe_op_in_unsafe_fn)]
+
+mod repair;
+
+use std::slice;
+
+use hankboulder_reference::generate::Generator;
+use hankboulder_reference::program::output;
+
+use repair::repaired;
+
+/// Writes what the program has to print for a file; its length.
+///
+/// # Safety
+///
+/// The file's bytes can be read, and so many bytes of text can be written.
+#[no_mangle]
+pub unsafe extern "C" fn fuzz_expected(
+    file: *const u8,
+    size: usize,
+    text: *mut u8,
+    room: usize,
+) -> usize {
+    // SAFETY: the caller's promise. No file has no bytes to read.
+    let (file, text) = unsafe { (read(file, size), slice::from_raw_parts_mut(text, room)) };
+    write(output(file).as_bytes(), text).expect("the text has room")
+}
+
+/// Puts right what refuses a file; its new length, the old where it has no room.
+///
+/// # Safety
+///
+/// So many bytes of the file can be written, and the first of them be read.
+#[no_mangle]
+pub unsafe extern "C" fn fuzz_repair(file: *mut u8, size: usize, room: usize) -> usize {
+    // SAFETY: the caller's promise.
+    let file = unsafe { slice::from_raw_parts_mut(file, room) };
+    let whole = repaired(&file[..size]);
+    write(&whole, file).unwrap_or(size)
+}
+
+/// Writes a generated file; its length, 0 where it has no room.
+///
+/// # Safety
+///
+/// So many bytes of the file can be written.
+#[no_mangle]
+pub unsafe extern "C" fn fuzz_generate(seed: u32, file: *mut u8, room: usize) -> usize {
+    // SAFETY: the caller's promise.
+    let file = unsafe { slice::from_raw_parts_mut(file, room) };
+    let generated = Generator::new(u64::from(seed)).summary_file();
+    write(&generated, file).unwrap_or(0)
+}
+
+/// The bytes of a pointer that may be null where there are none.
+unsafe fn read<'a>(bytes: *const u8, size: usize) -> &'a [u8] {
+    if size == 0 {
+        return &[];
+    }
+    // SAFETY: the caller's promise.
+    unsafe { slice::from_raw_parts(bytes, size) }
+}
+
+/// Writes bytes to the front of a buffer that has room for them; their count.
+fn write(bytes: &[u8], buffer: &mut [u8]) -> Option<usize> {
+    buffer.get_mut(..bytes.len())?.copy_from_slice(bytes);
+    Some(bytes.len())
+}

@@ -1,0 +1,74 @@
+//! Summary files made whole.
+
+use hankboulder_reference::problem::{
+    table_size, CENTRE_RANGE, ENTRY_RANGE, LIMIT_RANGE, LINEAR_RANGE, MAX_ORDER,
+};
+use hankboulder_reference::summary::{
+    decode, problem_fields, write_summary, NUMBER_WIDTH, TABLE_WIDTH, TAG_CENTRE, TAG_HIGH,
+    TAG_LIMIT, TAG_LINEAR, TAG_LOW, TAG_ORDER,
+};
+
+/// A whole file, with nothing that is refused, from the bytes of any other. The
+/// fields that can be told keep their content, as far as it is good, and their
+/// order.
+pub fn repaired(file: &[u8]) -> Vec<u8> {
+    let found = told(file);
+    let place = |tag: u8| found.iter().position(|(other, _)| *other == tag);
+    let content = |tag: u8| place(tag).map_or(&[][..], |place| found[place].1);
+    let byte = content(TAG_ORDER).first().copied().unwrap_or(1);
+    let order = 1 + (byte.wrapping_sub(1) % MAX_ORDER as u8) as usize;
+
+    let table = |tag| numbers(content(tag), TABLE_WIDTH, table_size(order), ENTRY_RANGE);
+    let list = |tag, count, range| numbers(content(tag), NUMBER_WIDTH, count, range);
+    let (low, high) = ordered(&table(TAG_LOW), &table(TAG_HIGH), order);
+    let mut fields = problem_fields(
+        order as u8,
+        &low,
+        &high,
+        &list(TAG_LINEAR, order, LINEAR_RANGE),
+        list(TAG_LIMIT, 1, LIMIT_RANGE)[0],
+        &list(TAG_CENTRE, order, CENTRE_RANGE),
+    );
+    fields.sort_by_key(|(tag, _)| place(*tag).unwrap_or(found.len()));
+    write_summary(&fields)
+}
+
+/// The fields of a file, each tag once and the last one cut where the file ends.
+fn told(file: &[u8]) -> Vec<(u8, &[u8])> {
+    let mut found: Vec<(u8, &[u8])> = vec![];
+    let mut rest = file;
+    while let [tag, low, high, after @ ..] = rest {
+        let length = usize::from(u16::from_le_bytes([*low, *high]));
+        let (content, after) = after.split_at(length.min(after.len()));
+        if found.iter().all(|(other, _)| other != tag) {
+            found.push((*tag, content));
+        }
+        rest = after;
+    }
+    found
+}
+
+/// So many numbers within a range, from the bytes of a field.
+fn numbers(content: &[u8], width: usize, count: usize, range: i128) -> Vec<i64> {
+    let mut bytes = content.to_vec();
+    bytes.resize(width * count, 0);
+    let range = range as i64;
+    let within = |number: &i64| match number.unsigned_abs() <= range as u64 {
+        true => *number,
+        false => number % (range + 1),
+    };
+    decode(&bytes, width).iter().map(within).collect()
+}
+
+/// Both tables symmetric, as above their diagonals, and no entry of low above
+/// that of high.
+fn ordered(low: &[i64], high: &[i64], order: usize) -> (Vec<i64>, Vec<i64>) {
+    let upper = |place: usize| {
+        let (i, j) = (place / order, place % order);
+        i.min(j) * order + i.max(j)
+    };
+    let places = || (0..table_size(order)).map(upper);
+    let least = places().map(|place| low[place].min(high[place]));
+    let greatest = places().map(|place| low[place].max(high[place]));
+    (least.collect(), greatest.collect())
+}

@@ -1,0 +1,91 @@
+//! Seeded calls of the four acts with the second implementation's answers, for
+//! the driver in C. `load.h` has the C side of what is here.
+
+#![warn(missing_docs)]
+#![deny(unsafe_op_in_unsafe_fn)]
+
+mod call;
+mod source;
+mod variation;
+
+use std::ptr;
+
+use source::Source;
+
+/// The most buffers that an act has.
+const MOST: usize = 5;
+
+/// A buffer of a call.
+#[derive(Clone, Copy)]
+#[repr(C)]
+pub struct LoadBuffer {
+    before: *const u8,
+    after: *const u8,
+    length: usize,
+}
+
+/// A call and what is expected of it.
+#[repr(C)]
+pub struct LoadCall {
+    act: i64,
+    n: i64,
+    limit: i64,
+    answer: i64,
+    inputs: usize,
+    count: usize,
+    buffers: [LoadBuffer; MOST],
+}
+
+/// The calls of a seed. `load_close` ends them.
+#[no_mangle]
+pub extern "C" fn load_open(seed: u64) -> *mut Source {
+    Box::into_raw(Box::new(Source::new(seed)))
+}
+
+/// Hands out a call by its number. Its buffers are there until the next.
+///
+/// # Safety
+///
+/// The source is from `load_open` and not closed, no other thread uses it, and
+/// the call can be written.
+#[no_mangle]
+pub unsafe extern "C" fn load_call(source: *mut Source, number: u64, call: *mut LoadCall) {
+    // SAFETY: the source is open, and this thread's alone.
+    let source = unsafe { &mut *source };
+    let answer = source.call(number);
+    let (before, after) = (&source.before, &source.after);
+    let mut buffers = [LoadBuffer {
+        before: ptr::null(),
+        after: ptr::null(),
+        length: 0,
+    }; MOST];
+    for (k, (before, after)) in before.buffers.iter().zip(&after.buffers).enumerate() {
+        buffers[k] = LoadBuffer {
+            before: before.as_ptr(),
+            after: after.as_ptr(),
+            length: before.len(),
+        };
+    }
+    let handed = LoadCall {
+        act: before.act as i64,
+        n: before.n,
+        limit: before.limit,
+        answer,
+        inputs: before.act.inputs(),
+        count: before.buffers.len(),
+        buffers,
+    };
+    // SAFETY: the call can be written.
+    unsafe { call.write(handed) };
+}
+
+/// Ends the calls of a seed.
+///
+/// # Safety
+///
+/// The source is from `load_open` and not closed.
+#[no_mangle]
+pub unsafe extern "C" fn load_close(source: *mut Source) {
+    // SAFETY: the source is open.
+    drop(unsafe { Box::from_raw(source) });
+}
