@@ -1,62 +1,49 @@
-/* Times the library's entries beside plain C at each order. An entry that the linked archives lack is timed in plain C alone. */
+/*
+ * Times the library beside plain C, tuned C and the peers: each act at each order, the same problems, one after the other. Before that it compares all
+ * answers and buffers of the first three, and ends with status 1 at the first difference.
+ *
+ *     bench compare           only compares
+ *     bench count             makes each call once, for callgrind, which writes down the instructions of each act, order and side
+ *     bench time [COUNTS]     compares, times and prints the tables. Each line of the file COUNTS is an act, an order, a side and its instructions
+ */
 #define _POSIX_C_SOURCE 199309L
-#include "../include/hankboulder.h"
+#include "peers.h"
 #include "plain.h"
+#include "problems.h"
+#include "tuned.h"
 
 #include <stdio.h>
+#include <stdlib.h>
+#include <string.h>
 #include <time.h>
 
-#define PROBLEMS 64
-#define CALLS 4096
-#define BOX_CALLS 64
-#define LONG_CALLS 8
-#define ROUNDS 200
-#define SEED 20240229u
-#define MAX_ENTRIES (HB_MAX_ORDER * HB_MAX_ORDER)
+#if __has_include(<valgrind/callgrind.h>)
+#include <valgrind/callgrind.h>
+#else
+#define CALLGRIND_ZERO_STATS (void)0
+#define CALLGRIND_DUMP_STATS_AT(label) (void)(label)
+#endif
+
+#define COMPARED 2000
+#define ROUNDS 400
+#define SLICE_NS 40e3
+#define MOST_NS 1e9
 
 /* Checks 3 to 5 and factoring, of an archive made for this bench: 0 where it ends, -1 where it stops, or a refusal. Lengths are in numbers. */
 int64_t hb_bench_factor(size_t n, const int64_t *low, size_t low_len, const int64_t *high, size_t high_len);
 
-/* Where no archive has an entry, its address is null. */
+/* Where no archive has it, its address is null. */
 #pragma weak hb_bench_factor
-#pragma weak hb_test_factor
-#pragma weak hb_test_vector
-#pragma weak hb_judge
-#pragma weak hb_box
 
-/* The processor stores the low byte first, so that tables of int64_t are the library's bytes. */
-struct problem {
-    int64_t low[MAX_ENTRIES];
-    int64_t high[MAX_ENTRIES];
+/* What the calls write */
+static struct {
     int64_t factor[MAX_ENTRIES];
     int64_t vector[HB_MAX_ORDER];
-    int64_t linear[HB_MAX_ORDER];
-    int64_t limit;
-    int64_t centre[HB_MAX_ORDER];
-};
+    int64_t sides[2 * HB_MAX_ORDER];
+} out;
 
-/* Problems of each order of which factoring ends */
-static struct problem definite[HB_MAX_ORDER + 1][PROBLEMS];
-
-/* Problems of the greatest order of which factoring stops, though they are definite: no vector shows anything, and all are looked at. */
-static struct problem undecided[HB_MAX_ORDER + 1][PROBLEMS];
-
-/* One side of an act: makes one call and returns its answer. */
+/* Makes one call and returns its answer. */
 typedef int64_t side(int64_t n, const struct problem *problem);
-
-/*
- * An act: the library's side, null where it is absent, and plain C's; the problems, from which order up, and how many calls are timed as one; then for each
- * order the least nanoseconds of a call, and what the calls gave.
- */
-struct act {
-    const char *name;
-    side *sides[2];
-    const struct problem (*problems)[PROBLEMS];
-    int64_t first_order;
-    int calls;
-    double least[HB_MAX_ORDER + 1][2];
-    int64_t checksum[HB_MAX_ORDER + 1][2];
-};
 
 static const uint8_t *bytes(const int64_t *numbers)
 {
@@ -81,6 +68,12 @@ static int64_t plain_floating_side(int64_t n, const struct problem *problem)
     return plain_floating_factor(n, problem->low, problem->high, factor);
 }
 
+static int64_t tuned_factor_side(int64_t n, const struct problem *problem)
+{
+    int64_t factor[MAX_ENTRIES];
+    return tuned_factor(n, problem->low, problem->high, factor);
+}
+
 static int64_t library_test_factor(int64_t n, const struct problem *problem)
 {
     size_t size = HB_TABLE_BYTES(n);
@@ -91,6 +84,12 @@ static int64_t plain_test_factor_side(int64_t n, const struct problem *problem)
 {
     size_t count = (size_t)(n * n);
     return plain_test_factor(n, problem->low, count, problem->high, count, problem->factor, count);
+}
+
+static int64_t tuned_test_factor_side(int64_t n, const struct problem *problem)
+{
+    size_t size = HB_TABLE_BYTES(n);
+    return tuned_test_factor(n, bytes(problem->low), size, bytes(problem->high), size, bytes(problem->factor), size);
 }
 
 static int64_t library_test_vector(int64_t n, const struct problem *problem)
@@ -105,231 +104,426 @@ static int64_t plain_test_vector_side(int64_t n, const struct problem *problem)
     return plain_test_vector(n, problem->low, count, problem->high, count, problem->vector, (size_t)n);
 }
 
-/* The judge's answer, and a number of each output, so that both sides must have written or kept the same */
-static int64_t library_judge(int64_t n, const struct problem *problem)
+static int64_t tuned_test_vector_side(int64_t n, const struct problem *problem)
 {
-    int64_t factor[MAX_ENTRIES], vector[HB_MAX_ORDER];
     size_t size = HB_TABLE_BYTES(n);
-    factor[n * n - 1] = vector[n - 1] = n;
-    int64_t answer =
-        hb_judge(n, bytes(problem->low), size, bytes(problem->high), size, (uint8_t *)factor, size, (uint8_t *)vector, HB_VECTOR_BYTES(n));
-    return answer + factor[n * n - 1] + vector[n - 1];
+    return tuned_test_vector(n, bytes(problem->low), size, bytes(problem->high), size, bytes(problem->vector), HB_VECTOR_BYTES(n));
 }
 
-/* One of plain C's judges */
-typedef int64_t judge(int64_t n, const int64_t *low, size_t low_count, const int64_t *high, size_t high_count, int64_t *factor, size_t factor_count,
-                      int64_t *vector, size_t vector_count);
-
-static int64_t judge_by(judge *judge, int64_t n, const struct problem *problem)
+static int64_t library_judge(int64_t n, const struct problem *problem)
 {
-    int64_t factor[MAX_ENTRIES], vector[HB_MAX_ORDER];
-    size_t count = (size_t)(n * n);
-    factor[n * n - 1] = vector[n - 1] = n;
-    int64_t answer = judge(n, problem->low, count, problem->high, count, factor, count, vector, (size_t)n);
-    return answer + factor[n * n - 1] + vector[n - 1];
+    size_t size = HB_TABLE_BYTES(n);
+    return hb_judge(n, bytes(problem->low), size, bytes(problem->high), size, (uint8_t *)out.factor, size, (uint8_t *)out.vector, HB_VECTOR_BYTES(n));
 }
 
 static int64_t plain_judge_side(int64_t n, const struct problem *problem)
 {
-    return judge_by(plain_judge, n, problem);
+    size_t count = (size_t)(n * n);
+    return plain_judge(n, problem->low, count, problem->high, count, out.factor, count, out.vector, (size_t)n);
 }
 
 static int64_t plain_pairs_judge_side(int64_t n, const struct problem *problem)
 {
-    return judge_by(plain_pairs_judge, n, problem);
+    size_t count = (size_t)(n * n);
+    return plain_pairs_judge(n, problem->low, count, problem->high, count, out.factor, count, out.vector, (size_t)n);
 }
 
-/* The box's answer, and all that is written, so that both sides must have written the same */
-static int64_t sum_of_box(int64_t n, int64_t answer, const int64_t *sides)
+static int64_t tuned_judge_side(int64_t n, const struct problem *problem)
 {
-    for (int64_t place = 0; place < 2 * n; place++)
-        answer += (place + 1) * sides[place];
-    return answer;
+    size_t size = HB_TABLE_BYTES(n);
+    return tuned_judge(n, bytes(problem->low), size, bytes(problem->high), size, (uint8_t *)out.factor, size, (uint8_t *)out.vector,
+                       HB_VECTOR_BYTES(n));
 }
 
 static int64_t library_box(int64_t n, const struct problem *problem)
 {
-    int64_t sides[2 * HB_MAX_ORDER] = {0};
     size_t table = HB_TABLE_BYTES(n), vector = HB_VECTOR_BYTES(n);
-    int64_t answer = hb_box(n, bytes(problem->low), table, bytes(problem->high), table, bytes(problem->linear), vector, problem->limit,
-                            bytes(problem->centre), vector, (uint8_t *)sides, HB_SIDES_BYTES(n));
-    return sum_of_box(n, answer, sides);
+    return hb_box(n, bytes(problem->low), table, bytes(problem->high), table, bytes(problem->linear), vector, problem->limit, bytes(problem->centre),
+                  vector, (uint8_t *)out.sides, HB_SIDES_BYTES(n));
 }
 
 static int64_t plain_box_side(int64_t n, const struct problem *problem)
 {
-    int64_t sides[2 * HB_MAX_ORDER] = {0};
     size_t order = (size_t)n, count = order * order;
-    int64_t answer = plain_box(n, problem->low, count, problem->high, count, problem->linear, order, problem->limit, problem->centre, order, sides,
-                               2 * order);
-    return sum_of_box(n, answer, sides);
+    return plain_box(n, problem->low, count, problem->high, count, problem->linear, order, problem->limit, problem->centre, order, out.sides,
+                     2 * order);
 }
 
-/* A number from low to high (splitmix64) */
-static int64_t draw(int64_t low, int64_t high)
+static int64_t tuned_box_side(int64_t n, const struct problem *problem)
 {
-    static uint64_t state = SEED;
-    uint64_t z = state += 0x9E3779B97F4A7C15u;
-    z = (z ^ (z >> 30)) * 0xBF58476D1CE4E5B9u;
-    z = (z ^ (z >> 27)) * 0x94D049BB133111EBu;
-    z ^= z >> 31;
-    return low + (int64_t)(z % (uint64_t)(high - low + 1));
+    size_t table = HB_TABLE_BYTES(n), vector = HB_VECTOR_BYTES(n);
+    return tuned_box(n, bytes(problem->low), table, bytes(problem->high), table, bytes(problem->linear), vector, problem->limit,
+                     bytes(problem->centre), vector, (uint8_t *)out.sides, HB_SIDES_BYTES(n));
 }
 
-/* B'B for a random B, with something added on the diagonal, and bounds up to 2 apart */
-static void draw_bounds(int64_t n, struct problem *problem)
+/* The peers are the last two. */
+enum { LIBRARY, PLAIN, TUNED, LAPACK_SIDE, ARB_SIDE, SIDES };
+
+#define COMPARED_SIDES 3
+#define LEAST_ANSWER HB_UNDECIDED
+#define ANSWERS (HB_REFUSED_FAR - LEAST_ANSWER + 1)
+
+static const char *const side_names[SIDES] = {"library", "plain C", "tuned C", "dpotrf", "arb_mat_cho"};
+
+/*
+ * What was measured of one side at one order: how many parts the problems are timed in and how often each part is gone through at a time, the least
+ * nanoseconds of each part, the time spent, and the instructions of a call.
+ */
+struct cell {
+    int parts;
+    int repeats;
+    double least[PROBLEMS];
+    double spent;
+    double instructions;
+};
+
+/* An act on the problems of a kind, from an order up: a side that is null is not there. How often each answer was compared, and the cells. */
+struct act {
+    const char *name;
+    enum kind kind;
+    int first_order;
+    side *sides[SIDES];
+    int answers[ANSWERS];
+    struct cell cells[HB_MAX_ORDER + 1][SIDES];
+};
+
+/* One act more is a line here and its sides above. */
+enum { FACTORING, FACTOR_TEST, VECTOR_TEST, JUDGE_DEFINITE, JUDGE_NOT, JUDGE_UNDECIDED, BOX, FACTORING_FLOATING, JUDGE_PAIRS, CHOLESKY, ACTS };
+
+static struct act acts[ACTS] = {
+    [FACTORING] = {"factoring", DEFINITE, 1, {library_factor, plain_factor_side, tuned_factor_side}},
+    [FACTOR_TEST] = {"factor test", DEFINITE, 1, {library_test_factor, plain_test_factor_side, tuned_test_factor_side}},
+    [VECTOR_TEST] = {"vector test", DEFINITE, 1, {library_test_vector, plain_test_vector_side, tuned_test_vector_side}},
+    [JUDGE_DEFINITE] = {"judge, definite", DEFINITE, 1, {library_judge, plain_judge_side, tuned_judge_side}},
+    [JUDGE_NOT] = {"judge, not definite", NOT_DEFINITE, 1, {library_judge, plain_judge_side, tuned_judge_side}},
+    [JUDGE_UNDECIDED] = {"judge, undecided (none is of order 1)", UNDECIDED, 2, {library_judge, plain_judge_side, tuned_judge_side}},
+    [BOX] = {"box", DEFINITE, 1, {library_box, plain_box_side, tuned_box_side}},
+    [FACTORING_FLOATING] = {"factoring, where plain C has the processor's floating-point root", DEFINITE, 1, {library_factor, plain_floating_side}},
+    [JUDGE_PAIRS] = {"judge, undecided, where plain C takes each pair of entries once", UNDECIDED, 2, {library_judge, plain_pairs_judge_side}},
+    [CHOLESKY] = {"peers: the judge on thin definite bounds, and the peers' factoring of the same matrices",
+                  THIN,
+                  1,
+                  {library_judge, plain_judge_side, tuned_judge_side, lapack_cholesky, arb_cholesky}},
+};
+
+/* Takes out the sides that are not linked. */
+static void take_out(void)
 {
-    int64_t b[MAX_ENTRIES];
-    for (int64_t place = 0; place < n * n; place++)
-        b[place] = draw(-300, 300);
-    for (int64_t i = 0; i < n; i++) {
-        for (int64_t j = i; j < n; j++) {
-            int64_t sum = i == j ? draw(100, 10000) : 0;
-            for (int64_t k = 0; k < n; k++)
-                sum += b[k * n + i] * b[k * n + j];
-            problem->low[i * n + j] = problem->low[j * n + i] = sum;
-            problem->high[i * n + j] = problem->high[j * n + i] = sum + draw(0, 2);
+    if (!hb_bench_factor)
+        acts[FACTORING].sides[LIBRARY] = acts[FACTORING_FLOATING].sides[LIBRARY] = NULL;
+    if (!has_lapack)
+        acts[CHOLESKY].sides[LAPACK_SIDE] = NULL;
+    if (!has_arb)
+        acts[CHOLESKY].sides[ARB_SIDE] = NULL;
+}
+
+/* Ends the program where two sides differ on a problem, in the answer or in what they wrote. */
+static void compare(struct act *act, int64_t n, const struct problem *problem)
+{
+    int64_t answers[COMPARED_SIDES];
+    char written[COMPARED_SIDES][sizeof out];
+    int base = -1;
+    for (int k = 0; k < COMPARED_SIDES; k++) {
+        if (!act->sides[k])
+            continue;
+        memset(&out, 0x5A, sizeof out);
+        answers[k] = act->sides[k](n, problem);
+        memcpy(written[k], &out, sizeof out);
+        if (base < 0)
+            base = k;
+        if (answers[k] != answers[base] || memcmp(written[k], written[base], sizeof out) != 0) {
+            printf("%s, order %d: the %s and the %s differ; they answer %lld and %lld\n", act->name, (int)n, side_names[base], side_names[k],
+                   (long long)answers[base], (long long)answers[k]);
+            exit(1);
+        }
+    }
+    act->answers[answers[base] - LEAST_ANSWER]++;
+}
+
+/* The acts with sides of their own */
+static const struct {
+    int act;
+    const char *name;
+} compared[] = {
+    {FACTORING, "factoring"},
+    {FACTOR_TEST, "factor test"},
+    {VECTOR_TEST, "vector test"},
+    {JUDGE_DEFINITE, "judge"},
+    {BOX, "box"},
+    {FACTORING_FLOATING, "factoring, floating root"},
+    {JUDGE_PAIRS, "judge, pairs once"},
+};
+
+/* Compares the sides of each act on the problems of all kinds and on many others, and on orders that are refused. */
+static void compare_all(void)
+{
+    static struct problem any;
+    const int count = KINDS * PROBLEMS + COMPARED, acts_compared = sizeof compared / sizeof compared[0];
+    for (int64_t n = 1; n <= HB_MAX_ORDER; n++) {
+        for (int place = 0; place < count; place++) {
+            const struct problem *problem = &any;
+            if (place < KINDS * PROBLEMS)
+                problem = problem_of((enum kind)(place / PROBLEMS), n, place % PROBLEMS);
+            else
+                draw_any(n, &any);
+            for (int a = 0; a < acts_compared; a++)
+                compare(&acts[compared[a].act], n, problem);
+        }
+    }
+    for (int64_t n = -1; n <= HB_MAX_ORDER + 1; n++)
+        for (int a = FACTOR_TEST; a <= BOX; a++)
+            compare(&acts[a], n, problem_of(DEFINITE, 1, 0));
+    printf("the library, plain C and tuned C gave the same answers and buffers, on %d problems of each order:\n", count);
+    for (int a = 0; a < acts_compared; a++) {
+        printf("%-24s", compared[a].name);
+        for (int answer = 0; answer < ANSWERS; answer++)
+            if (acts[compared[a].act].answers[answer])
+                printf("  %d: %d times", answer + LEAST_ANSWER, acts[compared[a].act].answers[answer]);
+        printf("\n");
+    }
+}
+
+/* Goes through some of the problems, each as often. */
+static void call(const struct act *act, int64_t n, int k, int first, int last, int repeats)
+{
+    for (int repeat = 0; repeat < repeats; repeat++)
+        for (int place = first; place < last; place++)
+            act->sides[k](n, problem_of(act->kind, n, place));
+}
+
+/* Each call once, and a dump of the instructions that callgrind has counted, which are those in the sides' functions alone */
+static void count_all(void)
+{
+    for (int a = 0; a < ACTS; a++) {
+        for (int64_t n = acts[a].first_order; n <= HB_MAX_ORDER; n++) {
+            for (int k = 0; k < SIDES; k++) {
+                char label[32];
+                if (!acts[a].sides[k])
+                    continue;
+                snprintf(label, sizeof label, "%d %d %d", a, (int)n, k);
+                CALLGRIND_ZERO_STATS;
+                call(&acts[a], n, k, 0, PROBLEMS, 1);
+                CALLGRIND_DUMP_STATS_AT(label);
+            }
         }
     }
 }
 
-/* A centre, linear terms that put the ellipsoid's middle near it, and a limit with which the ellipsoid is not empty: a box is given. */
-static void draw_terms(int64_t n, struct problem *problem)
-{
-    for (int64_t i = 0; i < n; i++)
-        problem->centre[i] = draw(-100, 100);
-    problem->limit = draw(0, 1000000);
-    for (int64_t i = 0; i < n; i++) {
-        int64_t product = 0;
-        for (int64_t j = 0; j < n; j++)
-            product += problem->low[i * n + j] * problem->centre[j];
-        problem->linear[i] = draw(-1000, 1000) - product;
-        /* 2a'c + c'Mc, the value at the centre */
-        problem->limit += (2 * problem->linear[i] + product) * problem->centre[i];
-    }
-}
-
-/*
- * A problem of which factoring ends, with its factor, a vector and an ellipsoid. One in eight has its factor changed so that the last row, and only that,
- * fails its test.
- */
-static void draw_definite(int64_t n, int place)
-{
-    struct problem *problem = &definite[n][place];
-    do
-        draw_bounds(n, problem);
-    while (plain_factor(n, problem->low, problem->high, problem->factor) != 0);
-    if (place % 8 == 7)
-        problem->factor[n * n - 1] = HB_FACTOR_RANGE;
-    for (int64_t i = 0; i < n; i++)
-        problem->vector[i] = draw(-HB_VECTOR_RANGE, HB_VECTOR_RANGE);
-    draw_terms(n, problem);
-}
-
-/* Sets an entry and its mirror image to bounds width apart */
-static void set_pair(int64_t n, struct problem *problem, int64_t i, int64_t j, int64_t entry, int64_t width)
-{
-    problem->low[i * n + j] = problem->low[j * n + i] = entry;
-    problem->high[i * n + j] = problem->high[j * n + i] = entry + width;
-}
-
-/* Definite bounds with great diagonal entries, but [1 3; 3 10] in the last two rows and columns: factoring stops in the last column. */
-static void draw_undecided(int64_t n, int place)
-{
-    struct problem *problem = &undecided[n][place];
-    for (int64_t i = 0; i < n - 2; i++) {
-        set_pair(n, problem, i, i, draw(500000, 1000000), draw(0, 2));
-        for (int64_t j = 0; j < i; j++)
-            set_pair(n, problem, i, j, draw(-1000, 1000), draw(0, 2));
-        set_pair(n, problem, i, n - 2, draw(-1, 1), 0);
-        set_pair(n, problem, i, n - 1, draw(-1, 1), 0);
-    }
-    set_pair(n, problem, n - 2, n - 2, 1, 0);
-    set_pair(n, problem, n - 2, n - 1, 3, 0);
-    set_pair(n, problem, n - 1, n - 1, 10, 0);
-}
-
-/* The time of this process alone: others on the same processor count little. */
 static double nanoseconds(void)
 {
     struct timespec now;
-    clock_gettime(CLOCK_PROCESS_CPUTIME_ID, &now);
+    clock_gettime(CLOCK_MONOTONIC, &now);
     return 1e9 * (double)now.tv_sec + (double)now.tv_nsec;
 }
 
-/* Times many calls of a side. Adds up each answer, so that no call can be left out. */
-static void measure(struct act *act, int k, int64_t n)
+/* Chooses parts and repeats so that what is timed at once is about a slice: long beside the clock, and short beside what disturbs. */
+static void plan(struct act *act, int64_t n, int k)
 {
-    int64_t sum = 0;
+    struct cell *cell = &act->cells[n][k];
+    call(act, n, k, 0, PROBLEMS, 1);
     double start = nanoseconds();
-    for (int call = 0; call < act->calls; call++)
-        sum += act->sides[k](n, &act->problems[n][call % PROBLEMS]);
-    double time = (nanoseconds() - start) / act->calls;
-    act->checksum[n][k] += sum;
-    if (act->least[n][k] == 0 || time < act->least[n][k])
-        act->least[n][k] = time;
+    call(act, n, k, 0, PROBLEMS, 1);
+    double time = nanoseconds() - start;
+    cell->parts = 1;
+    while (cell->parts < PROBLEMS && time / cell->parts > SLICE_NS)
+        cell->parts *= 2;
+    cell->repeats = time < SLICE_NS ? (int)(SLICE_NS / time) + 1 : 1;
 }
 
-/* One line of the table. False where the library and plain C gave different results. */
-static int print_line(const struct act *act, int64_t n)
+/* Times each part once more. A side that has had its time is left out, after three rounds at least. */
+static void measure(struct act *act, int64_t n, int k, int round)
 {
-    double library = act->least[n][0], plain = act->least[n][1];
-    printf("%-16s %5d %12.1f", act->name, (int)n, plain);
-    if (act->sides[0])
-        printf(" %12.1f %8.3f", library, library / plain);
-    else
-        printf(" %12s %8s", "-", "-");
-    printf("  %lld\n", (long long)act->checksum[n][1]);
-    return !act->sides[0] || act->checksum[n][0] == act->checksum[n][1];
-}
-
-/* Every act at every order of it, both sides one after the other. */
-static void run_round(struct act *acts, size_t count)
-{
-    for (int64_t n = 1; n <= HB_MAX_ORDER; n++)
-        for (size_t a = 0; a < count; a++)
-            for (int k = 0; k < 2; k++)
-                if (acts[a].sides[k] && n >= acts[a].first_order)
-                    measure(&acts[a], k, n);
-}
-
-/* The problems of an act, and the calls timed as one */
-#define ALL_ORDERS .problems = definite, .first_order = 1, .calls = CALLS
-#define BOXES .problems = definite, .first_order = 1, .calls = BOX_CALLS
-#define GREATEST_ORDER .problems = undecided, .first_order = HB_MAX_ORDER, .calls = LONG_CALLS
-
-int main(void)
-{
-    /* One act more is a line here and its two sides above. */
-    side *factoring = hb_bench_factor ? library_factor : NULL;
-    side *factor_test = hb_test_factor ? library_test_factor : NULL;
-    side *vector_test = hb_test_vector ? library_test_vector : NULL;
-    side *judging = hb_judge ? library_judge : NULL;
-    side *boxing = hb_box ? library_box : NULL;
-    struct act acts[] = {
-        {.name = "factoring", .sides = {factoring, plain_factor_side}, ALL_ORDERS},
-        {.name = "beside sqrt", .sides = {factoring, plain_floating_side}, ALL_ORDERS},
-        {.name = "factor test", .sides = {factor_test, plain_test_factor_side}, ALL_ORDERS},
-        {.name = "vector test", .sides = {vector_test, plain_test_vector_side}, ALL_ORDERS},
-        {.name = "judge, definite", .sides = {judging, plain_judge_side}, ALL_ORDERS},
-        {.name = "judge, undecided", .sides = {judging, plain_judge_side}, GREATEST_ORDER},
-        {.name = "beside pairs", .sides = {judging, plain_pairs_judge_side}, GREATEST_ORDER},
-        {.name = "box", .sides = {boxing, plain_box_side}, BOXES},
-    };
-    const size_t count = sizeof acts / sizeof acts[0];
-    int same = 1;
-    for (int place = 0; place < PROBLEMS; place++) {
-        for (int64_t n = 1; n <= HB_MAX_ORDER; n++)
-            draw_definite(n, place);
-        draw_undecided(HB_MAX_ORDER, place);
+    struct cell *cell = &act->cells[n][k];
+    if (round == 0)
+        plan(act, n, k);
+    if (round >= 3 && cell->spent > MOST_NS)
+        return;
+    int size = PROBLEMS / cell->parts;
+    for (int part = 0; part < cell->parts; part++) {
+        call(act, n, k, part * size, (part + 1) * size, 1);
+        double start = nanoseconds();
+        call(act, n, k, part * size, (part + 1) * size, cell->repeats);
+        double time = nanoseconds() - start;
+        cell->spent += time;
+        time /= size * cell->repeats;
+        if (cell->least[part] == 0 || time < cell->least[part])
+            cell->least[part] = time;
     }
+}
+
+/* All sides of all acts at all orders, round by round, so that each is measured at many moments. */
+static void measure_all(void)
+{
     for (int round = 0; round < ROUNDS; round++)
-        run_round(acts, count);
-    printf("%-16s %5s %12s %12s %8s  %s\n", "act", "order", "plain C ns", "library ns", "ratio", "checksum");
-    for (size_t a = 0; a < count; a++)
-        for (int64_t n = acts[a].first_order; n <= HB_MAX_ORDER; n++)
-            same &= print_line(&acts[a], n);
-    if (!same)
-        printf("the library and plain C gave different results\n");
-    return !same;
+        for (int a = 0; a < ACTS; a++)
+            for (int64_t n = acts[a].first_order; n <= HB_MAX_ORDER; n++)
+                for (int k = 0; k < SIDES; k++)
+                    if (acts[a].sides[k])
+                        measure(&acts[a], n, k, round);
+}
+
+static int read_counts(const char *path)
+{
+    int a, n, k;
+    double total;
+    FILE *file = fopen(path, "r");
+    if (!file)
+        return 0;
+    while (fscanf(file, "%d %d %d %lf", &a, &n, &k, &total) == 4)
+        if (a >= 0 && a < ACTS && n >= 1 && n <= HB_MAX_ORDER && k >= 0 && k < SIDES)
+            acts[a].cells[n][k].instructions = total / PROBLEMS;
+    fclose(file);
+    return 1;
+}
+
+/* The nanoseconds of a call: each part's least, on average. 0 where there is none. */
+static double time_of(const struct act *act, int64_t n, int k)
+{
+    const struct cell *cell = &act->cells[n][k];
+    double sum = 0;
+    for (int part = 0; part < cell->parts; part++)
+        sum += cell->least[part];
+    return cell->parts ? sum / cell->parts : 0;
+}
+
+static double instructions_of(const struct act *act, int64_t n, int k)
+{
+    return act->cells[n][k].instructions;
+}
+
+/* One of the two above */
+typedef double cost(const struct act *act, int64_t n, int k);
+
+/* A number, or a line where there is none, in the given width */
+static void print_number(double number, int width, int digits)
+{
+    if (number > 0)
+        printf(" %*.*f", width, digits, number);
+    else
+        printf(" %*s", width, "-");
+}
+
+static void print_ratio(double number, double to, int width)
+{
+    print_number(number > 0 && to > 0 ? number / to : 0, width, number < to / 10 ? 4 : 2);
+}
+
+/* The costs of the sides to last - 1, the library's ratio to those from second on, and its growth from the order before */
+static void print_costs(const struct act *act, int64_t n, cost *cost, int digits, int second, int last)
+{
+    for (int k = 0; k < last; k++)
+        print_number(cost(act, n, k), 11, digits);
+    for (int k = second; k < last; k++)
+        print_ratio(cost(act, n, LIBRARY), cost(act, n, k), 7);
+    print_ratio(cost(act, n, LIBRARY), n > act->first_order ? cost(act, n - 1, LIBRARY) : 0, 7);
+}
+
+/* How often the cost of the first order that of the last one is, side by side */
+static void print_growth(const struct act *act, cost *cost, int second, int last)
+{
+    for (int k = 0; k < last; k++)
+        print_ratio(cost(act, HB_MAX_ORDER, k), cost(act, act->first_order, k), 11);
+    printf("%*s", 8 * (last - second + 1), "");
+}
+
+static void print_heads(int second, int last)
+{
+    static const char *const ratios[SIDES] = {"", "/plain", "/tuned", "/dpotrf", "/arb"};
+    for (int k = 0; k < last; k++)
+        printf(" %11s", side_names[k]);
+    for (int k = second; k < last; k++)
+        printf(" %7s", ratios[k]);
+    printf(" %7s", "growth");
+}
+
+static void print_act(const struct act *act, int second, int last)
+{
+    printf("\n%s\n%-7s%-*sinstructions a call\n", act->name, "", 12 * last + 8 * (last - second + 1) + 3, " nanoseconds a call");
+    printf("%5s  ", "order");
+    print_heads(second, last);
+    printf("  ");
+    print_heads(second, last);
+    printf("\n");
+    for (int64_t n = act->first_order; n <= HB_MAX_ORDER; n++) {
+        printf("%5d  ", (int)n);
+        print_costs(act, n, time_of, 1, second, last);
+        printf("  ");
+        print_costs(act, n, instructions_of, 0, second, last);
+        printf("\n");
+    }
+    printf("%3d/%d  ", HB_MAX_ORDER, act->first_order);
+    print_growth(act, time_of, second, last);
+    printf("  ");
+    print_growth(act, instructions_of, second, last);
+    printf("\n");
+}
+
+/* The judge's longest calls, beside the search that takes the vectors one by one: the goal is a hundredth. */
+static void print_longest(void)
+{
+    const struct act *act = &acts[JUDGE_UNDECIDED];
+    double one_by_one = time_of(act, HB_MAX_ORDER, PLAIN);
+    printf("\nthe judge's longest calls, of order %d: the library takes 1/%.0f of the time of the one-by-one search, tuned C 1/%.0f\n", HB_MAX_ORDER,
+           one_by_one / time_of(act, HB_MAX_ORDER, LIBRARY), one_by_one / time_of(act, HB_MAX_ORDER, TUNED));
+}
+
+/* How many thin problems of a kind, of all orders, each side says are definite */
+static void print_said(const char *name, enum kind kind)
+{
+    const struct act *act = &acts[CHOLESKY];
+    int first_order = kind == UNDECIDED ? 2 : 1;
+    take_kind(kind);
+    printf("%-52s", name);
+    for (int k = 0; k < SIDES; k++) {
+        int said = 0;
+        for (int64_t n = first_order; n <= HB_MAX_ORDER; n++)
+            for (int place = 0; act->sides[k] && place < PROBLEMS; place++)
+                said += act->sides[k](n, problem_of(kind, n, place)) == 0;
+        if (act->sides[k])
+            printf(" %11d", said);
+        else
+            printf(" %11s", "-");
+    }
+    printf(" %11d\n", PROBLEMS * (HB_MAX_ORDER + 1 - first_order));
+}
+
+static void print_peers(void)
+{
+    print_act(&acts[CHOLESKY], LAPACK_SIDE, SIDES);
+    printf("\n%-52s", "how many matrices each says are definite");
+    for (int k = 0; k < SIDES; k++)
+        printf(" %11s", side_names[k]);
+    printf(" %11s\n", "of");
+    print_said("definite", THIN);
+    print_said("singular: x'Mx = 0 for a whole-number x", SINGULAR);
+    print_said("definite by little: B'B, B of determinant not 0", UNDECIDED);
+    printf("\nwhat each proves\n"
+           "library      every matrix from low to high is positive definite, not this one alone: the code is proved to meet that contract; whole numbers\n"
+           "plain C      nothing: the same steps, compared with the library's answers\n"
+           "tuned C      nothing: other steps, compared likewise\n"
+           "dpotrf       nothing of the given matrix: floating point, without a bound of its error\n"
+           "arb_mat_cho  balls that hold the factor, so that every matrix in the balls given is positive definite: as far as one trusts Arb's code\n");
+}
+
+int main(int count, char **arguments)
+{
+    const char *mode = count > 1 ? arguments[1] : "time";
+    take_out();
+    draw_problems();
+    take_kind(THIN);
+    if (strcmp(mode, "count") == 0) {
+        count_all();
+        return 0;
+    }
+    compare_all();
+    if (strcmp(mode, "compare") == 0)
+        return 0;
+    if (count > 2 && !read_counts(arguments[2]))
+        printf("no instructions: %s cannot be read\n", arguments[2]);
+    measure_all();
+    for (int a = 0; a < CHOLESKY; a++)
+        print_act(&acts[a], PLAIN, COMPARED_SIDES);
+    print_longest();
+    print_peers();
+    return 0;
 }

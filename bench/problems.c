@@ -1,0 +1,222 @@
+#include "problems.h"
+
+#include "plain.h"
+
+#include <string.h>
+
+#define SEED 20240229u
+
+static struct problem problems[KINDS][HB_MAX_ORDER + 1][PROBLEMS];
+
+const struct problem *problem_of(enum kind kind, int64_t n, int place)
+{
+    return &problems[kind][n][place];
+}
+
+/* A number from low to high (splitmix64) */
+static int64_t draw(int64_t low, int64_t high)
+{
+    static uint64_t state = SEED;
+    uint64_t z = state += 0x9E3779B97F4A7C15u;
+    z = (z ^ (z >> 30)) * 0xBF58476D1CE4E5B9u;
+    z = (z ^ (z >> 27)) * 0x94D049BB133111EBu;
+    z ^= z >> 31;
+    return low + (int64_t)(z % (uint64_t)(high - low + 1));
+}
+
+/* Sets an entry and its mirror image to bounds width apart */
+static void set_pair(int64_t n, struct problem *problem, int64_t i, int64_t j, int64_t entry, int64_t width)
+{
+    problem->low[i * n + j] = problem->low[j * n + i] = entry;
+    problem->high[i * n + j] = problem->high[j * n + i] = entry + width;
+}
+
+/* B'B, with something added on the diagonal, and bounds up to width apart */
+static void set_product(int64_t n, struct problem *problem, const int64_t *b, int64_t least, int64_t most, int64_t width)
+{
+    for (int64_t i = 0; i < n; i++) {
+        for (int64_t j = i; j < n; j++) {
+            int64_t sum = i == j ? draw(least, most) : 0;
+            for (int64_t k = 0; k < n; k++)
+                sum += b[k * n + i] * b[k * n + j];
+            set_pair(n, problem, i, j, sum, draw(0, width));
+        }
+    }
+}
+
+static int64_t verdict(int64_t n, const struct problem *problem)
+{
+    int64_t factor[MAX_ENTRIES], vector[HB_MAX_ORDER];
+    size_t count = (size_t)(n * n);
+    return plain_pairs_judge(n, problem->low, count, problem->high, count, factor, count, vector, (size_t)n);
+}
+
+/* A centre, linear terms that put the ellipsoid's middle near it, and a limit with which the ellipsoid is not empty: a box is given. */
+static void draw_terms(int64_t n, struct problem *problem)
+{
+    for (int64_t i = 0; i < n; i++)
+        problem->centre[i] = draw(-100, 100);
+    problem->limit = draw(0, 1000000);
+    for (int64_t i = 0; i < n; i++) {
+        int64_t product = 0;
+        for (int64_t j = 0; j < n; j++)
+            product += problem->low[i * n + j] * problem->centre[j];
+        problem->linear[i] = draw(-1000, 1000) - product;
+        /* 2a'c + c'Mc, the value at the centre */
+        problem->limit += (2 * problem->linear[i] + product) * problem->centre[i];
+    }
+}
+
+/* A factor of the bounds, a vector and an ellipsoid. One factor in eight is changed so that the last row, and only that, fails its test. */
+static void draw_definite(int64_t n, int place)
+{
+    struct problem *problem = &problems[DEFINITE][n][place];
+    int64_t b[MAX_ENTRIES];
+    do {
+        for (int64_t at = 0; at < n * n; at++)
+            b[at] = draw(-300, 300);
+        set_product(n, problem, b, 100, 10000, 2);
+    } while (plain_factor(n, problem->low, problem->high, problem->factor) != 0);
+    if (place % 8 == 7)
+        problem->factor[n * n - 1] = HB_FACTOR_RANGE;
+    for (int64_t i = 0; i < n; i++)
+        problem->vector[i] = draw(-HB_VECTOR_RANGE, HB_VECTOR_RANGE);
+    draw_terms(n, problem);
+}
+
+/* Makes row a of B orthogonal to x, of which entry p is 1 or -1 */
+static void make_orthogonal(int64_t n, int64_t *row, const int64_t *x, int64_t p)
+{
+    int64_t sum = 0;
+    for (int64_t i = 0; i < n; i++)
+        sum += i == p ? 0 : row[i] * x[i];
+    row[p] = -sum * x[p];
+}
+
+/* B'B for a B with Bx = 0, so that the least value of x is 0 or less. The entries of x are 0, 1 and -1, or also greater ones, but 1 or -1 at p. */
+static void draw_not_definite(int64_t n, int place)
+{
+    struct problem *problem = &problems[NOT_DEFINITE][n][place];
+    int64_t greatest = place % 4 == 3 ? 5 : 1, size = place % 4 == 3 ? 8 : 20;
+    do {
+        int64_t b[MAX_ENTRIES], x[HB_MAX_ORDER], p = draw(0, n - 1);
+        for (int64_t i = 0; i < n; i++)
+            x[i] = draw(-greatest, greatest);
+        x[p] = draw(0, 1) ? 1 : -1;
+        for (int64_t at = 0; at < n * n; at++)
+            b[at] = draw(-size, size);
+        for (int64_t k = 0; k < n; k++)
+            make_orthogonal(n, b + k * n, x, p);
+        set_product(n, problem, b, 0, 0, 2);
+    } while (verdict(n, problem) != HB_NOT_DEFINITE);
+    draw_terms(n, problem);
+}
+
+/* B'B for an upper triangular B with 1 on the diagonal, some rows of which are multiplied: in whole numbers Bx is 0 for x = 0 alone. */
+static void draw_undecided(int64_t n, int place)
+{
+    struct problem *problem = &problems[UNDECIDED][n][place];
+    do {
+        int64_t b[MAX_ENTRIES];
+        for (int64_t i = 0; i < n; i++) {
+            int64_t multiple = i < n - 2 ? draw(1, 40) : 1;
+            for (int64_t j = 0; j < n; j++)
+                b[i * n + j] = j < i ? 0 : multiple * (i == j ? 1 : draw(-6, 6));
+        }
+        set_product(n, problem, b, 0, 0, 0);
+    } while (verdict(n, problem) != HB_UNDECIDED);
+    draw_terms(n, problem);
+}
+
+/* A problem with thin bounds, from the low table of another */
+static void make_thin(enum kind from, enum kind to, int64_t n, int place)
+{
+    struct problem *problem = &problems[to][n][place];
+    *problem = problems[from][n][place];
+    memcpy(problem->high, problem->low, sizeof problem->low);
+}
+
+void draw_problems(void)
+{
+    for (int64_t n = 1; n <= HB_MAX_ORDER; n++) {
+        for (int place = 0; place < PROBLEMS; place++) {
+            draw_definite(n, place);
+            draw_not_definite(n, place);
+            if (n > 1)
+                draw_undecided(n, place);
+            make_thin(DEFINITE, THIN, n, place);
+            make_thin(NOT_DEFINITE, SINGULAR, n, place);
+            for (int kind = 0; kind < KINDS; kind++)
+                problems[kind][n][place].place = place;
+        }
+    }
+}
+
+/* Any entries of some size, greater ones on the diagonal, the bounds up to width apart, and now and then at the edge of the range */
+static void draw_entries(int64_t n, struct problem *problem)
+{
+    int64_t size = (int64_t)1 << draw(0, 20), diagonal = (int64_t)1 << draw(0, 20), width = draw(0, 1) ? 0 : draw(0, size);
+    for (int64_t i = 0; i < n; i++) {
+        for (int64_t j = 0; j <= i; j++) {
+            int64_t entry = i == j ? draw(0, diagonal) : draw(-size, size), reach = HB_ENTRY_RANGE - entry;
+            int64_t wide = draw(0, width);
+            set_pair(n, problem, i, j, entry, draw(0, 200) == 0 || wide > reach ? reach : wide);
+        }
+    }
+}
+
+/* A number that no range holds, or any of 64 bits */
+static int64_t draw_wild(void)
+{
+    static const int64_t wild[] = {HB_ENTRY_RANGE + 1, -HB_ENTRY_RANGE - 1, INT64_MAX, INT64_MIN, INT64_MIN + 1, INT64_MAX - HB_ENTRY_RANGE};
+    int64_t k = draw(0, 11);
+    return k < 6 ? wild[k] : draw(INT64_MIN / 2, INT64_MAX / 2 - 1);
+}
+
+/* Changes one entry or two, or an entry and its mirror image */
+static void spoil(int64_t n, struct problem *problem)
+{
+    int64_t i = draw(0, n - 1), j = draw(0, n - 1), kind = draw(0, 4);
+    int64_t *table = draw(0, 1) ? problem->low : problem->high;
+    if (kind == 0)
+        table[i * n + j] = draw_wild();
+    else if (kind == 1)
+        table[i * n + j] += draw(-2, 2);
+    else if (kind == 2)
+        problem->low[i * n + j] = problem->low[j * n + i] = problem->high[i * n + j] + draw(0, 1);
+    else if (kind == 3)
+        problem->low[i * n + j] = problem->high[j * n + i] = draw_wild();
+    else
+        problem->linear[i] = draw(0, 1) ? draw_wild() : HB_LINEAR_RANGE + draw(0, 1);
+}
+
+/* Offers a factor and a vector that fit, or nearly so */
+static void draw_offers(int64_t n, struct problem *problem)
+{
+    plain_factor(n, problem->low, problem->high, problem->factor);
+    if (draw(0, 2) == 0)
+        problem->factor[draw(0, n * n - 1)] = draw(0, 1) ? HB_FACTOR_RANGE + draw(0, 1) : draw(-1, 1);
+    int64_t size = draw(0, 3) ? draw(0, 3) : HB_VECTOR_RANGE + draw(0, 1);
+    for (int64_t i = 0; i < n; i++)
+        problem->vector[i] = draw(-size, size);
+}
+
+void draw_any(int64_t n, struct problem *problem)
+{
+    int64_t kind = draw(0, KINDS + 1);
+    if (kind < KINDS && (n > 1 || kind != UNDECIDED)) {
+        *problem = problems[kind][n][draw(0, PROBLEMS - 1)];
+        for (int64_t i = 0; i < n; i++)
+            set_pair(n, problem, i, i, problem->low[i * n + i] + draw(-1, 1), draw(0, 1));
+    } else {
+        draw_entries(n, problem);
+    }
+    draw_terms(n, problem);
+    if (draw(0, 3) == 0)
+        problem->limit = draw(0, 1) ? problem->limit - draw(0, 2000000) : draw(-HB_LIMIT_RANGE - 1, HB_LIMIT_RANGE + 1);
+    if (draw(0, 3) == 0)
+        problem->centre[draw(0, n - 1)] = draw(-HB_CENTRE_RANGE - 1, HB_CENTRE_RANGE + 1);
+    draw_offers(n, problem);
+    if (draw(0, 3) == 0)
+        spoil(n, problem);
+}

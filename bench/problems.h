@@ -1,0 +1,42 @@
+/* The problems that the acts are timed and compared on: the same in every run. */
+#ifndef PROBLEMS_H
+#define PROBLEMS_H
+
+#include "../include/hankboulder.h"
+
+#define PROBLEMS 64
+#define MAX_ENTRIES (HB_MAX_ORDER * HB_MAX_ORDER)
+
+/*
+ * The place among the problems of its kind and order; bounds; a factor and a vector that are offered for them; an ellipsoid. The processor stores the low
+ * byte first, so that tables of int64_t are the library's bytes.
+ */
+struct problem {
+    int place;
+    int64_t low[MAX_ENTRIES];
+    int64_t high[MAX_ENTRIES];
+    int64_t factor[MAX_ENTRIES];
+    int64_t vector[HB_MAX_ORDER];
+    int64_t linear[HB_MAX_ORDER];
+    int64_t limit;
+    int64_t centre[HB_MAX_ORDER];
+};
+
+/*
+ * By the judge's answer. Definite ones have bounds up to 2 apart; their factor is accepted, but for one in eight; a box is given. Of those that are not
+ * definite, three in four have a tried vector, anywhere in the list, and one in four is made for a solved one. Undecided ones are thin, and B'B for a
+ * whole-number B that is not singular: x'Mx >= 1 for all whole x but 0, so that all vectors are looked at. There is none of order 1. The last two kinds
+ * are thin: the low tables of the definite ones, and those of the ones that are not, which are singular.
+ */
+enum kind { DEFINITE, NOT_DEFINITE, UNDECIDED, THIN, SINGULAR, KINDS };
+
+/* Draws the problems of each kind and order. It comes first. */
+void draw_problems(void);
+
+/* One of the PROBLEMS drawn */
+const struct problem *problem_of(enum kind kind, int64_t n, int place);
+
+/* A problem of order n to compare answers on: entries at and beyond the edges of their ranges, refused ones, flat, far and empty ones among them */
+void draw_any(int64_t n, struct problem *problem);
+
+#endif

@@ -1,0 +1,27 @@
+/*
+ * The library's acts in C that is written for speed, with the same answers and the same buffers: the arguments are those of include/hankboulder.h. It uses
+ * whole numbers alone and no floating point, as the library does. Numbers are read where they lie, and the processor stores the low byte first. One code
+ * serves all orders.
+ */
+#ifndef TUNED_H
+#define TUNED_H
+
+#include <stddef.h>
+#include <stdint.h>
+
+/* Checks 3 to 5 and factoring, for a good n, over numbers: 0 where it ends, -1 where it stops, or the refusal. Entry (i,j), i <= j, is left at 8 i + j. */
+int64_t tuned_factor(int64_t n, const int64_t *low, const int64_t *high, int64_t *factor);
+
+int64_t tuned_test_factor(int64_t n, const uint8_t *low, size_t low_len, const uint8_t *high, size_t high_len, const uint8_t *factor,
+                          size_t factor_len);
+
+int64_t tuned_test_vector(int64_t n, const uint8_t *low, size_t low_len, const uint8_t *high, size_t high_len, const uint8_t *vector,
+                          size_t vector_len);
+
+int64_t tuned_judge(int64_t n, const uint8_t *low, size_t low_len, const uint8_t *high, size_t high_len, uint8_t *factor, size_t factor_len,
+                    uint8_t *vector, size_t vector_len);
+
+int64_t tuned_box(int64_t n, const uint8_t *low, size_t low_len, const uint8_t *high, size_t high_len, const uint8_t *linear, size_t linear_len,
+                  int64_t limit, const uint8_t *centre, size_t centre_len, uint8_t *sides, size_t sides_len);
+
+#endif
