@@ -1,5 +1,5 @@
 -- Where factoring of document 01's matrices stops, and the first of its wrong turns: what the rules give, beside what the document says.
--- The starred lines, the factors among them, are one list, in crate verdict.
+-- The starred lines, the factors among them, are one list, in crate starred.
 use mathlib.Core.Path.{_≡_, refl}
 use mathlib.Core.Bool.{true, false}
 use mathlib.Core.List.{List, [], _∷_, map}

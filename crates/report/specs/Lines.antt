@@ -28,13 +28,15 @@ boxText n (Box.sides s) = lines (ascii "side") s 2 n
 boxText n Box.empty = ascii "empty\n"
 boxText n (Box.refused r) = numbered (ascii "box refused") r
 
--- the bytes that the lines take up at most: a number has at most `widest`, and a space in front
--- behind a word, a number and the line's end
+-- ---- the bytes that lines take up at most: a number has at most `widest`, and a space in front
+-- behind a word: one number, and the line's end
 abbrev pub numberRoom : ℕ
 numberRoom = 1 * (widest + 1) + 1
 
+-- 'definite', and eight rows of eight numbers
 abbrev pub verdictRoom : ℕ
 verdictRoom = 9 + greatestOrder * (3 + greatestOrder * (widest + 1) + 1)
 
+-- eight sides
 abbrev pub boxRoom : ℕ
 boxRoom = greatestOrder * (4 + 2 * (widest + 1) + 1)
