@@ -67,8 +67,8 @@ extern "C" {
 
 /*
  * The stack that a call needs, in bytes, at any order, its arguments and return address included. Measured and not proved: bench/stack painted the stack
- * below 2000 calls of each function at each order. At most 4784 bytes were overwritten by hb_judge, 2288 by hb_test_factor, 2240 by hb_test_vector and
- * 4632 by hb_box; they are rounded up here by two thirds or more. That is the archive which rattle-kit-5b compiles with LLVM 22 for x86-64, with
+ * below 2000 calls of each function at each order. At most 5872 bytes were overwritten by hb_judge, 1824 by hb_test_factor, 1264 by hb_test_vector and
+ * 2872 by hb_box; they are rounded up here by a third or more. That is the archive which rattle-kit-5b compiles with LLVM 22 for x86-64, with
  * memcpy and memset of glibc 2.36: with any other compiler or processor, measure again. What an interrupt puts on the same stack comes on top.
  */
 #define HB_JUDGE_STACK 8192
@@ -255,8 +255,8 @@ int64_t hb_test_vector(int64_t n, const uint8_t *low, size_t low_len, const uint
  *                        beyond +-2^12
  *   HB_REFUSED_CROSSED   an entry of low is above its entry of high
  *   HB_REFUSED_LOPSIDED  low or high is not symmetric
- *   HB_REFUSED_FLAT      t is 0: not every matrix from low to high is positive definite, or by too little to take off 1. linear, limit and centre play
- *                        no part in it
+ *   HB_REFUSED_FLAT      t is 0: with 1 taken off the diagonal factoring does not end. Not every matrix from low to high is positive definite, or by too
+ *                        little, or the bounds are too far apart to show it. linear, limit and centre play no part in it
  *   HB_REFUSED_FAR       some g(k) is above 2^20: the centre is too far from the ellipsoid's middle, or the bounds are too far apart. Another centre
  *                        may do
  *
@@ -264,7 +264,7 @@ int64_t hb_test_vector(int64_t n, const uint8_t *low, size_t low_len, const uint
  *
  * Buffers: at any address; none overlaps another, but low and high may be the same table. Nothing is allocated. Reentrant.
  * Stack: HB_BOX_STACK bytes.
- * Time: up to 20 factorings for t and 20 for each t(k), so 180 at order 8.
+ * Time: up to 20 factorings for t and, for each t(k) but the last, up to 20 of the rows from k on.
  */
 int64_t hb_box(int64_t n, const uint8_t *low, size_t low_len, const uint8_t *high, size_t high_len, const uint8_t *linear, size_t linear_len,
                int64_t limit, const uint8_t *centre, size_t centre_len, uint8_t *sides, size_t sides_len);

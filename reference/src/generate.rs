@@ -3,6 +3,7 @@
 
 mod calls;
 mod files;
+pub mod numbers;
 mod problems;
 
 pub use calls::{BoxCall, FactorCall, JudgeCall, VectorCall};

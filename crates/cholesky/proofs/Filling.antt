@@ -17,8 +17,9 @@ use Rattle.tables.specs.Matrix.{Matrix, rowWidth}
 use Rattle.tables.specs.Bounds.{Bounds}
 use Rattle.tables.proofs.Matrix.{inside, at-most-64}
 use Rattle.cholesky.specs.Scale.{halfScale, takeOff, scaled}
-use Rattle.cholesky.specs.Store.{upper, Heights}
-use Rattle.cholesky.specs.Scaling.{Ranged, Lent, Scaled}
+use Rattle.cholesky.specs.Store.{upper}
+use Rattle.cholesky.specs.Scaling.{Ranged, Lent, Scaled, Checked}
+use Rattle.cholesky.specs.Rows.{Sized}
 use Rattle.cholesky.proofs.ScaledMatrix.{take-off-suffices, scaled-top}
 use Rattle.cholesky.proofs.Store.{upper-same, upper-other}
 
@@ -100,14 +101,22 @@ module _ {n : ℕ} {L U : Matrix} (o : n ≤ greatestOrder) (r : Ranged n L U) w
 pub bounds-ranged : {n : ℕ} {L U : Matrix} → Bounds n L U → Ranged n L U
 bounds-ranged b = record { low = λ i j h k. record { size = b .low-range i j h k }; high = λ i j h k. record { size = b .high-range i j h k } }
 
-pub heights-scaled : {n : ℕ} {L U : Matrix} {h : List ℤ} → Bounds n L U → n ≤ 8 →
-    ((i j : ℕ) → i ≤ j → j < n → upper h i j ≡ scaled takeOff n L U i j) → Heights h n
-heights-scaled {n} {L} {U} b o e =
+pub sized-scaled : {n : ℕ} {L U : Matrix} {h : List ℤ} → Bounds n L U → n ≤ 8 → Scaled n L U h n → Sized h n 0
+sized-scaled {n} {L} {U} {h} b o w =
     record {
+      size = w .size;
       order = o;
-      heights = λ i j l k. rw (e i j l k) (scaled-within o (bounds-ranged b) i j (omega arith) k);
-      top = λ j k. rw (e j j (omega arith) k) (scaled-top takeOff n L U b (take-off-suffices n o) j k);
+      off = λ i j p q k. within-more (omega arith) (within-at i j (omega arith) k);
+      on = λ j p k. within-more (omega arith) (within-at j j (omega arith) k);
+      top = λ j p k. rw (w .entries j j (omega arith) k) (scaled-top takeOff n L U b (take-off-suffices n o) j k);
     }
+  where
+    within-at : (i j : ℕ) → i ≤ j → j < n → Within (2 ^ 56) (upper h i j)
+    within-at i j l k = rw (w .entries i j l k) (scaled-within o (bounds-ranged b) i j (omega arith) k)
+
+-- tables that passed the checks can be scaled
+pub checked-lent : {n : ℕ} {l u : List ℤ} → Checked n l u → Lent n l u
+checked-lent p = record { order = p .order; low-length = p .low-length; high-length = p .high-length; ranged = bounds-ranged (p .bounds) }
 
 -- ---- the walk of the code: before row i of column j
 pub record Filling (n : ℕ) (L U : Matrix) (h : List ℤ) (j i : ℕ) : Type 0 where

@@ -6,7 +6,8 @@ pub mod Loops
 pub mod Columns
 pub mod Extensional
 pub mod Store
-pub mod Sizes
-pub mod Walk
+pub mod Rows
+pub mod Walked
 pub mod Sweep
 pub mod Filling
+pub mod Reduced

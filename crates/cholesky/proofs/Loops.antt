@@ -1,5 +1,5 @@
 -- The loops of factoring: one law for each, over any claim, and one step of each. Nothing else meets their tests.
-use mathlib.Core.Path.{_≡_, refl, sym, ap, _∙_, subst}
+use mathlib.Core.Path.{_≡_, ap, subst}
 use mathlib.Core.Bool.{Bool, true, false, not, _&&_}
 use mathlib.Core.List.{List, [], _∷_, _++_}
 use Prim.Native.Nat.{ℕ, zero, suc, _+_, _≤_, _<_}
@@ -13,7 +13,6 @@ use Rattle.tables.specs.Ranges.{factorRange}
 use Rattle.tables.specs.Matrix.{Matrix}
 use Rattle.tables.specs.Checks.{within}
 use Rattle.cholesky.specs.Factoring.{Column, Factoring, nextEntry, goesOn, rows, nextColumn, columnsFrom}
-use Rattle.cholesky.specs.Store.{restAfter}
 use Rattle.cholesky.proofs.Lists.{length-snoc}
 
 not-both : (b : Bool) → T (not b) → T b → ⊥
@@ -106,6 +105,18 @@ module _ (H : Matrix) (cs : List (List ℤ)) where
       go true f g = f tt
       go false f g = g tt
 
+module _ (H : Matrix) (cs : List (List ℤ)) where
+  begun : Bool → ℕ → Column
+  begun b j = elim b [ true ↦ rows H cs j j (H j j) [] | false ↦ record { done = false; column = [] } ]
+
+  pub column-on : (j : ℕ) → length cs ≡ j → leZ (pos 1) (H j j) ≡ true → nextColumn H cs ≡ rows H cs j j (H j j) []
+  unfolding nextColumn begun
+  column-on j e = subst (λ (m : ℕ). leZ (pos 1) (H m m) ≡ true → nextColumn H cs ≡ rows H cs m m (H m m) []) e (λ g. ap (λ (b : Bool). begun b (length cs)) g)
+
+  pub column-none : (j : ℕ) → length cs ≡ j → leZ (pos 1) (H j j) ≡ false → nextColumn H cs ≡ record { done = false; column = [] }
+  unfolding nextColumn begun
+  column-none j e = subst (λ (m : ℕ). leZ (pos 1) (H m m) ≡ false → nextColumn H cs ≡ record { done = false; column = [] }) e (λ g. ap (λ (b : Bool). begun b (length cs)) g)
+
 -- ---- all columns
 module _ (H : Matrix) (k : ℕ) (cs : List (List ℤ)) where
   pub columns-by : (Q : Factoring → Type 0) → (T (nextColumn H cs .done) → Q (columnsFrom H k (cs ++ (nextColumn H cs .column ∷ [])))) →
@@ -149,62 +160,3 @@ module _ (H : Matrix) (n : ℕ) (P : List (List ℤ) → Type 0) where
       columns-by H k cs (λ o. T (o .ends))
       (λ g. columns-end s a k _ (omega (arith, length-snoc cs (nextColumn H cs .column))) (s cs (omega arith) p g))
       (λ g. not-both (nextColumn H cs .done) g (a cs (omega arith) p))
-
--- ---- the rows of a column as the code walks them: a rest below 1 is a stop
-unfoldable pub resume : Matrix → List (List ℤ) → ℕ → ℕ → ℤ → List ℤ → Column
-resume H cs j k rest c = elim (leZ (pos 1) rest) [ true ↦ rows H cs j k rest c | false ↦ record { done = false; column = c } ]
-
-pub column-start : (H : Matrix) (cs : List (List ℤ)) (j : ℕ) → length cs ≡ j → nextColumn H cs ≡ resume H cs j j (H j j) []
-unfolding nextColumn resume
-column-start H cs j e = subst (λ (m : ℕ). nextColumn H cs ≡ resume H cs m m (H m m) []) e refl
-
-module _ (H : Matrix) (cs : List (List ℤ)) (j k : ℕ) (rest : ℤ) (c : List ℤ) where
-  resumed : Bool → Column
-  resumed b = elim b [ true ↦ rows H cs j k rest c | false ↦ record { done = false; column = c } ]
-
-  pub resume-on : leZ (pos 1) rest ≡ true → resume H cs j k rest c ≡ rows H cs j k rest c
-  unfolding resume resumed
-  resume-on e = ap resumed e
-
-  pub resume-stop : leZ (pos 1) rest ≡ false → resume H cs j k rest c ≡ record { done = false; column = c }
-  unfolding resume resumed
-  resume-stop e = ap resumed e
-
-  -- a row more
-  row-more : (r : ℤ) (b : Bool) →
-      _≡_ {A = Column}
-      (elim (b && leZ (pos 1) (rest -ℤ r *ℤ r)) [ true ↦ rows H cs j k (rest -ℤ r *ℤ r) (c ++ (r ∷ [])) | false ↦ record { done = false; column = c ++ (r ∷ []) } ])
-      (let left : ℤ = elim b [ true ↦ rest -ℤ r *ℤ r | false ↦ pos 0 ] in
-      elim (leZ (pos 1) left) [ true ↦ rows H cs j k left (c ++ (r ∷ [])) | false ↦ record { done = false; column = c ++ (r ∷ []) } ])
-  row-more r true = refl
-  row-more r false = refl
-
-pub resume-row : (H : Matrix) (cs : List (List ℤ)) (j k : ℕ) (rest : ℤ) (c : List ℤ) → leZ (pos 1) rest ≡ true →
-    resume H cs j (suc k) rest c ≡ resume H cs j k (restAfter rest (nextEntry H cs j c)) (c ++ (nextEntry H cs j c ∷ []))
-unfolding resume rows goesOn restAfter
-resume-row H cs j k rest c e = resume-on H cs j (suc k) rest c e ∙ row-more H cs j k rest c (nextEntry H cs j c) (within factorRange (nextEntry H cs j c))
-
--- what is left of the rest, by the test
-pub rest-after : (rest r : ℤ) → within factorRange r ≡ true → rest -ℤ r *ℤ r ≡ restAfter rest r
-unfolding restAfter
-rest-after rest r e = sym (ap (λ (b : Bool). elim b as (λ z. ℤ) [ true ↦ rest -ℤ r *ℤ r | false ↦ pos 0 ]) e)
-
-pub rest-none : (rest r : ℤ) → within factorRange r ≡ false → pos 0 ≡ restAfter rest r
-unfolding restAfter
-rest-none rest r e = sym (ap (λ (b : Bool). elim b as (λ z. ℤ) [ true ↦ rest -ℤ r *ℤ r | false ↦ pos 0 ]) e)
-
--- by cases on the test
-pub rest-by : (rest r : ℤ) (P : ℤ → Type 0) → (within factorRange r ≡ true → P (rest -ℤ r *ℤ r)) → (within factorRange r ≡ false → P (pos 0)) → P (restAfter rest r)
-unfolding restAfter
-rest-by rest r P f g = go (within factorRange r) f g
-  where
-    go : (b : Bool) → (b ≡ true → P (rest -ℤ r *ℤ r)) → (b ≡ false → P (pos 0)) → P (elim b as (λ z. ℤ) [ true ↦ rest -ℤ r *ℤ r | false ↦ pos 0 ])
-    go true f g = f refl
-    go false f g = g refl
-
--- a column that is done has all its entries
-pub column-length : (H : Matrix) (cs : List (List ℤ)) → nextColumn H cs .done ≡ true → length (nextColumn H cs .column) ≡ suc (length cs)
-column-length H cs e =
-    column-ind H cs (λ o. T (o .done) → length (o .column) ≡ suc (length cs))
-    (λ h. rows-ind H cs (length cs) (λ rest c. Unit {0}) (λ c. length c ≡ suc (length cs)) (λ rest c l u p. tt)
-    (λ rest c l u. length-snoc c (wholeRoot rest) ∙ ap suc l) (length cs) (H (length cs) (length cs)) [] (omega arith) tt) (λ g t. absurd t) (subst T (sym e) tt)

@@ -1,103 +1,106 @@
--- The walk of the code through the columns: what holds before each, and how the factoring comes out.
-use mathlib.Core.Path.{_≡_, refl, sym, ap, ap₂, _∙_, subst}
+-- From the last row to the factoring: the columns as the definition makes them, one after the other.
+use mathlib.Core.Path.{_≡_, refl, sym, ap, ap₂, _∙_}
 use mathlib.Core.Bool.{true, false}
-use mathlib.Core.List.{List, [], _∷_, _++_}
-use Prim.Native.Nat.{ℕ, suc, _+_, _-_, _≤_, _<_}
+use mathlib.Core.List.{List, []}
+use Prim.Native.Nat.{ℕ, zero, suc, _-_, _≤_, _<_}
 use native.Mathlib.Omega.{arith}
-use native.Mathlib.Decide.{decLt}
-use lib.Dec.{T}
-use borrow.Author.Tests.{lt-ltb, le-ltb}
-use lib.IntN.{ℤ}
-use lib.Signed.{_≤ℤ_, leZ-yes}
-use lib.ListN.{length}
-use Rattle.integers.specs.Numbers.{Within}
-use Rattle.integers.proofs.Parts.{≤ℤ-trans}
-use Rattle.integers.proofs.Solver.{order}
-use Rattle.integers.proofs.Machine.{within-in}
-use Rattle.tables.specs.Ranges.{factorRange}
-use Rattle.tables.specs.Matrix.{tabulate}
+use lib.IntN.{ℤ, pos, _-ℤ_, _*ℤ_}
+use lib.Signed.{_≤ℤ_}
+use Rattle.integers.specs.Division.{floorDiv}
+use Rattle.integers.proofs.Parts.{leZ-true}
+use Rattle.integers.proofs.Sums.{sum-ext}
+use Rattle.tables.specs.Matrix.{Matrix, tabulate}
+use Rattle.tables.proofs.Checks.{true-of}
 use Rattle.cholesky.specs.declared.factoring.Outcome.the-variants.{Ends, Stops}
-use Rattle.cholesky.specs.Factoring.{entries, nextColumn, columnsFrom, factoring}
-use Rattle.cholesky.specs.Store.{upper, columnOf, columnsOf, outcomeOf, Stored, Heights, Ready, Made}
-use Rattle.cholesky.proofs.Loops.{columns-on, columns-stop, column-length}
-use Rattle.cholesky.proofs.Columns.{Done, column-step}
-use Rattle.cholesky.proofs.Store.{length-columnOf, length-columnsOf, columnsOf-suc, entries-columnsOf}
+use Rattle.cholesky.specs.Factoring.{Column, nextEntry, goesOn, rows, nextColumn, columnsFrom, factoring}
+use Rattle.cholesky.specs.Store.{upper, columnOf, columnsOf, outcomeOf, Stored}
+use Rattle.cholesky.specs.Reduced.{rowEntry, reduced, leftOf}
+use Rattle.cholesky.proofs.Loops.{goes-on, rows-on, rows-stop, column-on, column-none, columns-on, columns-stop}
+use Rattle.cholesky.proofs.Store.{length-columnOf, length-columnsOf, columnOf-suc, columnsOf-suc, entries-columnsOf, nth-columnOf}
+use Rattle.cholesky.proofs.Reduced.{left-is}
+use Rattle.cholesky.proofs.Walked.{Rows, Stop}
 
--- before column j
-pub record Sweep (h : List ℤ) (n : ℕ) (t : List ℤ) (j : ℕ) : Type 0 where
-  pub size : length t ≡ 64
-  pub done : Done (upper h) (columnsOf t j)
-  pub here : factoring n (upper h) ≡ columnsFrom (upper h) (n - j) (columnsOf t j)
+no-rows : (t : List ℤ) (j : ℕ) → columnOf t j 0 ≡ []
+unfolding columnOf tabulate
+no-rows t j = refl
 
-module _ {h : List ℤ} {n : ℕ} (tall : Heights h n) where
-  pub sweep-start : {t : List ℤ} → length t ≡ 64 → Sweep h n t 0
-  unfolding factoring columnsOf tabulate
-  sweep-start s =
-      let e : n - 0 ≡ n = omega arith in
-      record {
-        size = s;
-        done = record { lengths = λ l k. absurd (omega arith); off = λ a b k l. absurd (omega arith); on = λ b k. absurd (omega arith) };
-        here = rw e refl;
-      }
+no-columns : (t : List ℤ) → columnsOf t 0 ≡ []
+unfolding columnsOf tabulate
+no-columns t = refl
 
-  module _ {t : List ℤ} {j : ℕ} (l : j < n) (w : Sweep h n t j) where
-    pub sweep-ready : Ready h t j
-    sweep-ready =
-        record {
-          size = w .size;
-          inside = omega (arith, tall .order);
-          heights = λ i m. tall .heights i j m l;
-          top = tall .top j l;
-          columns = λ k m. record { small = λ i p. at i k m (omega arith) };
-          diagonal = λ k m. rw (← entries-columnsOf t j k k (omega arith) m) (w .done .on k (omega (arith, length-columnsOf t j)) .one);
-        }
-      where
-        at : (i k : ℕ) → k < j → i ≤ k → Within factorRange (upper t i k)
-        at i k m p = subst (Within factorRange) (entries-columnsOf t j i k p m) (go (decLt i k))
-          where
-            inside : k < length (columnsOf t j)
-            inside = omega (arith, length-columnsOf t j)
+module _ {H : Matrix} {t : List ℤ} {e : ℕ} (s : Rows H t e e) (j : ℕ) (before : j ≤ e) where
+  -- the entry that the definition works out next
+  entry-is : (m : ℕ) → m < j → ((k : ℕ) → k < m → upper t k j ≡ rowEntry (leftOf H k) k j) →
+      nextEntry H (columnsOf t j) j (columnOf t j m) ≡ rowEntry (leftOf H m) m j
+  unfolding nextEntry rowEntry
+  entry-is m o here =
+      rw (length-columnOf t j m)
+      (ap₂ floorDiv
+      (ap (λ (z : ℤ). H m j -ℤ z)
+      (sum-ext m _ _ (λ k a. ap₂ (λ (u v : ℤ). u *ℤ v) (entries-columnsOf t j k m (omega arith) o ∙ s .off k m (omega arith) a (omega arith)) (nth-columnOf t j m k a ∙ here k a)))
+      ∙ left-is H m m j)
+      (entries-columnsOf t j m m (omega arith) o ∙ s .on m (omega arith) (omega arith)))
 
-            go : Dec (i < k) → Within factorRange (entries (columnsOf t j) i k)
-            go (yes e) = record { size = w .done .off i k e inside .small }
-            go (no e) =
-                let f : i ≡ k = omega arith in
-                let d = w .done .on k inside in
-                rw f (within-in (≤ℤ-trans (leZ-yes tt) (d .one)) (d .top))
+  -- the definition's column j after m rows
+  column-at : (m : ℕ) → m ≤ j → pos 1 ≤ℤ H j j → ((k : ℕ) → k < m → upper t k j ≡ rowEntry (leftOf H k) k j) →
+      ((k : ℕ) → k < m → goesOn (rowEntry (leftOf H k) k j) (leftOf H (suc k) j j) ≡ true) →
+      nextColumn H (columnsOf t j) ≡ rows H (columnsOf t j) j (j - m) (leftOf H m j j) (columnOf t j m)
+  unfolding leftOf reduced
+  column-at zero o top p q =
+      let z : j - 0 ≡ j = omega arith in
+      rw (z, no-rows t j) (column-on H (columnsOf t j) j (length-columnsOf t j) (leZ-true top))
+  column-at (suc m) o top p q =
+      let z : j - m ≡ suc (j - suc m) = omega arith in
+      let r = entry-is m (omega arith) (λ k a. p k (omega arith)) in
+      (rw z at (column-at m (omega arith) top (λ k a. p k (omega arith)) (λ k a. q k (omega arith))))
+      ∙ rows-on H (columnsOf t j) j (j - suc m) (leftOf H m j j) (columnOf t j m) (rw r (q m (omega arith)))
+      ∙ rw (r, columnOf-suc t j m, p m (omega arith)) refl
 
-    -- the column is done
-    pub sweep-column : {r : ℕ} {t′ : List ℤ} → Made (nextColumn (upper h) (columnsOf t j)) j r t t′ → j < r → Sweep h n t′ (suc j)
-    sweep-column {r} {t′} m p =
-        let cs = columnsOf t j in
-        let done = m .done ∙ lt-ltb j r p in
-        let e : r ≡ suc j = sym (length-columnOf t′ j r) ∙ ap length (m .column) ∙ column-length (upper h) cs done ∙ ap suc (length-columnsOf t j) in
-        let grown : columnsOf t′ (suc j) ≡ cs ++ (nextColumn (upper h) cs .column ∷ []) =
-        columnsOf-suc t′ j ∙ ap₂ (λ (a : List (List ℤ)) (c : List ℤ). a ++ (c ∷ [])) (m .kept) (rw e at (m .column)) in
-        let q : n - j ≡ suc (n - suc j) = omega arith in
-        record {
-          size = m .size;
-          done = rw grown (column-step (upper h) cs (w .done) (rw (length-columnsOf t j) (tall .top j l)) (subst T (sym done) tt));
-          here = rw grown ((rw q at (w .here)) ∙ columns-on (upper h) (n - suc j) cs done);
-        }
+  column-stop : (m : ℕ) → Stop H t j m → nextColumn H (columnsOf t j) ≡ record { done = false; column = columnOf t j m }
+  unfolding leftOf reduced
+  column-stop zero x = rw (no-rows t j) (column-none H (columnsOf t j) j (length-columnsOf t j) (x .none refl))
+  column-stop (suc m) x =
+      let o = x .rows in
+      let z : j - m ≡ suc (j - suc m) = omega arith in
+      let r = entry-is m (omega arith) (λ k a. x .here k (omega arith)) in
+      (rw z at (column-at m (omega arith) (x .top (omega arith)) (λ k a. x .here k (omega arith)) (λ k a. x .tests k (omega arith))))
+      ∙ rows-stop H (columnsOf t j) j (j - suc m) (leftOf H m j j) (columnOf t j m) (rw r (x .last m refl))
+      ∙ rw (r, columnOf-suc t j m, x .here m (omega arith)) refl
 
-    -- it stopped in it
-    pub sweep-stop : {r : ℕ} {t′ : List ℤ} → Made (nextColumn (upper h) (columnsOf t j)) j r t t′ → r ≤ j → Stored (factoring n (upper h)) (Stops j r) t′
-    unfolding outcomeOf
-    sweep-stop {r} {t′} m p =
-        let cs = columnsOf t j in
-        let q : n - j ≡ suc (n - suc j) = omega arith in
-        let size : length (nextColumn (upper h) cs .column) ≡ r = sym (ap length (m .column)) ∙ length-columnOf t′ j r in
-        let is : factoring n (upper h) ≡ record { ends = false; columns = cs; stopped = nextColumn (upper h) cs .column } =
-        (rw q at (w .here)) ∙ columns-stop (upper h) (n - suc j) cs (m .done ∙ le-ltb j r p) in
-        rw is (record {
-          outcome = ap₂ Stops (sym (length-columnsOf t j)) (sym size);
-          columns = rw (length-columnsOf t j) (m .kept);
-          stopped = rw (length-columnsOf t j, size) (m .column);
-        })
+  column-done : j < e → nextColumn H (columnsOf t j) ≡ record { done = true; column = columnOf t j (suc j) }
+  unfolding rows leftOf
+  column-done o =
+      let z : j - j ≡ 0 = omega arith in
+      (rw z at (column-at j (omega arith) (s .top j o) (λ k a. s .off k j (omega arith) a o)
+      (λ k a. true-of _ (goes-on _ _ (s .walked .passed k (omega arith) .later j a o)))))
+      ∙ rw (columnOf-suc t j j, s .on j o o) refl
 
-  pub sweep-end : {t : List ℤ} → Sweep h n t n → Stored (factoring n (upper h)) Ends t
-  unfolding columnsFrom outcomeOf columnOf tabulate
-  sweep-end {t} w =
-      let q : n - n ≡ 0 = omega arith in
-      let is : factoring n (upper h) ≡ record { ends = true; columns = columnsOf t n; stopped = [] } = rw q at (w .here) in
-      rw is (record { outcome = refl; columns = rw (length-columnsOf t n) refl; stopped = refl })
+module _ {H : Matrix} {t : List ℤ} {n e : ℕ} (s : Rows H t e e) (o : e ≤ n) where
+  -- the columns before e are done
+  swept : (j : ℕ) → j ≤ e → factoring n H ≡ columnsFrom H (n - j) (columnsOf t j)
+  unfolding factoring
+  swept zero h = let z : n - 0 ≡ n = omega arith in rw (z, no-columns t) refl
+  swept (suc j) h =
+      let z : n - j ≡ suc (n - suc j) = omega arith in
+      let c = column-done s j (omega arith) h in
+      (rw z at (swept j (omega arith))) ∙ columns-on H (n - suc j) (columnsOf t j) (ap (λ (c : Column). c .done) c) ∙ rw (c, columnsOf-suc t j) refl
+
+  pub sweep-end : n ≤ e → Stored (factoring n H) Ends t
+  unfolding columnsFrom outcomeOf
+  sweep-end p =
+      let z : n - e ≡ 0 = omega arith in
+      let is : factoring n H ≡ record { ends = true; columns = columnsOf t e; stopped = [] } = rw z at (swept e (omega arith)) in
+      rw is (record { outcome = refl; columns = rw (length-columnsOf t e) refl; stopped = no-rows t _ })
+
+  pub sweep-stop : {m : ℕ} → e < n → Stop H t e m → Stored (factoring n H) (Stops e m) t
+  unfolding outcomeOf
+  sweep-stop {m} p x =
+      let z : n - e ≡ suc (n - suc e) = omega arith in
+      let c = column-stop s e (omega arith) m x in
+      let is : factoring n H ≡ record { ends = false; columns = columnsOf t e; stopped = columnOf t e m } =
+      (rw z at (swept e (omega arith))) ∙ columns-stop H (n - suc e) (columnsOf t e) (ap (λ (c : Column). c .done) c) ∙ rw c refl in
+      rw is (record {
+        outcome = ap₂ Stops (sym (length-columnsOf t e)) (sym (length-columnOf t e m));
+        columns = rw (length-columnsOf t e) refl;
+        stopped = rw (length-columnsOf t e, length-columnOf t e m) refl;
+      })

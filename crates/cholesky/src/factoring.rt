@@ -1,13 +1,16 @@
-// Document 01, "Factoring": a matrix H into its Cholesky factor, column by column, in whole numbers.
-// Tables are 64 numbers, entry (i, j) at 8 j + i.
+// Document 01, "Factoring": a matrix H into its Cholesky factor, in whole numbers, row by row and in place: row i of what is left of H is replaced by the
+// factor's, and the rows after it by the Schur complement. Tables are 64 numbers, entry (i, j) at 8 j + i.
 ghost use mathlib.Core.Path.{_≡_};
-ghost use Prim.Native.Nat.{_+_, _*_, _^_, _≤_, _<_};
-ghost use lib.IntN.{_*ℤ_};
-ghost use lib.ListN.{length};
+ghost use Prim.Native.Nat.{suc, _<_};
+ghost use lib.IntN.{pos};
+ghost use lib.Signed.{_≤ℤ_};
+ghost use Rattle.integers.specs.Division.{floorDiv};
 ghost use Rattle.integers.specs.Numbers.{Within};
-ghost use Rattle.integers.specs.Sum.{sum};
-ghost use Rattle.cholesky.specs.Factoring.{nextColumn, factoring};
-ghost use Rattle.cholesky.specs.Store.{upper, columnsOf, entryAt, SmallColumn, Heights, Ready, Row, Finished, Made, Stored};
+ghost use Rattle.integers.specs.Root.{wholeRoot};
+ghost use Rattle.tables.specs.Ranges.{factorRange};
+ghost use Rattle.cholesky.specs.Factoring.{factoring};
+ghost use Rattle.cholesky.specs.Store.{upper, Stored};
+ghost use Rattle.cholesky.specs.Rows.{Sized, Rowed, TakenOff, ColumnTaken, ColumnsTaken, RowTaken, Started};
 use tables::FACTOR_RANGE;
 
 // The end of a factoring: it ends, or it stops in a column, after some rows of it. Both are counted from 0.
@@ -16,83 +19,93 @@ pub enum Outcome {
     Stops(usize, usize),
 }
 
-// The sum over k < count of t(k,i) t(k,j).
-pub fn dot(t: &[i64; 64], i: usize, j: usize, count: usize) -> i64
-    requires { ⌜ (i < 8) × (j < 8) × (count ≤ 8) × SmallColumn (now t) i count × SmallColumn (now t) j count ⌝ }
-    ensures { λ r. ⌜ r ≡ sum count (λ k. upper (now (t .entry)) k i *ℤ upper (now (t .entry)) k j) ⌝ }
+// Takes r(i,a) r off each entry (a, j) from row i + 1 to the diagonal; r is r(i,j).
+fn take_off(s: &mut [i64; 64], i: usize, j: usize, r: i64)
+    requires { ⌜ Rowed (now s) i j (suc j) × Within factorRange r ⌝ }
+    ensures { λ x. ⌜ TakenOff (now (s .entry)) i j r (suc j) (now (s .exit)) ⌝ }
 {
-    let mut s: i64 = 0;
-    let mut k = 0;
-    while k < count {
-        s += t[8 * i + k] * t[8 * j + k];
-        k += 1;
-    }
-    s
-}
-
-// The entry r(i,j).
-fn entry(h: &[i64; 64], t: &[i64; 64], i: usize, j: usize) -> i64
-    requires { ⌜ (i < j) × Ready (now h) (now t) j × SmallColumn (now t) j i ⌝ }
-    ensures { λ r. ⌜ r ≡ entryAt (now (h .entry)) (now (t .entry)) i j ⌝ }
-{
-    integers::floor_div(h[8 * j + i] - dot(t, i, j, i), t[8 * i + i])
-}
-
-// Works out row i of column j, stores its entry, and answers what is left of the rest: below 1 where factoring stops.
-fn row(h: &[i64; 64], t: &mut [i64; 64], i: usize, j: usize, rest: i64) -> i64
-    requires { ⌜ (i < j) × Ready (now h) (now t) j × SmallColumn (now t) j i × Within (2 ^ 52) rest ⌝ }
-    ensures { λ r. ⌜ Row (now (h .entry)) (now (t .entry)) i j rest r (now (t .exit)) ⌝ }
-{
-    let r = entry(h, t, i, j);
-    t[8 * j + i] = r;
-    if tables::within(r, FACTOR_RANGE) {
-        rest - r * r
-    } else {
-        0
+    let mut a = i + 1;
+    while a <= j {
+        s[8 * j + a] -= s[8 * a + i] * r;
+        a += 1;
     }
 }
 
-// Ends column j with its diagonal entry, unless the rest is below 1.
-fn finish(t: &mut [i64; 64], j: usize, rest: i64) -> usize
-    requires { ⌜ j < 8 ⌝ }
-    ensures { λ r. ⌜ Finished (now (t .entry)) j rest r (now (t .exit)) ⌝ }
+// Column j of row i, whose diagonal entry is d. False where r(i,j) passes a factor's range or less than 1 is left of entry (j, j).
+fn take_column(s: &mut [i64; 64], i: usize, j: usize, d: i64) -> bool
+    requires { ⌜ Rowed (now s) i j j × (pos 1 ≤ℤ d) ⌝ }
+    ensures { λ x. ⌜ ColumnTaken (now (s .entry)) i j (floorDiv (upper (now (s .entry)) i j) d) x (now (s .exit)) ⌝ }
 {
-    if rest < 1 {
-        return j;
+    let r = integers::floor_div(s[8 * j + i], d);
+    s[8 * j + i] = r;
+    if !tables::within(r, FACTOR_RANGE) {
+        return false;
     }
-    t[8 * j + j] = integers::whole_root(rest);
-    j + 1
+    take_off(s, i, j, r);
+    1 <= s[8 * j + j]
 }
 
-// Makes column j, after the columns before it. Answers how many of its entries were worked out: j + 1 where it is done.
-fn column(h: &[i64; 64], t: &mut [i64; 64], j: usize) -> usize
-    requires { ⌜ Ready (now h) (now t) j ⌝ }
-    ensures { λ r. ⌜ Made (nextColumn (upper (now (h .entry))) (columnsOf (now (t .entry)) j)) j r (now (t .entry)) (now (t .exit)) ⌝ }
+// Works out row i to the right of its diagonal entry d, in the columns before end. The divisions do not wait for each other. Answers the column that
+// stopped, or end.
+pub fn take_columns(s: &mut [i64; 64], i: usize, end: usize, d: i64) -> usize
+    requires { ⌜ Sized (now s) end i × (i < end) × (pos 1 ≤ℤ d) × (d ≡ wholeRoot (upper (now s) i i)) ⌝ }
+    ensures { λ r. ⌜ ColumnsTaken (now (s .entry)) i end r (now (s .exit)) ⌝ }
 {
-    let mut rest = h[8 * j + j];
-    let mut i = 0;
-    while i < j {
-        if rest < 1 {
-            return i;
+    let mut j = i + 1;
+    while j < end {
+        if !take_column(s, i, j, d) {
+            return j;
         }
-        rest = row(h, t, i, j, rest);
-        i += 1;
+        j += 1;
     }
-    finish(t, j, rest)
+    end
 }
 
-// Factors H of order n into the columns of t.
-pub fn factor(h: &[i64; 64], n: usize, t: &mut [i64; 64]) -> Outcome
-    requires { ⌜ Heights (now h) n × (length (now t) ≡ 64) ⌝ }
-    ensures { λ r. ⌜ Stored (factoring n (upper (now (h .entry)))) r (now (t .exit)) ⌝ }
+// Works out row i in the columns before end: its diagonal entry is the root of what is left there.
+fn take_row(s: &mut [i64; 64], i: usize, end: usize) -> usize
+    requires { ⌜ Sized (now s) end i × (i < end) × (pos 1 ≤ℤ upper (now s) i i) ⌝ }
+    ensures { λ r. ⌜ RowTaken (now (s .entry)) i end r (now (s .exit)) ⌝ }
+{
+    let d = integers::whole_root(s[8 * i + i]);
+    let stop = take_columns(s, i, end, d);
+    s[8 * i + i] = d;
+    stop
+}
+
+// The first column whose diagonal entry is below 1, or n: it stops with no row.
+fn start(s: &[i64; 64], n: usize) -> usize
+    requires { ⌜ Sized (now s) n 0 ⌝ }
+    ensures { λ r. ⌜ Started (now (s .entry)) n r ⌝ }
 {
     let mut j = 0;
     while j < n {
-        let rows = column(h, t, j);
-        if rows <= j {
-            return Outcome::Stops(j, rows);
+        if s[8 * j + j] < 1 {
+            return j;
         }
         j += 1;
+    }
+    n
+}
+
+// Factors H of order n, which s holds, into the factor's columns. Where a column stops, the columns from it on are left out, and one before it may stop yet:
+// the last stop seen is that of the first column.
+pub fn factor(n: usize, s: &mut [i64; 64]) -> Outcome
+    requires { ⌜ Sized (now s) n 0 ⌝ }
+    ensures { λ r. ⌜ Stored (factoring n (upper (now (s .entry)))) r (now (s .exit)) ⌝ }
+{
+    let mut end = start(s, n);
+    let mut rows = 0;
+    let mut i = 0;
+    while i < end {
+        let stop = take_row(s, i, end);
+        i += 1;
+        if stop < end {
+            end = stop;
+            rows = i;
+        }
+    }
+    if end < n {
+        return Outcome::Stops(end, rows);
     }
     Outcome::Ends
 }

@@ -15,9 +15,8 @@ pub fn factor_tables(n: usize, low: &[i64], high: &[i64], t: &mut [i64; 64]) -> 
     requires { ⌜ Checked n (now low) (now high) × (length (now t) ≡ 64) ⌝ }
     ensures { λ r. ⌜ Stored (factoring n (scaled takeOff n (at n (now (low .entry))) (at n (now (high .entry))))) r (now (t .exit)) ⌝ }
 {
-    let mut h = [0i64; 64];
-    scale(n, low, high, &mut h);
-    factor(&h, n, t)
+    scale(n, low, high, t);
+    factor(n, t)
 }
 
 // Whether factoring the tables of L and U, of order n, ends.

@@ -2,10 +2,14 @@
 // L and U lie row by row, entry (i, j) at n i + j. H lies column by column, entry (i, j) at 8 j + i, down to the diagonal.
 ghost use mathlib.Core.Path.{_≡_};
 ghost use Prim.Native.Nat.{suc, _<_};
+ghost use lib.IntN.{_+ℤ_, _*ℤ_};
 ghost use lib.ListN.{length};
 ghost use Rattle.tables.specs.Matrix.{at, rowWidth};
-ghost use Rattle.cholesky.specs.Scale.{takeOff, scaled};
+ghost use Rattle.cholesky.specs.Scale.{halfScale, takeOff, scaled};
 ghost use Rattle.cholesky.specs.Scaling.{Lent, Scaled};
+
+// A factor R is held against 2^32 M.
+pub const SCALE: i64 = 1 << 32;
 
 // H is 2^32 times the middle of L and U, so 2^31 times their sum.
 const HALF_SCALE: i64 = 1 << 31;
@@ -28,17 +32,21 @@ fn row_width(n: usize, low: &[i64], high: &[i64], i: usize) -> i64
     w
 }
 
-// H(i,j).
-fn scaled(n: usize, low: &[i64], high: &[i64], i: usize, j: usize) -> i64
+// 2^31 (L(i,j) + U(i,j)): H(i,j) off the diagonal.
+fn middle(n: usize, low: &[i64], high: &[i64], i: usize, j: usize) -> i64
     requires { ⌜ Lent n (now low) (now high) × (i < n) × (j < n) ⌝ }
-    ensures { λ r. ⌜ r ≡ scaled takeOff n (at n (now (low .entry))) (at n (now (high .entry))) i j ⌝ }
+    ensures { λ r. ⌜ r ≡ halfScale *ℤ (at n (now (low .entry)) i j +ℤ at n (now (high .entry)) i j) ⌝ }
 {
     let at = i * n + j;
-    let middle = HALF_SCALE * (low[at] + high[at]);
-    if i == j {
-        return middle - (TAKE_OFF + HALF_SCALE * row_width(n, low, high, i));
-    }
-    middle
+    HALF_SCALE * (low[at] + high[at])
+}
+
+// H(j,j).
+fn diagonal(n: usize, low: &[i64], high: &[i64], j: usize) -> i64
+    requires { ⌜ Lent n (now low) (now high) × (j < n) ⌝ }
+    ensures { λ r. ⌜ r ≡ scaled takeOff n (at n (now (low .entry))) (at n (now (high .entry))) j j ⌝ }
+{
+    middle(n, low, high, j, j) - (TAKE_OFF + HALF_SCALE * row_width(n, low, high, j))
 }
 
 // Fills column j of h, after the columns before it.
@@ -47,10 +55,11 @@ fn scale_column(n: usize, low: &[i64], high: &[i64], j: usize, h: &mut [i64; 64]
     ensures { λ r. ⌜ Scaled n (at n (now (low .entry))) (at n (now (high .entry))) (now (h .exit)) (suc j) ⌝ }
 {
     let mut i = 0;
-    while i <= j {
-        h[8 * j + i] = scaled(n, low, high, i, j);
+    while i < j {
+        h[8 * j + i] = middle(n, low, high, i, j);
         i += 1;
     }
+    h[8 * j + j] = diagonal(n, low, high, j);
 }
 
 // Fills h with the matrix H of order n: each entry once, down to the diagonal.

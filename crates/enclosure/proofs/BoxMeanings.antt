@@ -12,9 +12,8 @@ use Rattle.tables.specs.declared.Checked.{Checked}
 use Rattle.tables.specs.declared.Checked.the-variants.{Passed, Refused}
 use Rattle.tables.proofs.Checks.{first-passed, order-of}
 use Rattle.enclosure.specs.Box.{Box, sides, empty, refused, boxAnswer}
-use Rattle.enclosure.specs.Points.{Says}
 use Rattle.enclosure.specs.Act.{Enclosed, handed, enclose, Meaning}
-use Rattle.enclosure.proofs.Enclosing.{answer-says}
+use Rattle.enclosure.proofs.Enclosing.{Says, answer-says}
 
 -- the sides as they are
 abbrev whole : Box → List ℤ → Enclosed (List ℤ)

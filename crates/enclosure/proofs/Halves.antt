@@ -17,7 +17,7 @@ use Rattle.integers.proofs.Order.{<-suc, *ℤ-mono, *ℤ-cancel, square-cancel,
 use Rattle.integers.proofs.Sums.{sum-ext, sum-+, sum-*, sum-mono, sum-nonneg, term-≤-sum}
 use Rattle.integers.proofs.Division.{ceil-law}
 use Rattle.integers.proofs.Roots.{leastRoot-nonneg, leastRoot-law}
-use Rattle.sides.specs.Sides.{bound, firstHalf, secondBound, halfSide}
+use Rattle.sides.specs.Sides.{bound, firstHalf, secondBound, smallerHalf, halfSide}
 
 -- x is not 0 or less
 pub one-of : (x : ℤ) → leZ x (pos 0) ≡ false → pos 1 ≤ℤ x
@@ -151,7 +151,7 @@ module _ {n : ℕ} {p q D t F : ℤ} {g Y : ℕ → ℤ} (N : Near n p q D t F g
       (strong & value-high & *ℤ-mono (*ℤ-nonneg (square-nonneg p) q-nonneg) (leastRoot-law u B2 h)) (search solver depth 40 fits 20000) (omega arith))))
 
   pub half-side : (tk : ℕ → ℤ) (k : ℕ) → k < n → (pos 1 ≤ℤ tk k → (q *ℤ tk k *ℤ (Y k *ℤ Y k)) ≤ℤ F) → absℤ (Y k) ≤ℤ (p *ℤ halfSide n D t g tk k)
-  unfolding halfSide
+  unfolding halfSide smallerHalf
   half-side tk k h strong = go (leZ (tk k) (pos 0)) (one-of (tk k))
     where
       go : (b : Bool) → (b ≡ false → pos 1 ≤ℤ tk k) →

@@ -39,12 +39,13 @@ fn bounded(
     ensures { λ r. ⌜ Stated (boxed n (at n (now (low .entry))) (at n (now (high .entry))) (nth (now (linear .entry))) limit (nth (now (centre .entry)))) n r (now (out .exit)) ⌝ }
 {
     let t = steps::step(n, low, high);
+    let mut g = [0i64; 8];
+    gradients(n, low, high, linear, centre, &mut g);
+    let close = near(n, &g);
     if t <= 0 {
         return BoxAnswer::Refused(Refusal::Flat);
     }
-    let mut g = [0i64; 8];
-    gradients(n, low, high, linear, centre, &mut g);
-    if !near(n, &g) {
+    if !close {
         return BoxAnswer::Refused(Refusal::Far);
     }
     let mut tk = [0i64; 8];

@@ -1,29 +1,27 @@
 -- Zeros behind a table change no check and no answer: the code loads a buffer's n² numbers into 64.
-use mathlib.Core.Path.{_≡_, ap, ap₂}
+use mathlib.Core.Path.{_≡_, ap, ap₂, _∙_}
 use mathlib.Core.List.{List, _++_}
-use Prim.Native.Nat.{ℕ, _*_, _≤_}
+use Prim.Native.Nat.{ℕ, _*_, _-_, _≤_}
 use native.Mathlib.Omega.{arith}
 use mir.Syntax.{w64}
 use lib.IntN.{ℤ, pos}
-use lib.ListN.{length, replicate}
+use lib.ListN.{length, drop, replicate, length-append}
 use lib.Signed.{leZ}
-use Rattle.words.specs.Numbers.{paddedNumbersOf}
-use Rattle.words.proofs.Laws.{length-paddedNumbersOf}
-use Rattle.tables.specs.Ranges.{entryRange, vectorRange, linearRange, centreRange}
+use Rattle.words.specs.Numbers.{numbersOf}
+use Rattle.words.proofs.Lists.{drop-replicate}
+use Rattle.words.proofs.Laws.{length-numbersOf}
+use Rattle.tables.specs.Ranges.{greatestOrder, entryRange, vectorRange, linearRange, centreRange}
 use Rattle.tables.specs.Matrix.{Matrix}
 use Rattle.tables.specs.Checks.{all, within, allWithin, nowhereCrossed, same, symmetric, tableChecks, problemChecks}
-use Rattle.tables.proofs.Matrix.{nth-padded, at-padded}
+use Rattle.tables.proofs.Matrix.{at-most-64, nth-padded, at-padded}
 use Rattle.residual.specs.FactorTest.{factorAnswer}
 use Rattle.vectors.specs.VectorTest.{vectorShape, vectorAnswer}
 use Rattle.verdict.specs.Judge.{judgement}
 use Rattle.enclosure.specs.Box.{boxAnswer}
+use Rattle.hankboulder.specs.Entries.{tableOf, vectorOf}
 
 abbrev zeros : ℕ → List ℤ
 zeros m = replicate m (pos 0)
-
--- what a buffer's k numbers are loaded into has room for them
-pub loaded : {m k : ℕ} (s : List ℕ) {x : List ℤ} → x ≡ paddedNumbersOf w64 m s k → k ≤ m → k ≤ length x
-loaded {m} {k} s e h = omega (arith, ap length e, length-paddedNumbersOf w64 m s k h)
 
 range-padded : (b m k : ℕ) (x : List ℤ) → allWithin b m (x ++ zeros k) ≡ allWithin b m x
 unfolding allWithin
@@ -42,19 +40,45 @@ unfolding tableChecks
 checks-padded n i j x y =
     rw (range-padded entryRange (n * n) i x, range-padded entryRange (n * n) j y, crossed-padded (n * n) i j x y, symmetric-padded n i x, symmetric-padded n j y)
 
-pub factor-padded : (n i j k : ℕ) (x y z : List ℤ) → factorAnswer n (x ++ zeros i) (y ++ zeros j) (z ++ zeros k) ≡ factorAnswer n x y z
+factor-padded : (n i j k : ℕ) (x y z : List ℤ) → factorAnswer n (x ++ zeros i) (y ++ zeros j) (z ++ zeros k) ≡ factorAnswer n x y z
 unfolding factorAnswer
 factor-padded n i j k x y z = rw (checks-padded n i j x y, at-padded n x i, at-padded n y j, at-padded n z k)
 
-pub vector-padded : (n i j k : ℕ) (x y z : List ℤ) → vectorAnswer n (x ++ zeros i) (y ++ zeros j) (z ++ zeros k) ≡ vectorAnswer n x y z
+vector-padded : (n i j k : ℕ) (x y z : List ℤ) → vectorAnswer n (x ++ zeros i) (y ++ zeros j) (z ++ zeros k) ≡ vectorAnswer n x y z
 unfolding vectorAnswer vectorShape
 vector-padded n i j k x y z = rw (checks-padded n i j x y, at-padded n x i, at-padded n y j, range-padded vectorRange n k z, nth-padded z k)
 
-pub judgement-padded : (n i j : ℕ) (x y : List ℤ) → judgement n (x ++ zeros i) (y ++ zeros j) ≡ judgement n x y
+judgement-padded : (n i j : ℕ) (x y : List ℤ) → judgement n (x ++ zeros i) (y ++ zeros j) ≡ judgement n x y
 unfolding judgement
 judgement-padded n i j x y = rw (checks-padded n i j x y, at-padded n x i, at-padded n y j)
 
-pub box-padded : (n i j k m : ℕ) (x y a : List ℤ) (α : ℤ) (c : List ℤ) → boxAnswer n (x ++ zeros i) (y ++ zeros j) (a ++ zeros k) α (c ++ zeros m) ≡ boxAnswer n x y a α c
+box-padded : (n i j k m : ℕ) (x y a : List ℤ) (α : ℤ) (c : List ℤ) → boxAnswer n (x ++ zeros i) (y ++ zeros j) (a ++ zeros k) α (c ++ zeros m) ≡ boxAnswer n x y a α c
 unfolding boxAnswer problemChecks
 box-padded n i j k m x y a α c =
     rw (range-padded linearRange n k a, range-padded centreRange n m c, checks-padded n i j x y, at-padded n x i, at-padded n y j, nth-padded a k, nth-padded c m)
+
+-- ---- a buffer's k numbers are loaded over m zeros
+abbrev pub Loaded : ℕ → ℕ → List ℕ → List ℤ → Type 0
+Loaded m k s x = x ≡ numbersOf w64 s k ++ drop k (zeros m)
+
+module _ {m k : ℕ} (s : List ℕ) {x : List ℤ} (e : Loaded m k s x) (h : k ≤ m) where
+  padded : x ≡ numbersOf w64 s k ++ zeros (m - k)
+  padded = e ∙ ap (λ (z : List ℤ). numbersOf w64 s k ++ z) (drop-replicate m k (pos 0) h)
+
+  pub room : k ≤ length x
+  room = omega (arith, ap length padded ∙ length-append (numbersOf w64 s k) (zeros (m - k)), length-numbersOf w64 s k)
+
+-- the acts on what was loaded
+module _ (n : ℕ) (h : n ≤ greatestOrder) (l u : List ℕ) {x y : List ℤ} (ex : Loaded 64 (n * n) l x) (ey : Loaded 64 (n * n) u y) where
+  pub factor-loaded : (f : List ℕ) {z : List ℤ} → Loaded 64 (n * n) f z → factorAnswer n x y z ≡ factorAnswer n (tableOf n l) (tableOf n u) (tableOf n f)
+  factor-loaded f ez = let m = at-most-64 h in rw (padded l ex m, padded u ey m, padded f ez m) (factor-padded n (64 - n * n) (64 - n * n) (64 - n * n) _ _ _)
+
+  pub vector-loaded : (v : List ℕ) {z : List ℤ} → Loaded 8 n v z → vectorAnswer n x y z ≡ vectorAnswer n (tableOf n l) (tableOf n u) (vectorOf n v)
+  vector-loaded v ez = let m = at-most-64 h in rw (padded l ex m, padded u ey m, padded v ez h) (vector-padded n (64 - n * n) (64 - n * n) (8 - n) _ _ _)
+
+  pub judgement-loaded : judgement n x y ≡ judgement n (tableOf n l) (tableOf n u)
+  judgement-loaded = let m = at-most-64 h in rw (padded l ex m, padded u ey m) (judgement-padded n (64 - n * n) (64 - n * n) _ _)
+
+  pub box-loaded : (a c : List ℕ) (α : ℤ) {v w : List ℤ} → Loaded 8 n a v → Loaded 8 n c w →
+      boxAnswer n x y v α w ≡ boxAnswer n (tableOf n l) (tableOf n u) (vectorOf n a) α (vectorOf n c)
+  box-loaded a c α ev ew = let m = at-most-64 h in rw (padded l ex m, padded u ey m, padded a ev h, padded c ew h) (box-padded n (64 - n * n) (64 - n * n) (8 - n) (8 - n) _ _ _ _ _)

@@ -1,7 +1,7 @@
--- What the judge stores: the bytes of the factor's table, or of the vector; and what is read back from them.
+-- What the entries store: the bytes of a vector or of the sides; and what is read back from them.
 use mathlib.Core.Path.{_≡_, refl, sym, ap, ap₂, _∙_}
 use mathlib.Core.List.{List, [], _++_, append-nil}
-use Prim.Native.Nat.{ℕ, zero, suc, _/_, _%_, _*_, _^_, _<_}
+use Prim.Native.Nat.{ℕ, zero, suc, _*_, _^_, _<_}
 use native.Mathlib.Omega.{arith}
 use lib.IntN.{ℤ}
 use lib.ListN.{length, drop}
@@ -13,9 +13,8 @@ use Rattle.integers.proofs.Machine.{fits-within}
 use Rattle.words.specs.Numbers.{toLeBytes, numbersOf, bytesOf}
 use Rattle.words.proofs.Laws.{numbersOf-bytesOf}
 use Rattle.words.proofs.Lists.{append-drop-end}
-use Rattle.tables.specs.Matrix.{Matrix, nth, table, tabulate}
-use Rattle.tables.proofs.Matrix.{inside, row-inside, column-inside, nth-at, at-table, nth-tabulate}
-use Rattle.verdict.specs.FactorTable.{Written}
+use Rattle.tables.specs.Matrix.{nth, tabulate}
+use Rattle.tables.proofs.Matrix.{nth-tabulate}
 
 -- the bytes of the first k numbers rest on these alone
 bytesOf-ext : (w : Width) (a b : List ℤ) (k : ℕ) → ((i : ℕ) → i < k → nth a i ≡ nth b i) → bytesOf w a k ≡ bytesOf w b k
@@ -24,22 +23,12 @@ bytesOf-ext w a b zero h = refl
 bytesOf-ext w a b (suc k) h =
     ap₂ (λ (x y : List ℕ). x ++ y) (bytesOf-ext w a b k (λ i l. h i (omega arith))) (ap (λ (z : ℤ). toLeBytes (bytes w) (ofZ w z)) (h k (omega arith)))
 
--- ---- a buffer of exactly their size is written whole
-module _ (s : List ℕ) where
-  pub factor-stored : (n : ℕ) (M : Matrix) (f : List ℤ) → Written n M f (n * n) → length s ≡ n * n * bytes w64 →
-      bytesOf w64 f (n * n) ++ drop (n * n * bytes w64) s ≡ bytesOf w64 (table n M) (n * n)
-  factor-stored n M f w e =
-      append-drop-end (bytesOf w64 f (n * n)) s (n * n * bytes w64) (omega (arith, e))
-      ∙ bytesOf-ext w64 f (table n M) (n * n) (λ k h.
-      let r = row-inside n k h in
-      let c = column-inside n k h in
-      nth-at n k f ∙ w .entries (k / n) (k % n) c (inside r c) ∙ sym (nth-at n k (table n M) ∙ at-table n M (k / n) (k % n) r c))
+-- a buffer of exactly their size is written whole
+pub vector-stored : (s : List ℕ) (n : ℕ) (x : List ℤ) → length s ≡ n * bytes w64 → bytesOf w64 x n ++ drop (n * bytes w64) s ≡ bytesOf w64 (tabulate n (nth x)) n
+vector-stored s n x e =
+    append-drop-end (bytesOf w64 x n) s (n * bytes w64) (omega (arith, e)) ∙ bytesOf-ext w64 x (tabulate n (nth x)) n (λ i h. sym (nth-tabulate n (nth x) i h))
 
-  pub vector-stored : (n : ℕ) (x : List ℤ) → length s ≡ n * bytes w64 → bytesOf w64 x n ++ drop (n * bytes w64) s ≡ bytesOf w64 (tabulate n (nth x)) n
-  vector-stored n x e =
-      append-drop-end (bytesOf w64 x n) s (n * bytes w64) (omega (arith, e)) ∙ bytesOf-ext w64 x (tabulate n (nth x)) n (λ i h. sym (nth-tabulate n (nth x) i h))
-
--- ---- and read back
+-- and read back
 pub read-numbers : {m b : ℕ} (x : List ℤ) → length x ≡ m → ((i : ℕ) → Within b (nth x i)) → b < 2 ^ 63 → numbersOf w64 (bytesOf w64 x m) m ≡ x
 read-numbers {m} x e z h =
     ap (λ (s : List ℕ). numbersOf w64 s m) (sym (append-nil (bytesOf w64 x m)))

@@ -4,11 +4,11 @@ use mathlib.Core.Bool.{Bool}
 use mathlib.Core.List.{List}
 use Prim.Native.Nat.{ℕ, _+_, _*_}
 use lib.IntN.{ℤ, pos, negsuc, natAbs}
-use lib.ListN.{length}
+use lib.ListN.{length, take}
 use mir.Syntax.{w64}
 use mir.Val.{bytes}
 use Rattle.words.specs.Numbers.{numbersOf, bytesOf}
-use Rattle.tables.specs.Matrix.{at, nth}
+use Rattle.tables.specs.Matrix.{Matrix, at, nth, table}
 use Rattle.tables.specs.Checks.{sizesOk, firstRefusal}
 use Rattle.tables.specs.Answers.{after, entryChecks, answerCode}
 use Rattle.tables.specs.declared.Answer.the-variants as Answer
@@ -61,6 +61,10 @@ pub record VectorMeaning (r n : ℤ) (l u v : List ℕ) : Type 0 where
 -- the factor's table or the vector is written, 8 bytes for each number; the other buffer is kept
 abbrev pub stored : ℕ → Judgement → List ℕ → List ℕ → Judged (List ℕ)
 stored n = handed (λ t. bytesOf w64 t (n * n)) (λ x. bytesOf w64 x n)
+
+-- the bytes of the first k numbers of M's table, of order n, stand at the front of a buffer
+abbrev pub Front : ℕ → Matrix → List ℕ → ℕ → Type 0
+Front n M s k = take (k * bytes w64) s ≡ bytesOf w64 (table n M) k
 
 -- checks 1 and 2, and then the judge of the numbers that the buffers spell
 unfoldable pub judgeStored : ℤ → List ℕ → List ℕ → List ℕ → List ℕ → Judged (List ℕ)

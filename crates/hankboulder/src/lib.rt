@@ -1,7 +1,7 @@
 // The entries for C, over bytes.
 ghost use mathlib.Core.Path.{_≡_};
 ghost use mathlib.Core.List.{List};
-ghost use Prim.Native.Nat.{ℕ, _+_, _*_, _≤_, _<_};
+ghost use Prim.Native.Nat.{ℕ, suc, _+_, _*_, _≤_, _<_};
 ghost use lib.IntN.{pos, natAbs};
 ghost use lib.ListN.{length};
 ghost use mir.Syntax.{w64};
@@ -14,7 +14,7 @@ ghost use Rattle.vectors.specs.VectorTest.{vectorAnswer};
 ghost use Rattle.verdict.specs.Judge.{Judged, verdictCode, judgement};
 ghost use Rattle.residual.specs.Slack.{triangle};
 ghost use Rattle.words.specs.Numbers.{bytesOf};
-ghost use Rattle.hankboulder.specs.Entries.{tableOf, testFactorEntry, vectorOf, testVectorEntry, VectorMeaning, stored, JudgeAnswer, judgeEntry, JudgeMeaning, storedSides, BoxEntry, boxEntry, BoxMeaning};
+ghost use Rattle.hankboulder.specs.Entries.{tableOf, testFactorEntry, vectorOf, testVectorEntry, VectorMeaning, Front, stored, JudgeAnswer, judgeEntry, JudgeMeaning, storedSides, BoxEntry, boxEntry, BoxMeaning};
 ghost use Rattle.enclosure.specs.Box.{boxAnswer};
 ghost use Rattle.enclosure.specs.Act.{Enclosed, boxCode};
 ghost use Rattle.enclosure.specs.Stating.{Stated};
@@ -30,13 +30,16 @@ fn answer_factor(n: usize, low: &[u8], high: &[u8], factor: &[u8]) -> Answer
     ensures { λ r. ⌜ r ≡ factorAnswer n (tableOf n (now (low .entry))) (tableOf n (now (high .entry))) (tableOf n (now (factor .entry))) ⌝ }
 {
     let count = n * n;
-    let l = words::load_table(low, count);
-    let u = words::load_table(high, count);
-    let f = words::load_table(factor, count);
+    let mut l = [0i64; 64];
+    words::load_numbers(low, &mut l, count, SIZE);
+    let mut u = [0i64; 64];
+    words::load_numbers(high, &mut u, count, SIZE);
+    let mut f = [0i64; 64];
+    words::load_numbers(factor, &mut f, count, SIZE);
     residual::factor_test::answer(n, &l, &u, &f)
 }
 
-// Tests an offered factor: 0 accepted, -1 not accepted, else the refusal's number. Nothing is written.
+// Tests an offered factor, and answers by `tables::answer_code`. Nothing is written.
 #[no_mangle]
 pub extern "C" fn hb_test_factor(n: i64, low: &[u8], high: &[u8], factor: &[u8]) -> i64
     ensures exact { λ r. ⌜ r ≡ testFactorEntry n (now (low .entry)) (now (high .entry)) (now (factor .entry)) ⌝ }
@@ -59,13 +62,16 @@ fn answer_vector(n: usize, low: &[u8], high: &[u8], vector: &[u8]) -> Answer
     ensures { λ r. ⌜ r ≡ vectorAnswer n (tableOf n (now (low .entry))) (tableOf n (now (high .entry))) (vectorOf n (now (vector .entry))) ⌝ }
 {
     let count = n * n;
-    let l = words::load_table(low, count);
-    let u = words::load_table(high, count);
-    let x = words::load_vector(vector, n);
+    let mut l = [0i64; 64];
+    words::load_numbers(low, &mut l, count, SIZE);
+    let mut u = [0i64; 64];
+    words::load_numbers(high, &mut u, count, SIZE);
+    let mut x = [0i64; 8];
+    words::load_numbers(vector, &mut x, n, SIZE);
     vectors::vector_test::answer(n, &l, &u, &x)
 }
 
-// Tests an offered vector: 0 yes, it shows 'not definite', -1 no, else the refusal's number. Nothing is written.
+// Tests whether an offered vector shows 'not definite', and answers by `tables::answer_code`. Nothing is written.
 #[no_mangle]
 pub extern "C" fn hb_test_vector(n: i64, low: &[u8], high: &[u8], vector: &[u8]) -> i64
     ensures exact { λ r. ⌜ r ≡ testVectorEntry n (now (low .entry)) (now (high .entry)) (now (vector .entry)) ⌝ }
@@ -93,14 +99,30 @@ fn verdict_code(v: Verdict) -> i64
     }
 }
 
-// Writes the factor whose columns stand in t: n² numbers.
-fn write_factor(n: usize, t: &[i64; 64], factor: &mut [u8])
+// Stores row i of the factor whose columns stand in t, behind the rows before it.
+fn store_row(n: usize, t: &[i64; 64], i: usize, factor: &mut [u8])
+    requires { ⌜ (n ≤ greatestOrder) × (i < n) × (n * n * bytes w64 ≤ length (now factor)) × Front n (triangle (now t)) (now factor) (i * n) ⌝ }
+    ensures { λ r. ⌜ Front n (triangle (now (t .entry))) (now (factor .exit)) (suc i * n) ⌝ }
+{
+    let start = i * n;
+    let mut j = 0;
+    while j < n {
+        let v = verdict::factor_table::factor_entry(t, i, j);
+        words::store_i64(factor, (start + j) * SIZE, v);
+        j += 1;
+    }
+}
+
+// Stores the factor whose columns stand in t: n² numbers.
+fn store_factor(n: usize, t: &[i64; 64], factor: &mut [u8])
     requires { ⌜ (n ≤ greatestOrder) × (length (now factor) ≡ n * n * bytes w64) ⌝ }
     ensures { λ r. ⌜ now (factor .exit) ≡ bytesOf w64 (table n (triangle (now (t .entry)))) (n * n) ⌝ }
 {
-    let mut f = [0i64; 64];
-    verdict::factor_table::write_factor(n, t, &mut f);
-    words::store_numbers(&f, factor, n * n);
+    let mut i = 0;
+    while i < n {
+        store_row(n, t, i, factor);
+        i += 1;
+    }
 }
 
 // Checks 3, 4 and 5, the verdict, and the factor or the vector that goes with it, on buffers of the sizes that n calls for.
@@ -109,14 +131,16 @@ fn judge_buffers(n: usize, low: &[u8], high: &[u8], factor: &mut [u8], vector: &
     ensures { λ r. ⌜ _≡_ {A = Judged (List ℕ)} (record { verdict = r; factor = now (factor .exit); vector = now (vector .exit) }) (stored n (judgement n (tableOf n (now (low .entry))) (tableOf n (now (high .entry)))) (now (factor .entry)) (now (vector .entry))) ⌝ }
 {
     let count = n * n;
-    let l = words::load_table(low, count);
-    let u = words::load_table(high, count);
+    let mut l = [0i64; 64];
+    words::load_numbers(low, &mut l, count, SIZE);
+    let mut u = [0i64; 64];
+    words::load_numbers(high, &mut u, count, SIZE);
     let mut t = [0i64; 64];
     let mut x = [0i64; 8];
     let verdict = verdict::judge::decide(n, &l, &u, &mut t, &mut x);
     match verdict {
         Verdict::Definite => {
-            write_factor(n, &t, factor);
+            store_factor(n, &t, factor);
             Verdict::Definite
         }
         Verdict::NotDefinite => {
@@ -183,10 +207,14 @@ fn box_numbers(
     ensures { λ r. ⌜ Stated (boxAnswer n (tableOf n (now (low .entry))) (tableOf n (now (high .entry))) (vectorOf n (now (linear .entry))) limit (vectorOf n (now (centre .entry)))) n r (now (x .exit)) ⌝ }
 {
     let count = n * n;
-    let l = words::load_table(low, count);
-    let u = words::load_table(high, count);
-    let a = words::load_vector(linear, n);
-    let c = words::load_vector(centre, n);
+    let mut l = [0i64; 64];
+    words::load_numbers(low, &mut l, count, SIZE);
+    let mut u = [0i64; 64];
+    words::load_numbers(high, &mut u, count, SIZE);
+    let mut a = [0i64; 8];
+    words::load_numbers(linear, &mut a, n, SIZE);
+    let mut c = [0i64; 8];
+    words::load_numbers(centre, &mut c, n, SIZE);
     enclosure::enclose::answer(n, &l, &u, &a, limit, &c, x)
 }
 

@@ -5,9 +5,9 @@ use Prim.Native.Nat.{_+_, _*_, _/_, _≤_, _<_}
 use native.Mathlib.Nat.{div-add-mod', mod-lt, div-le-self}
 use native.Mathlib.Omega.{arith}
 use lib.IntN.{ℤ, pos, negsuc, negℤ, natAbs, _+ℤ_, _-ℤ_, _*ℤ_}
-use lib.Signed.{_≤ℤ_, _<ℤ_, quotZ}
+use lib.Signed.{_≤ℤ_, _<ℤ_, mag}
 use Rattle.integers.specs.Division.{floorDiv, ceilDiv}
-use Rattle.integers.proofs.Parts.{≤-in, <-in, ≡-in, ≤-out, <-out, ≤ℤ-antisym, *ℤ-nonneg, gap-nonneg, pos-nonneg, product-diff, sum-diff, minus-diff, self-diff}
+use Rattle.integers.proofs.Parts.{≤-in, <-in, ≡-in, ≤-out, <-out, ≤ℤ-antisym, *ℤ-nonneg, gap-nonneg, product-diff, sum-diff, minus-diff, self-diff}
 use Rattle.integers.proofs.Solver.{_&_, order, solver}
 use Rattle.integers.proofs.Order.{Between, <-suc, ≤-unless}
 
@@ -83,7 +83,7 @@ ceil-unique {a} {d} {q} h k =
     (≤-unless (λ e. order (a ∷ d ∷ q ∷ ceilDiv a d ∷ []) (*ℤ-nonneg (gap-nonneg h) (gap-nonneg (<-suc e)) & ceil-law a d h .high & k .low & e)
     (search solver depth 40 fits 20000) (omega arith)))
 
--- ---- the form that the code takes: -1 - a, which is not negative where a is
+-- ---- the form that the code takes: by the magnitude, which is -1 - a where a is negative, and a elsewhere
 abbrev pub flip : ℤ → ℤ
 flip (pos n) = negsuc n
 flip (negsuc n) = pos n
@@ -92,18 +92,20 @@ pub flip-is : (a : ℤ) → negsuc 0 -ℤ a ≡ flip a
 flip-is (pos n) = ≡-in (omega (arith, minus-diff (pos n) (negsuc 0) .is))
 flip-is (negsuc n) = ≡-in (omega (arith, minus-diff (negsuc n) (negsuc 0) .is))
 
-pub flip-nonneg : {a : ℤ} → a <ℤ pos 0 → pos 0 ≤ℤ flip a
-flip-nonneg {a = pos n} h = absurd (omega (arith, <-out h))
-flip-nonneg {a = negsuc n} h = pos-nonneg n
+pub mag-of-negative : {a : ℤ} → a <ℤ pos 0 → flip a ≡ pos (mag a)
+mag-of-negative {a = pos n} h = absurd (omega (arith, <-out h))
+mag-of-negative {a = negsuc n} h = refl
 
-pub floor-of-negative : {a d : ℤ} → a <ℤ pos 0 → pos 1 ≤ℤ d → flip (quotZ (flip a) d) ≡ floorDiv a d
-unfolding floorDiv
-floor-of-negative {a = pos n} {d = d} h k = absurd (omega (arith, <-out h))
-floor-of-negative {a = negsuc n} {d = pos d} h k = refl
-floor-of-negative {a = negsuc n} {d = negsuc d} h k = absurd (k .le)
+pub mag-of-nonneg : {a : ℤ} → pos 0 ≤ℤ a → a ≡ pos (mag a)
+mag-of-nonneg {a = pos n} h = refl
+mag-of-nonneg {a = negsuc n} h = absurd (h .le)
 
-pub floor-of-nonneg : {a d : ℤ} → pos 0 ≤ℤ a → pos 1 ≤ℤ d → quotZ a d ≡ floorDiv a d
+pub floor-of-negative : {a : ℤ} (d : ℤ) → a <ℤ pos 0 → negsuc (mag a / natAbs d) ≡ floorDiv a d
 unfolding floorDiv
-floor-of-nonneg {a = pos n} {d = pos d} h k = refl
-floor-of-nonneg {a = pos n} {d = negsuc d} h k = absurd (k .le)
-floor-of-nonneg {a = negsuc n} {d = d} h k = absurd (h .le)
+floor-of-negative {a = pos n} d h = absurd (omega (arith, <-out h))
+floor-of-negative {a = negsuc n} d h = refl
+
+pub floor-of-nonneg : {a : ℤ} (d : ℤ) → pos 0 ≤ℤ a → pos (mag a / natAbs d) ≡ floorDiv a d
+unfolding floorDiv
+floor-of-nonneg {a = pos n} d h = refl
+floor-of-nonneg {a = negsuc n} d h = absurd (h .le)

@@ -11,11 +11,11 @@ use mathlib.Core.Path.{_≡_, refl, sym, _∙_, ap, subst}
 use mathlib.Core.Bool.{Bool, true, false, not, cond}
 use mathlib.Core.List.{List}
 use Prim.Native.Nat.{ℕ, zero, suc, _+_, _*_, _-_, _^_, _≤_, _<_}
-use native.Mathlib.Nat.{lt-trans, mul-le-mul, div-le-self}
+use native.Mathlib.Nat.{lt-trans, mul-le-mul}
 use native.Mathlib.Omega.{arith}
 use lib.Dec.{T, ltb, ltb→lt, nltb→le, lit<}
 use lib.IntN.{ℤ, pos, negsuc, negℤ, natAbs, subℕ, _+ℤ_, _-ℤ_, _*ℤ_}
-use lib.Signed.{_≤ℤ_, _<ℤ_, leZ, ltZ, mag, ltZ-no, nonNeg, quotZ}
+use lib.Signed.{_≤ℤ_, _<ℤ_, leZ, ltZ, mag, ltZ-no, nonNeg}
 use mir.Syntax.{w64}
 use mir.Val.{SFits, Fits, toZ, ofZ}
 use mir.ValLaws.{toZ-ofZ, toZ-pos}
@@ -169,15 +169,10 @@ read-i64 n h = toZ-pos w64 n h
 pub ruleset signed = (arith, ≤-out, <-out, ≡-out, ≤-in, <-in, ≡-in, fits)
 
 -- ---- a division by a divisor from 1 up
-pub divisor : {d : ℤ} → pos 1 ≤ℤ d → 0 < ofZ w64 d
+pub divisor : {d : ℤ} → pos 1 ≤ℤ d → 0 < natAbs d
 divisor {d = pos d} k = omega (arith, ≤-out k)
 divisor {d = negsuc d} k = absurd (k .le)
 
 pub fits-flip : {a : ℤ} → SFits w64 a → SFits w64 (flip a)
 fits-flip {a = pos n} f = record { sfits = f .sfits }
 fits-flip {a = negsuc n} f = record { sfits = f .sfits }
-
-pub fits-quotient : {a d : ℤ} → pos 0 ≤ℤ a → pos 1 ≤ℤ d → SFits w64 a → SFits w64 (quotZ a d)
-fits-quotient {a = pos a} {d = pos d} h k f = let p = f .sfits in record { sfits = omega (arith, div-le-self a d) }
-fits-quotient {a = pos a} {d = negsuc d} h k f = absurd (k .le)
-fits-quotient {a = negsuc a} {d = d} h k f = absurd (h .le)

@@ -2,7 +2,7 @@
 use mathlib.Core.Path.{_≡_}
 use mathlib.Core.Bool.{Bool, true, false, not}
 use mathlib.Core.List.{[], _∷_}
-use Prim.Native.Nat.{ℕ, zero, suc, _+_, _*_, _-_, _/_, _^_, _≤_, _<_}
+use Prim.Native.Nat.{ℕ, zero, suc, _+_, _*_, _-_, _/_, _≤_, _<_}
 use native.Mathlib.Nat.{mul-le-mul, mul-le-mul-left, mul-div-le, lt-mul-div-succ}
 use native.Mathlib.Decide.{decLe, decLt}
 use native.Mathlib.Omega.{arith}
@@ -136,13 +136,10 @@ newton-above x r h = within (x / r) ((r + x / r) / 2) (lt-mul-div-succ x h) (ome
     within : (q s : ℕ) → x < r * (q + 1) → r + (q + 1) ≤ 2 * (s + 1) → x < (s + 1) * (s + 1)
     within q s k l = omega (arith, means r (q + 1), mul-le-mul l l)
 
--- and where it does not fall, r is the root
-pub newton-stops : (x r : ℕ) → r ≤ (r + x / r) / 2 → r * r ≤ x
-newton-stops x r h = let k : r ≤ x / r = omega arith in omega (arith, mul-div-le x r, mul-le-mul-left r k)
-
-pub root-small : {x r : ℕ} → x < 2 ^ 63 → r * r ≤ x → r < 2 ^ 32
-root-small {x} {r} h k = go (decLt r 4294967296)
+-- and from an r above the root it falls
+pub newton-falls : (x r : ℕ) → x < r * r → (r + x / r) / 2 < r
+newton-falls x r h = go (decLt (x / r) r)
   where
-    go : Dec (r < 4294967296) → r < 4294967296
-    go (yes l) = l
-    go (no l) = let m : 4294967296 ≤ r = omega arith in omega (arith, mul-le-mul m m)
+    go : Dec (x / r < r) → (r + x / r) / 2 < r
+    go (yes k) = omega arith
+    go (no k) = let l : r ≤ x / r = omega arith in omega (arith, mul-div-le x r, mul-le-mul-left r l)

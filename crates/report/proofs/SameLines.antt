@@ -1,14 +1,15 @@
 -- Lines rest on the numbers that they print alone: a table or a vector may stand at the front of a longer array.
 use mathlib.Core.Path.{_≡_, refl, sym, ap₂, _∙_}
 use mathlib.Core.List.{List, _∷_, _++_}
-use Prim.Native.Nat.{ℕ, zero, suc, _+_, _*_, _/_, _%_, _≤_, _<_}
+use Prim.Native.Nat.{ℕ, zero, suc, _+_, _*_, _≤_, _<_}
 use native.Mathlib.Nat.{suc-mul, mul-le-mul}
 use native.Mathlib.Omega.{arith}
 use lib.IntN.{ℤ}
 use Rattle.tables.specs.Ranges.{greatestOrder}
 use Rattle.tables.specs.Matrix.{Matrix, nth, table, tabulate}
-use Rattle.tables.proofs.Matrix.{inside, row-inside, column-inside, nth-at, at-table, nth-tabulate}
+use Rattle.tables.proofs.Matrix.{nth-tabulate}
 use Rattle.verdict.specs.FactorTable.{Written}
+use Rattle.verdict.proofs.Writing.{written-nth}
 use Rattle.report.specs.Text.{space, widest, decimal, numbers, line, lines}
 
 numbers-ext : (f g : ℕ → ℤ) (n : ℕ) → ((k : ℕ) → k < n → f k ≡ g k) → numbers f n ≡ numbers g n
@@ -16,13 +17,6 @@ unfolding numbers
 numbers-ext f g zero h = refl
 numbers-ext f g (suc n) h =
     ap₂ (λ (s : List ℕ) (z : ℤ). s ++ (space ∷ decimal z)) (numbers-ext f g n (λ k l. h k (omega arith))) (h n (omega arith))
-
--- a table that was written has the numbers of the matrix's table
-written-nth : {n : ℕ} {M : Matrix} {f : List ℤ} → Written n M f (n * n) → (k : ℕ) → k < n * n → nth f k ≡ nth (table n M) k
-written-nth {n} {M} {f} w k h =
-    let r = row-inside n k h in
-    let c = column-inside n k h in
-    nth-at n k f ∙ w .entries (k / n) (k % n) c (inside r c) ∙ sym (nth-at n k (table n M) ∙ at-table n M (k / n) (k % n) r c)
 
 module _ (word : List ℕ) where
   line-ext : (f g : ℕ → ℤ) (n : ℕ) → ((k : ℕ) → k < n → f k ≡ g k) → line word f n ≡ line word g n

@@ -1,4 +1,5 @@
--- Text as its bytes: words, numbers in decimal, lines. "one space between words, decimal without plus sign or padding, one LF after each line"
+-- Text as its bytes: words, numbers in decimal, lines. As in document 01's case P there is one space between words, no plus sign and no padding of a number,
+-- and a line feed after each line.
 use mathlib.Core.Bool.{true, false}
 use mathlib.Core.List.{List, [], _∷_, _++_}
 use Prim.Native.Nat.{ℕ, zero, suc, _+_, _*_, _/_, _%_}

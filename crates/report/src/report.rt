@@ -1,8 +1,8 @@
 // What the program prints of a summary file.
 ghost use mathlib.Core.Path.{_≡_};
-ghost use Prim.Native.Nat.{_≤_};
-ghost use lib.ListN.{length};
-ghost use Rattle.summary.specs.Problems.{LetThrough};
+ghost use Prim.Native.Nat.{_≤_, _<_};
+ghost use lib.ListN.{length, take};
+ghost use Rattle.summary.specs.Problems.{longest, LetThrough};
 ghost use Rattle.report.specs.Putting.{Put};
 ghost use Rattle.report.specs.Report.{problemText, reportRoom, report};
 use crate::lines::put_box;
@@ -11,9 +11,12 @@ use crate::lines::put_verdict;
 use summary::problem::Problem;
 use tables::Checked;
 
+// The size of the text's buffer.
+const ROOM: usize = 2048;
+
 // What is printed: the first length bytes of text, and zeros after them.
 pub struct Output {
-    pub text: [u8; 2048],
+    pub text: [u8; ROOM],
     pub length: usize,
 }
 
@@ -36,7 +39,7 @@ pub fn report(file: &[u8]) -> Output
     ensures exact { λ r. ⌜ r ≡ report (now (file .entry)) ⌝ }
     ensures within { λ r. ⌜ r .length ≤ length (r .text) ⌝ }
 {
-    let mut text = [0u8; 2048];
+    let mut text = [0u8; ROOM];
     let reading = summary::problem::read(file);
     let checked = reading.checked;
     let problem = reading.problem;
@@ -50,4 +53,13 @@ pub fn report(file: &[u8]) -> Output
             Output { text, length }
         }
     }
+}
+
+// The same of the file in a buffer, its first size bytes. The buffer has room for more than the longest file, so that a longer one is refused and not cut.
+pub fn report_read(buffer: &[u8], size: usize) -> Output
+    requires { ⌜ (longest < length (now buffer)) × (size ≤ length (now buffer)) ⌝ }
+    ensures exact { λ r. ⌜ r ≡ report (take size (now (buffer .entry))) ⌝ }
+    ensures within { λ r. ⌜ r .length ≤ length (r .text) ⌝ }
+{
+    report(&buffer[..size])
 }

@@ -1,15 +1,13 @@
--- Laws of an offered factor: of check 6, and of the table into which its columns are loaded.
+-- Laws of check 6, of an offered factor.
 use mathlib.Core.Path.{_≡_, refl, sym, _∙_}
 use mathlib.Core.Bool.{true, false, _&&_}
-use mathlib.Core.List.{List}
-use Prim.Native.Nat.{ℕ, suc, _+_, _*_, _≤_, _<_, compare, Ordering, Ordering·lt, Ordering·eq, Ordering·gt}
+use Prim.Native.Nat.{ℕ, _≤_, _<_, compare, Ordering, Ordering·lt, Ordering·eq, Ordering·gt}
 use native.Mathlib.Decide.{ℕ-discrete, decLt}
 use native.Mathlib.Omega.{arith}
 use borrow.Author.Tests.{eqb-true}
 use lib.Dec.{T, isLe, eqb, isEq, leb→le, le→leb, eqb→eq, eqb-refl}
 use lib.IntN.{ℤ, pos}
 use lib.Signed.{_≤ℤ_, _<ℤ_, leZ}
-use lib.ListN.{length, set, length-set}
 use mir.Syntax.{w64}
 use mir.Val.{SFits, ofZ}
 use Rattle.integers.specs.Numbers.{Within}
@@ -20,9 +18,6 @@ use Rattle.tables.specs.Matrix.{Matrix}
 use Rattle.tables.specs.Checks.{within, same}
 use Rattle.tables.proofs.Checks.{all-at, and-left, and-right, and-first-false, le-of, within-of, bool-ext, same-of, same-true}
 use Rattle.residual.specs.FactorTest.{factorEntry, factorShape}
-use Rattle.cholesky.specs.Store.{upper, SmallColumn}
-use Rattle.residual.specs.Offered.{Loaded}
-use Rattle.cholesky.proofs.Store.{upper-same, upper-other}
 
 -- ---- an entry, by where it stands
 module _ (i j : ℕ) (x : ℤ) where
@@ -91,45 +86,3 @@ module _ (n : ℕ) (R : Matrix) (e : factorShape n R ≡ true) where
       go (yes l) d = within-of factorRange (R i j) (sym (factor-entry-above i j (R i j) l) ∙ entry-ok i j h k)
       go (no l) (yes d) = rw d (within-in (≤ℤ-trans (record { le = tt }) (factor-diagonal j k)) (factor-diagonal-range j k))
       go (no l) (no d) = rw (factor-below i j (omega arith) h) (record { size = omega arith })
-
-  -- of the table with its columns
-  module _ {t : List ℤ} (l : Loaded R n t) (j : ℕ) (h : j < n) where
-    pub loaded-small : SmallColumn t j (suc j)
-    loaded-small = record { small = λ i k. rw (l .entries i j (omega arith) h) (factor-within i j (omega arith) h) }
-
-    pub loaded-diagonal : pos 1 ≤ℤ upper t j j
-    loaded-diagonal = rw (l .entries j j (omega arith) h) (factor-diagonal j h)
-
--- ---- loading: the columns before j, and the first m entries of column j
-pub record Loading (R : Matrix) (j m : ℕ) (t : List ℤ) : Type 0 where
-  pub before : Loaded R j t
-  pub rows : (i : ℕ) → i < m → upper t i j ≡ R i j
-
-module _ {R : Matrix} {t : List ℤ} where
-  pub loaded-none : length t ≡ 64 → Loaded R 0 t
-  loaded-none e = record { entries = λ i j h k. absurd (omega arith); size = e }
-
-  pub loading-start : {j : ℕ} → Loaded R j t → Loading R j 0 t
-  loading-start l = record { before = l; rows = λ i h. absurd (omega arith) }
-
-  pub loading-more : {j m : ℕ} → j < 8 → m ≤ j → Loading R j m t → Loading R j (suc m) (set t (8 * j + m) (R m j))
-  loading-more {j} {m} h k l =
-      record {
-        before =
-            record {
-              entries = λ a b p q. upper-other t m j (R m j) a b (omega arith) ∙ l .before .entries a b p q;
-              size = length-set t _ _ ∙ l .before .size;
-            };
-        rows = λ i p. go i p (ℕ-discrete i m);
-      }
-    where
-      go : (i : ℕ) → i < suc m → Dec (i ≡ m) → upper (set t (8 * j + m) (R m j)) i j ≡ R i j
-      go i p (yes e) = rw e (upper-same t m j (R m j) (omega (arith, l .before .size)))
-      go i p (no e) = upper-other t m j (R m j) i j (omega arith) ∙ l .rows i (omega arith)
-
-  pub loading-end : {j : ℕ} → Loading R j (suc j) t → Loaded R (suc j) t
-  loading-end {j} l = record { entries = λ a b p q. go a b p q (ℕ-discrete b j); size = l .before .size }
-    where
-      go : (a b : ℕ) → a ≤ b → b < suc j → Dec (b ≡ j) → upper t a b ≡ R a b
-      go a b p q (yes e) = rw e (l .rows a (omega arith))
-      go a b p q (no e) = l .before .entries a b p (omega arith)

@@ -1,25 +1,17 @@
--- The residual test of an offered factor, from its loaded columns.
-use mathlib.Core.Path.{_≡_, sym, ap, ap₂, _∙_}
-use mathlib.Core.List.{List}
-use Prim.Native.Nat.{ℕ, _*_, _≤_, _<_}
-use native.Mathlib.Omega.{arith}
-use native.Mathlib.Decide.{decLe}
+-- The residual test of factors that have the same entries.
+use mathlib.Core.Path.{_≡_, ap, ap₂}
+use Prim.Native.Nat.{ℕ, _<_}
 use lib.IntN.{ℤ, _-ℤ_, _*ℤ_}
 use lib.Signed.{leZ}
 use Rattle.integers.specs.Numbers.{absℤ, maxℤ}
 use Rattle.integers.specs.Sum.{except}
 use Rattle.integers.proofs.Sums.{sum-ext}
-use Rattle.tables.specs.Matrix.{Matrix, at, gram}
+use Rattle.tables.specs.Matrix.{Matrix, gram}
 use Rattle.tables.proofs.Checks.{all-ext}
 use Rattle.cholesky.specs.Scale.{scale}
 use Rattle.residual.specs.Residual.{residual, radius, rowPasses, accepts}
-use Rattle.residual.specs.Slack.{triangle, Sound}
-use Rattle.residual.specs.Offered.{Loaded}
-use Rattle.residual.specs.FactorTest.{Offer}
-use Rattle.residual.proofs.Rows.{triangle-on, triangle-below}
-use Rattle.residual.proofs.OfferedFactor.{factor-below, loaded-small}
 
--- ---- the residual test reads the factor's first n rows and columns alone
+-- the residual test reads the factor's first n rows and columns alone
 module _ (n : ℕ) (R S L U : Matrix) (same : (i j : ℕ) → i < n → j < n → R i j ≡ S i j) where
   residual-ext : (M : Matrix) (i j : ℕ) → i < n → j < n → residual n R M i j ≡ residual n S M i j
   unfolding residual gram
@@ -33,22 +25,3 @@ module _ (n : ℕ) (R S L U : Matrix) (same : (i j : ℕ) → i < n → j < n �
   unfolding accepts rowPasses
   accepts-ext =
       all-ext n _ _ (λ i h. ap₂ leZ (sum-ext n _ _ (λ j k. ap (except i j) (radius-ext i j h k))) (residual-ext L i i h h))
-
--- ---- the offered factor's columns, once loaded
-module _ {n : ℕ} {l u f c : List ℤ} (o : Offer n l u f) (w : Loaded (at n f) n c) where
-  pub loaded-sound : Sound n c l u
-  loaded-sound =
-      record {
-        order = o .order;
-        low-size = o .low-size;
-        high-size = o .high-size;
-        bounds = o .bounds;
-        columns = λ j h. loaded-small n (at n f) (o .shape) w j h;
-      }
-
-  pub loaded-accepts : accepts n (triangle c) (at n l) (at n u) ≡ accepts n (at n f) (at n l) (at n u)
-  loaded-accepts = accepts-ext n (triangle c) (at n f) (at n l) (at n u) (λ i j h k. go i j h k (decLe i j))
-    where
-      go : (i j : ℕ) → i < n → j < n → Dec (i ≤ j) → triangle c i j ≡ at n f i j
-      go i j h k (yes e) = triangle-on c i j e ∙ w .entries i j e k
-      go i j h k (no e) = triangle-below c i j (omega arith) ∙ sym (factor-below n (at n f) (o .shape) i j (omega arith) h)

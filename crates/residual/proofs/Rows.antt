@@ -1,5 +1,5 @@
 -- What the rows have over, and the residual test.
-use mathlib.Core.Path.{_≡_, sym, ap, ap₂, _∙_}
+use mathlib.Core.Path.{_≡_, sym, ap, _∙_}
 use mathlib.Core.Bool.{Bool, true, false}
 use mathlib.Core.List.{List, [], _∷_}
 use Prim.Native.Nat.{ℕ, suc, _+_, _*_, _^_, _≤_, _<_}
@@ -20,8 +20,10 @@ use Rattle.tables.specs.Checks.{all}
 use Rattle.tables.proofs.Checks.{bool-ext, le-of, all-ext}
 use Rattle.cholesky.specs.Store.{upper}
 use Rattle.residual.specs.Residual.{residual, radius, rowPasses, accepts}
-use Rattle.residual.specs.Slack.{triangle, gramAt, spread, radiusAt, Sound, Room, Charged}
-use Rattle.residual.proofs.Slack.{sound-radius, sound-diagonal}
+use Rattle.residual.specs.FactorTest.{Offer}
+use Rattle.residual.specs.Slack.{triangle, gramAt, spread, radiusAt, Room, Charged}
+use Rattle.residual.proofs.OfferedFactor.{factor-below}
+use Rattle.residual.proofs.Slack.{radius-within, diagonal-within}
 
 -- ---- the triangle's entries
 pub triangle-on : (c : List ℤ) (i j : ℕ) → i ≤ j → triangle c i j ≡ upper c i j
@@ -32,23 +34,17 @@ pub triangle-below : (c : List ℤ) (i j : ℕ) → j < i → triangle c i j ≡
 unfolding triangle
 triangle-below c i j h = ap (λ (b : Bool). elim b as (λ z. ℤ) [ true ↦ upper c i j | false ↦ pos 0 ]) (lt-leb i j h)
 
-gram-at : (n : ℕ) (c : List ℤ) (i j : ℕ) → i ≤ j → j < n → gram n (triangle c) i j ≡ gramAt c i j
-unfolding gram gramAt
-gram-at n c i j h k =
-    sum-prefix n (suc i) (λ k. triangle c k i *ℤ triangle c k j) (omega arith) (λ k a b. ap (λ (z : ℤ). z *ℤ triangle c k j) (triangle-below c k i a) ∙ zero-*ℤ (triangle c k j))
-    ∙ sum-ext (suc i) _ _ (λ k a. ap₂ (λ (u v : ℤ). u *ℤ v) (triangle-on c k i (omega arith)) (triangle-on c k j (omega arith)))
-
 -- what row i has over, of the columns before j
 abbrev pub over : ℕ → List ℤ → List ℤ → List ℤ → ℕ → ℕ → ℤ
-over n c l u j i = residual n (triangle c) (at n l) i i -ℤ sumExcept j i (radius n (triangle c) (at n l) (at n u) i)
+over n f l u j i = residual n (at n f) (at n l) i i -ℤ sumExcept j i (radius n (at n f) (at n l) (at n u) i)
 
-pub record Rows (n : ℕ) (c l u o : List ℤ) (j : ℕ) : Type 0 where
+pub record Rows (n : ℕ) (f l u o : List ℤ) (j : ℕ) : Type 0 where
   pub room : Room o j
-  pub rows : (i : ℕ) → i < j → nth o i ≡ over n c l u j i
+  pub rows : (i : ℕ) → i < j → nth o i ≡ over n f l u j i
 
-module _ {n : ℕ} {c l u : List ℤ} (s : Sound n c l u) where
+module _ {n : ℕ} {f l u : List ℤ} (s : Offer n l u f) where
   abbrev R : Matrix
-  R = triangle c
+  R = at n f
 
   abbrev L : Matrix
   L = at n l
@@ -56,9 +52,14 @@ module _ {n : ℕ} {c l u : List ℤ} (s : Sound n c l u) where
   abbrev U : Matrix
   U = at n u
 
-  radius-at : (i j : ℕ) → i < j → j < n → radiusAt n c l u i j ≡ radius n R L U i j
+  gram-at : (i j : ℕ) → i ≤ j → j < n → gram n R i j ≡ gramAt R i j
+  unfolding gram gramAt
+  gram-at i j h k =
+      sum-prefix n (suc i) (λ k. R k i *ℤ R k j) (omega arith) (λ k a b. ap (λ (z : ℤ). z *ℤ R k j) (factor-below n R (s .factor .shape) k i a b) ∙ zero-*ℤ (R k j))
+
+  radius-at : (i j : ℕ) → i < j → j < n → radiusAt n f l u i j ≡ radius n R L U i j
   unfolding radiusAt radius residual spread
-  radius-at i j h k = rw (gram-at n c i j (omega arith) k)
+  radius-at i j h k = rw (gram-at i j (omega arith) k)
 
   radius-symmetric : (i j : ℕ) → i < n → j < n → radius n R L U i j ≡ radius n R L U j i
   unfolding radius residual gram
@@ -66,45 +67,45 @@ module _ {n : ℕ} {c l u : List ℤ} (s : Sound n c l u) where
       let g : sum n (λ k. R k i *ℤ R k j) ≡ sum n (λ k. R k j *ℤ R k i) = sum-ext n _ _ (λ k m. *ℤ-comm (R k i) (R k j)) in
       rw (s .bounds .low-symmetric i j h k, s .bounds .high-symmetric i j h k, g)
 
-  module _ {j : ℕ} (hj : j < n) {o o′ : List ℤ} (w : Rows n c l u o j) (x : Charged n c l u j o o′) where
+  module _ {j : ℕ} (hj : j < n) {o o′ : List ℤ} (w : Rows n f l u o j) (x : Charged n f l u j o o′) where
     -- a row before j
-    old-row : (i : ℕ) → i < j → nth o′ i ≡ over n c l u (suc j) i
+    old-row : (i : ℕ) → i < j → nth o′ i ≡ over n f l u (suc j) i
     old-row i h =
-        let f = radius n R L U i in
-        let more : sumExcept (suc j) i f ≡ sumExcept j i f +ℤ f j = sum-suc j _ ∙ ap (λ (z : ℤ). sumExcept j i f +ℤ z) (except-other i j (f j) (omega arith)) in
-        order (nth o′ i ∷ nth o i ∷ radiusAt n c l u i j ∷ f j ∷ residual n R L i i ∷ sumExcept j i f ∷ sumExcept (suc j) i f ∷ [])
+        let radii = radius n R L U i in
+        let more : sumExcept (suc j) i radii ≡ sumExcept j i radii +ℤ radii j = sum-suc j _ ∙ ap (λ (z : ℤ). sumExcept j i radii +ℤ z) (except-other i j (radii j) (omega arith)) in
+        order (nth o′ i ∷ nth o i ∷ radiusAt n f l u i j ∷ radii j ∷ residual n R L i i ∷ sumExcept j i radii ∷ sumExcept (suc j) i radii ∷ [])
         (x .before i h & w .rows i h & radius-at i j h hj & more) (search solver depth 40 fits 20000) (omega arith)
 
     -- row j
-    new-row : nth o′ j ≡ over n c l u (suc j) j
+    new-row : nth o′ j ≡ over n f l u (suc j) j
     unfolding residual
     new-row =
-        let f = radius n R L U j in
-        let none : sumExcept (suc j) j f ≡ sumExcept j j f +ℤ pos 0 = sum-suc j _ ∙ ap (λ (z : ℤ). sumExcept j j f +ℤ z) (except-same j (f j)) in
-        let all : sumExcept j j f ≡ sum j (λ i. radiusAt n c l u i j) =
-        sum-ext j _ _ (λ i h. except-other j i (f i) (omega arith) ∙ radius-symmetric j i hj (omega arith) ∙ sym (radius-at i j h hj)) in
-        order (nth o′ j ∷ at n l j j ∷ gram n R j j ∷ gramAt c j j ∷ sum j (λ i. radiusAt n c l u i j) ∷ sumExcept j j f ∷ sumExcept (suc j) j f ∷ [])
-        (x .own & gram-at n c j j (omega arith) hj & none & all) (search solver depth 40 fits 20000) (omega arith)
+        let radii = radius n R L U j in
+        let none : sumExcept (suc j) j radii ≡ sumExcept j j radii +ℤ pos 0 = sum-suc j _ ∙ ap (λ (z : ℤ). sumExcept j j radii +ℤ z) (except-same j (radii j)) in
+        let all : sumExcept j j radii ≡ sum j (λ i. radiusAt n f l u i j) =
+        sum-ext j _ _ (λ i h. except-other j i (radii i) (omega arith) ∙ radius-symmetric j i hj (omega arith) ∙ sym (radius-at i j h hj)) in
+        order (nth o′ j ∷ at n l j j ∷ gram n R j j ∷ gramAt R j j ∷ sum j (λ i. radiusAt n f l u i j) ∷ sumExcept j j radii ∷ sumExcept (suc j) j radii ∷ [])
+        (x .own & gram-at j j (omega arith) hj & none & all) (search solver depth 40 fits 20000) (omega arith)
 
-    pub rows-step : Rows n c l u o′ (suc j)
+    pub rows-step : Rows n f l u o′ (suc j)
     rows-step =
         record {
           room = record { size = x .size; rows = λ i h. room-at i h (decLt i j) };
           rows = λ i h. row-at i h (decLt i j);
         }
       where
-        row-at : (i : ℕ) → i < suc j → Dec (i < j) → nth o′ i ≡ over n c l u (suc j) i
+        row-at : (i : ℕ) → i < suc j → Dec (i < j) → nth o′ i ≡ over n f l u (suc j) i
         row-at i h (yes k) = old-row i k
         row-at i h (no k) = let e : i ≡ j = omega arith in rw e new-row
 
         room-at : (i : ℕ) → i < suc j → Dec (i < j) → Within (suc j * 2 ^ 56) (nth o′ i)
-        room-at i h (yes k) = rw (x .before i k) (within-more (omega arith) (within-- (w .room .rows i k) (sound-radius s k hj)))
+        room-at i h (yes k) = rw (x .before i k) (within-more (omega arith) (within-- (w .room .rows i k) (radius-within s k hj)))
         room-at i h (no k) =
             let e : i ≡ j = omega arith in
-            rw (e, x .own) (within-more (omega arith) (within-- (sound-diagonal s hj) (within-sum j (2 ^ 56) _ (λ i h. sound-radius s h hj))))
+            rw (e, x .own) (within-more (omega arith) (within-- (diagonal-within s hj) (within-sum j (2 ^ 56) _ (λ i h. radius-within s h hj))))
 
   -- the residual test is that no row has less than 0 over
-  pub rows-test : {o : List ℤ} → Rows n c l u o n → all n (λ i. leZ (pos 0) (nth o i)) ≡ accepts n R L U
+  pub rows-test : {o : List ℤ} → Rows n f l u o n → all n (λ i. leZ (pos 0) (nth o i)) ≡ accepts n R L U
   unfolding accepts rowPasses
   rows-test {o} w = all-ext n _ _ (λ i h. ap (leZ (pos 0)) (w .rows i h) ∙ moved (residual n R L i i) (sumExcept n i (radius n R L U i)))
     where
@@ -114,5 +115,5 @@ module _ {n : ℕ} {c l u : List ℤ} (s : Sound n c l u) where
           (λ e. leZ-true {x = b} {y = a} (order (a ∷ b ∷ []) (le-of (pos 0) (a -ℤ b) e) (search solver depth 40 fits 20000) (omega arith)))
           (λ e. leZ-true {x = pos 0} {y = a -ℤ b} (order (a ∷ b ∷ []) (le-of b a e) (search solver depth 40 fits 20000) (omega arith)))
 
-pub rows-start : {n : ℕ} {c l u o : List ℤ} → length o ≡ 8 → Rows n c l u o 0
+pub rows-start : {n : ℕ} {f l u o : List ℤ} → length o ≡ 8 → Rows n f l u o 0
 rows-start e = record { room = record { size = e; rows = λ i h. absurd (omega arith) }; rows = λ i h. absurd (omega arith) }

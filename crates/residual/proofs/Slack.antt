@@ -3,7 +3,7 @@ use mathlib.Core.Path.{_≡_, refl, ap, _∙_}
 use mathlib.Core.List.{List, [], _∷_}
 use Prim.Native.Nat.{ℕ, suc, _*_, _^_, _≤_, _<_}
 use native.Mathlib.Omega.{arith}
-use lib.IntN.{ℤ, pos, negℤ, _-ℤ_, _*ℤ_}
+use lib.IntN.{ℤ, pos, negℤ, _+ℤ_, _-ℤ_, _*ℤ_}
 use lib.Signed.{_≤ℤ_, ≤ℤ-refl, leZ-yes}
 use lib.ListN.{length, set, length-set}
 use lib.Seq.{getD-set-same, getD-set-other}
@@ -16,13 +16,13 @@ use Rattle.integers.proofs.Parts.{≤ℤ-trans, ≤ℤ-antisym}
 use Rattle.integers.proofs.Solver.{_&_, ring, order, solver}
 use Rattle.integers.proofs.Sums.{sum-zero, sum-suc}
 use Rattle.integers.proofs.Order.{abs-nonneg, ≤-abs, neg-≤-abs, abs-≤, max-≤, ≤-maxˡ, ≤-maxʳ}
-use Rattle.integers.proofs.Machine.{within-more, within-neg, within--, within-*, within-sum, within-in, within-high, fits-within}
+use Rattle.integers.proofs.Machine.{within-more, within-neg, within-+, within--, within-*, within-sum, within-in, within-high, fits-within}
 use Rattle.tables.specs.Ranges.{entryRange}
 use Rattle.tables.specs.Matrix.{nth, at}
 use Rattle.cholesky.specs.Scale.{scale}
-use Rattle.cholesky.specs.Store.{SmallColumn}
-use Rattle.residual.specs.Slack.{gramAt, spread, radiusAt, Sound, Room, Charged}
-use Rattle.cholesky.proofs.Sizes.{shorter, dot-within}
+use Rattle.residual.specs.FactorTest.{Shaped, Offer}
+use Rattle.residual.specs.Slack.{gramAt, spread, radiusAt, Room, Charged}
+use Rattle.residual.proofs.OfferedFactor.{factor-within}
 
 -- ---- sizes
 scaled-within : {x : ℤ} → Within entryRange x → Within (2 ^ 52) (scale *ℤ x)
@@ -39,10 +39,6 @@ residual-fits w v = fits-within (residual-within w v) (omega arith)
 
 pub excess-fits : {x p : ℤ} → Within entryRange x → Within (2 ^ 55) p → SFits w64 (p -ℤ scale *ℤ x)
 excess-fits w v = fits-within (within-- v (scaled-within w)) (omega arith)
-
-pub gram-within : {c : List ℤ} {i j : ℕ} → i < 8 → SmallColumn c i (suc i) → SmallColumn c j (suc i) → Within (2 ^ 55) (gramAt c i j)
-unfolding gramAt
-gram-within {i = i} h a b = within-more (omega arith) (dot-within a b (suc i) (omega arith))
 
 -- ---- the greater of the two absolute values, for l ≤ u
 module _ {l u : ℤ} (p : ℤ) (h : l ≤ℤ u) where
@@ -77,63 +73,86 @@ spread-within {l} {u} {p} h v w q =
     spread-nonneg : (l u p : ℤ) → pos 0 ≤ℤ spread l u p
     spread-nonneg l u p = ≤ℤ-trans (abs-nonneg _) (≤-maxˡ (absℤ (scale *ℤ l -ℤ p)) (absℤ (scale *ℤ u -ℤ p)))
 
-module _ {n : ℕ} {c l u : List ℤ} (s : Sound n c l u) where
-  pub sound-gram : {i j : ℕ} → i ≤ j → j < n → Within (2 ^ 55) (gramAt c i j)
-  sound-gram h k = let n8 = s .order in gram-within (omega arith) (s .columns _ (omega arith)) (shorter (s .columns _ k) (omega arith))
+-- ---- an offered factor's products
+module _ {n : ℕ} {f : List ℤ} (s : Shaped n f) where
+  product-within : {i j : ℕ} (k : ℕ) → i ≤ j → j < n → k ≤ i → Within (2 ^ 52) (at n f k i *ℤ at n f k j)
+  product-within {i} {j} k h m q =
+      within-more (omega arith) (within-* (factor-within n (at n f) (s .shape) k i (omega arith) (omega arith)) (factor-within n (at n f) (s .shape) k j (omega arith) m))
 
-  pub sound-radius : {i j : ℕ} → i < j → j < n → Within (2 ^ 56) (radiusAt n c l u i j)
+  pub product-fits : {i j : ℕ} (k : ℕ) → i ≤ j → j < n → k ≤ i → SFits w64 (at n f k i *ℤ at n f k j)
+  product-fits k h m q = fits-within (product-within k h m q) (omega arith)
+
+  products-within : {i j : ℕ} (k : ℕ) → i ≤ j → j < n → k ≤ suc i → Within (k * 2 ^ 52) (sum k (λ l. at n f l i *ℤ at n f l j))
+  products-within k h m q = within-sum k (2 ^ 52) _ (λ l p. product-within l h m (omega arith))
+
+  pub products-fit : {i j : ℕ} (k : ℕ) → i ≤ j → j < n → k ≤ i → SFits w64 (sum k (λ l. at n f l i *ℤ at n f l j) +ℤ at n f k i *ℤ at n f k j)
+  products-fit k h m q = let n8 = s .order in fits-within (within-+ (products-within k h m (omega arith)) (product-within k h m q)) (omega arith)
+
+  pub gram-within : {i j : ℕ} → i ≤ j → j < n → Within (2 ^ 55) (gramAt (at n f) i j)
+  unfolding gramAt
+  gram-within {i} h k = let n8 = s .order in within-more (omega arith) (products-within (suc i) h k (omega arith))
+
+-- ---- with the tables
+module _ {n : ℕ} {f l u : List ℤ} (s : Offer n l u f) where
+  pub low-within : {i j : ℕ} → i < n → j < n → Within entryRange (at n l i j)
+  low-within h k = record { size = s .bounds .low-range _ _ h k }
+
+  pub high-within : {i j : ℕ} → i < n → j < n → Within entryRange (at n u i j)
+  high-within h k = record { size = s .bounds .high-range _ _ h k }
+
+  pub radius-within : {i j : ℕ} → i < j → j < n → Within (2 ^ 56) (radiusAt n f l u i j)
   unfolding radiusAt
-  sound-radius {i} {j} h k =
-      spread-within (s .bounds .ordered i j (omega arith) k) (record { size = s .bounds .low-range i j (omega arith) k }) (record { size = s .bounds .high-range i j (omega arith) k }) (sound-gram (omega arith) k)
+  radius-within {i} {j} h k =
+      spread-within (s .bounds .ordered i j (omega arith) k) (low-within (omega arith) k) (high-within (omega arith) k) (gram-within (s .factor) (omega arith) k)
 
-  pub sound-diagonal : {j : ℕ} → j < n → Within (2 ^ 56) (scale *ℤ at n l j j -ℤ gramAt c j j)
-  sound-diagonal {j} k = residual-within {x = at n l j j} (record { size = s .bounds .low-range j j k k }) (sound-gram {i = j} (omega arith) k)
+  pub diagonal-within : {j : ℕ} → j < n → Within (2 ^ 56) (scale *ℤ at n l j j -ℤ gramAt (at n f) j j)
+  diagonal-within k = residual-within (low-within k k) (gram-within (s .factor) (omega arith) k)
 
 -- ---- column j is being charged: rows before i have lost their radius, rows from i on have not, and own is what is left of row j
-pub record Charging (n : ℕ) (c l u : List ℤ) (j : ℕ) (o₀ o : List ℤ) (own : ℤ) (i : ℕ) : Type 0 where
+pub record Charging (n : ℕ) (f l u : List ℤ) (j : ℕ) (o₀ o : List ℤ) (own : ℤ) (i : ℕ) : Type 0 where
   pub size : length o ≡ 8
-  pub done : (k : ℕ) → k < i → nth o k ≡ nth o₀ k -ℤ radiusAt n c l u k j
+  pub done : (k : ℕ) → k < i → nth o k ≡ nth o₀ k -ℤ radiusAt n f l u k j
   pub rest : (k : ℕ) → i ≤ k → nth o k ≡ nth o₀ k
-  pub own-is : own ≡ scale *ℤ at n l j j -ℤ gramAt c j j -ℤ sum i (λ k. radiusAt n c l u k j)
+  pub own-is : own ≡ scale *ℤ at n l j j -ℤ gramAt (at n f) j j -ℤ sum i (λ k. radiusAt n f l u k j)
 
-module _ {n : ℕ} {c l u : List ℤ} {j : ℕ} {o₀ : List ℤ} (s : Sound n c l u) (hj : j < n) (room : Room o₀ j) where
-  pub charging-start : {own : ℤ} → own ≡ scale *ℤ at n l j j -ℤ gramAt c j j → Charging n c l u j o₀ o₀ own 0
+module _ {n : ℕ} {f l u : List ℤ} {j : ℕ} {o₀ : List ℤ} (s : Offer n l u f) (hj : j < n) (room : Room o₀ j) where
+  pub charging-start : {own : ℤ} → own ≡ scale *ℤ at n l j j -ℤ gramAt (at n f) j j → Charging n f l u j o₀ o₀ own 0
   charging-start {own} e =
       record {
         size = room .size;
         done = λ k h. absurd (omega arith);
         rest = λ k h. refl;
-        own-is = e ∙ rw (sum-zero (λ k. radiusAt n c l u k j)) (ring (at n l j j ∷ gramAt c j j ∷ []) (search solver depth 40 fits 20000) refl);
+        own-is = e ∙ rw (sum-zero (λ k. radiusAt n f l u k j)) (ring (at n l j j ∷ gramAt (at n f) j j ∷ []) (search solver depth 40 fits 20000) refl);
       }
 
-  module _ {o : List ℤ} {own : ℤ} {i : ℕ} (hi : i < j) (w : Charging n c l u j o₀ o own i) where
-    pub charging-row-fits : SFits w64 (nth o i -ℤ radiusAt n c l u i j)
+  module _ {o : List ℤ} {own : ℤ} {i : ℕ} (hi : i < j) (w : Charging n f l u j o₀ o own i) where
+    pub charging-row-fits : SFits w64 (nth o i -ℤ radiusAt n f l u i j)
     charging-row-fits =
-        let n8 = s .order in
-        rw (w .rest i (omega arith)) (fits-within (within-- (room .rows i hi) (sound-radius s hi hj)) (omega arith))
+        let n8 = s .factor .order in
+        rw (w .rest i (omega arith)) (fits-within (within-- (room .rows i hi) (radius-within s hi hj)) (omega arith))
 
-    pub charging-own-fits : SFits w64 (own -ℤ radiusAt n c l u i j)
+    pub charging-own-fits : SFits w64 (own -ℤ radiusAt n f l u i j)
     charging-own-fits =
-        let n8 = s .order in
-        rw (w .own-is) (fits-within (within-- (within-- (sound-diagonal s hj) (within-sum i (2 ^ 56) _ (λ k h. sound-radius s (omega arith) hj))) (sound-radius s hi hj)) (omega arith))
+        let n8 = s .factor .order in
+        rw (w .own-is) (fits-within (within-- (within-- (diagonal-within s hj) (within-sum i (2 ^ 56) _ (λ k h. radius-within s (omega arith) hj))) (radius-within s hi hj)) (omega arith))
 
-    pub charging-next : Charging n c l u j o₀ (set o i (nth o i -ℤ radiusAt n c l u i j)) (own -ℤ radiusAt n c l u i j) (suc i)
+    pub charging-next : Charging n f l u j o₀ (set o i (nth o i -ℤ radiusAt n f l u i j)) (own -ℤ radiusAt n f l u i j) (suc i)
     charging-next =
         record {
           size = length-set o i _ ∙ w .size;
           done = λ k h. at-done k (omega arith) (ℕ-discrete k i);
           rest = λ k h. getD-set-other o i k _ (pos 0) (omega arith) ∙ w .rest k (omega arith);
-          own-is = order (own ∷ at n l j j ∷ gramAt c j j ∷ radiusAt n c l u i j ∷ sum i (λ k. radiusAt n c l u k j) ∷ sum (suc i) (λ k. radiusAt n c l u k j) ∷ [])
-              (w .own-is & sum-suc i (λ k. radiusAt n c l u k j)) (search solver depth 40 fits 20000) (omega arith);
+          own-is = order (own ∷ at n l j j ∷ gramAt (at n f) j j ∷ radiusAt n f l u i j ∷ sum i (λ k. radiusAt n f l u k j) ∷ sum (suc i) (λ k. radiusAt n f l u k j) ∷ [])
+              (w .own-is & sum-suc i (λ k. radiusAt n f l u k j)) (search solver depth 40 fits 20000) (omega arith);
         }
       where
-        at-done : (k : ℕ) → k < suc i → Dec (k ≡ i) → nth (set o i (nth o i -ℤ radiusAt n c l u i j)) k ≡ nth o₀ k -ℤ radiusAt n c l u k j
-        at-done k h (yes e) = let n8 = s .order in rw e (getD-set-same o i _ (pos 0) (rw (w .size) (omega arith)) ∙ ap (λ (z : ℤ). z -ℤ radiusAt n c l u i j) (w .rest i (omega arith)))
+        at-done : (k : ℕ) → k < suc i → Dec (k ≡ i) → nth (set o i (nth o i -ℤ radiusAt n f l u i j)) k ≡ nth o₀ k -ℤ radiusAt n f l u k j
+        at-done k h (yes e) = let n8 = s .factor .order in rw e (getD-set-same o i _ (pos 0) (rw (w .size) (omega arith)) ∙ ap (λ (z : ℤ). z -ℤ radiusAt n f l u i j) (w .rest i (omega arith)))
         at-done k h (no e) = getD-set-other o i k _ (pos 0) e ∙ w .done k (omega arith)
 
-  pub charging-end : {o : List ℤ} {own : ℤ} → Charging n c l u j o₀ o own j → Charged n c l u j o₀ (set o j own)
+  pub charging-end : {o : List ℤ} {own : ℤ} → Charging n f l u j o₀ o own j → Charged n f l u j o₀ (set o j own)
   charging-end {o} {own} w =
-      let n8 = s .order in
+      let n8 = s .factor .order in
       record {
         size = length-set o j own ∙ w .size;
         before = λ i h. getD-set-other o j i own (pos 0) (omega arith) ∙ w .done i h;

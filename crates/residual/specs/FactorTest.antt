@@ -44,11 +44,15 @@ factorTest n l u f =
     after Answer.Refused (firstRefusal (entryChecks n (factorSizes (natAbs n) (length l) (length u) (length f))))
     (factorAnswer (natAbs n) l u f)
 
--- tables and a factor of order n that passed the checks
-pub record Offer (n : ℕ) (l u f : List ℤ) : Type 0 where
+-- a factor of order n that passed check 6
+pub record Shaped (n : ℕ) (f : List ℤ) : Type 0 where
   pub order : n ≤ greatestOrder
+  pub size : n * n ≤ length f
+  pub shape : factorShape n (at n f) ≡ true
+
+-- and tables that passed checks 3 to 5
+pub record Offer (n : ℕ) (l u f : List ℤ) : Type 0 where
+  pub factor : Shaped n f
   pub low-size : n * n ≤ length l
   pub high-size : n * n ≤ length u
-  pub factor-size : n * n ≤ length f
   pub bounds : Bounds n (at n l) (at n u)
-  pub shape : factorShape n (at n f) ≡ true

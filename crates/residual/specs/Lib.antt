@@ -1,4 +1,3 @@
 pub mod Residual
 pub mod Slack
-pub mod Offered
 pub mod FactorTest

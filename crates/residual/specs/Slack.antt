@@ -8,34 +8,24 @@ use lib.IntN.{ℤ, pos, _-ℤ_, _*ℤ_}
 use lib.ListN.{length}
 use Rattle.integers.specs.Numbers.{Within, absℤ, maxℤ}
 use Rattle.integers.specs.Sum.{sum}
-use Rattle.tables.specs.Ranges.{greatestOrder}
 use Rattle.tables.specs.Matrix.{Matrix, nth, at}
-use Rattle.tables.specs.Bounds.{Bounds}
 use Rattle.cholesky.specs.Scale.{scale}
-use Rattle.cholesky.specs.Store.{upper, SmallColumn}
+use Rattle.cholesky.specs.Store.{upper}
 
 -- the upper triangular matrix whose columns stand in the table c
 unfoldable pub triangle : List ℤ → Matrix
 triangle c i j = elim (leb i j) [ true ↦ upper c i j | false ↦ pos 0 ]
 
 -- P(i,j), for i ≤ j: entries below the diagonal are 0
-unfoldable pub gramAt : List ℤ → Matrix
-gramAt c i j = sum (suc i) (λ k. upper c k i *ℤ upper c k j)
+unfoldable pub gramAt : Matrix → Matrix
+gramAt R i j = sum (suc i) (λ k. R k i *ℤ R k j)
 
 -- the greater of |2^32 l - p| and |2^32 u - p|
 unfoldable pub spread : ℤ → ℤ → ℤ → ℤ
 spread l u p = maxℤ (absℤ (scale *ℤ l -ℤ p)) (absℤ (scale *ℤ u -ℤ p))
 
 unfoldable pub radiusAt : ℕ → List ℤ → List ℤ → List ℤ → Matrix
-radiusAt n c l u i j = spread (at n l i j) (at n u i j) (gramAt c i j)
-
--- what the code asks of the tables l and u of order n, and of the columns c
-pub record Sound (n : ℕ) (c l u : List ℤ) : Type 0 where
-  pub order : n ≤ greatestOrder
-  pub low-size : n * n ≤ length l
-  pub high-size : n * n ≤ length u
-  pub bounds : Bounds n (at n l) (at n u)
-  pub columns : (j : ℕ) → j < n → SmallColumn c j (suc j)
+radiusAt n f l u i j = spread (at n l i j) (at n u i j) (gramAt (at n f) i j)
 
 -- before column j: what the rows before it have over, of the columns before it, is within j times 2^56
 pub record Room (o : List ℤ) (j : ℕ) : Type 0 where
@@ -43,7 +33,7 @@ pub record Room (o : List ℤ) (j : ℕ) : Type 0 where
   pub rows : (i : ℕ) → i < j → Within (j * 2 ^ 56) (nth o i)
 
 -- column j is charged: each row i before it loses its radius at (i, j), and row j begins with its diagonal less all of those
-pub record Charged (n : ℕ) (c l u : List ℤ) (j : ℕ) (o o′ : List ℤ) : Type 0 where
+pub record Charged (n : ℕ) (f l u : List ℤ) (j : ℕ) (o o′ : List ℤ) : Type 0 where
   pub size : length o′ ≡ 8
-  pub before : (i : ℕ) → i < j → nth o′ i ≡ nth o i -ℤ radiusAt n c l u i j
-  pub own : nth o′ j ≡ scale *ℤ at n l j j -ℤ gramAt c j j -ℤ sum j (λ i. radiusAt n c l u i j)
+  pub before : (i : ℕ) → i < j → nth o′ i ≡ nth o i -ℤ radiusAt n f l u i j
+  pub own : nth o′ j ≡ scale *ℤ at n l j j -ℤ gramAt (at n f) j j -ℤ sum j (λ i. radiusAt n f l u i j)

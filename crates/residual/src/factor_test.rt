@@ -7,24 +7,12 @@ ghost use Rattle.tables.specs.Ranges.{greatestOrder};
 ghost use Rattle.tables.specs.Matrix.{at};
 ghost use Rattle.tables.specs.Members.{PositiveDefinite};
 ghost use Rattle.tables.specs.declared.Answer.the-variants as Answer;
-ghost use Rattle.residual.specs.FactorTest.{factorAnswer, factorTest, Offer};
-ghost use Rattle.residual.specs.Residual.{accepts};
+ghost use Rattle.residual.specs.FactorTest.{factorAnswer, factorTest};
 use crate::offered::factor_shape;
-use crate::offered::load_columns;
 use crate::row_test::accepted;
 use tables::Answer;
 use tables::Checked;
 use tables::Refusal;
-
-// The residual test of an offered factor that passed check 6, of tables that passed checks 3 to 5.
-fn tested(n: usize, low: &[i64], high: &[i64], factor: &[i64]) -> bool
-    requires { ⌜ Offer n (now low) (now high) (now factor) ⌝ }
-    ensures { λ r. ⌜ r ≡ accepts n (at n (now (factor .entry))) (at n (now (low .entry))) (at n (now (high .entry))) ⌝ }
-{
-    let mut c = [0i64; 64];
-    load_columns(n, factor, &mut c);
-    accepted(n, low, high, &c)
-}
 
 // Checks 3 to 6 and the residual test, of tables and a factor of order n: the first n² numbers of each.
 pub fn answer(n: usize, low: &[i64], high: &[i64], factor: &[i64]) -> Answer
@@ -38,7 +26,7 @@ pub fn answer(n: usize, low: &[i64], high: &[i64], factor: &[i64]) -> Answer
     if !factor_shape(n, factor) {
         return Answer::Refused(Refusal::Factor);
     }
-    if tested(n, low, high, factor) {
+    if accepted(n, low, high, factor) {
         Answer::Yes
     } else {
         Answer::No

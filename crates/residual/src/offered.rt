@@ -1,12 +1,11 @@
-// An offered factor: check 6 of document 01, "Refused calls", and its columns as the residual test reads them.
+// An offered factor: check 6 of document 01, "Refused calls".
 ghost use mathlib.Core.Path.{_≡_};
-ghost use Prim.Native.Nat.{suc, _*_, _≤_, _<_};
+ghost use Prim.Native.Nat.{_*_, _≤_, _<_};
 ghost use lib.ListN.{length};
 ghost use Rattle.tables.specs.Ranges.{greatestOrder};
 ghost use Rattle.tables.specs.Matrix.{at};
 ghost use Rattle.tables.specs.Checks.{all};
 ghost use Rattle.residual.specs.FactorTest.{factorEntry, factorShape};
-ghost use Rattle.residual.specs.Offered.{Loaded};
 use tables::FACTOR_RANGE;
 
 // Whether x may stand at (i, j): 0 below the diagonal, 1 to 2^26 on it, within ±2^26 above it.
@@ -53,28 +52,4 @@ pub fn factor_shape(n: usize, factor: &[i64]) -> bool
         i += 1;
     }
     true
-}
-
-// Loads column j of a factor of order n, down to the diagonal, after the columns before it.
-fn load_column(n: usize, factor: &[i64], j: usize, c: &mut [i64; 64])
-    requires { ⌜ (n ≤ greatestOrder) × (j < n) × (n * n ≤ length (now factor)) × Loaded (at n (now factor)) j (now c) ⌝ }
-    ensures { λ r. ⌜ Loaded (at n (now (factor .entry))) (suc j) (now (c .exit)) ⌝ }
-{
-    let mut i = 0;
-    while i <= j {
-        c[8 * j + i] = factor[i * n + j];
-        i += 1;
-    }
-}
-
-// Loads the upper triangle of a factor of order n: entry (i, j) to 8 j + i.
-pub fn load_columns(n: usize, factor: &[i64], c: &mut [i64; 64])
-    requires { ⌜ (n ≤ greatestOrder) × (n * n ≤ length (now factor)) × (length (now c) ≡ 64) ⌝ }
-    ensures { λ r. ⌜ Loaded (at n (now (factor .entry))) n (now (c .exit)) ⌝ }
-{
-    let mut k = 0;
-    while k < n {
-        load_column(n, factor, k, c);
-        k += 1;
-    }
 }

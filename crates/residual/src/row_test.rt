@@ -1,5 +1,4 @@
 // Document 01, "Residual test": 2^32 L(i,i) - P(i,i) against the sum over j ≠ i of the greater of |2^32 L(i,j) - P(i,j)| and |2^32 U(i,j) - P(i,j)|.
-// A factor's columns stand in 64 numbers, entry (i, j) at 8 j + i.
 ghost use mathlib.Core.Path.{_≡_};
 ghost use Prim.Native.Nat.{_+_, _*_, _^_, _≤_, _<_};
 ghost use lib.IntN.{pos, _-ℤ_, _*ℤ_};
@@ -11,12 +10,9 @@ ghost use Rattle.tables.specs.Matrix.{at, nth};
 ghost use Rattle.tables.specs.Checks.{all};
 ghost use Rattle.cholesky.specs.Scale.{scale};
 ghost use Rattle.residual.specs.Residual.{accepts};
-ghost use Rattle.cholesky.specs.Store.{SmallColumn};
-ghost use Rattle.residual.specs.Slack.{triangle, gramAt, spread, radiusAt, Sound, Room, Charged};
-use cholesky::factoring::dot;
-
-// A factor R is held against 2^32 M.
-const SCALE: i64 = 1 << 32;
+ghost use Rattle.residual.specs.FactorTest.{Shaped, Offer};
+ghost use Rattle.residual.specs.Slack.{gramAt, spread, radiusAt, Room, Charged};
+use cholesky::scaling::SCALE;
 
 // The greater of |2^32 low - p| and |2^32 high - p|, where low is at most high.
 fn spread(low: i64, high: i64, p: i64) -> i64
@@ -28,34 +24,48 @@ fn spread(low: i64, high: i64, p: i64) -> i64
     if below <= above { above } else { below }
 }
 
+// P(i,j), for i ≤ j: the factor's entries below the diagonal are 0.
+fn product(n: usize, factor: &[i64], i: usize, j: usize) -> i64
+    requires { ⌜ Shaped n (now factor) × (i ≤ j) × (j < n) ⌝ }
+    ensures { λ r. ⌜ r ≡ gramAt (at n (now (factor .entry))) i j ⌝ }
+{
+    let mut s: i64 = 0;
+    let mut k = 0;
+    while k <= i {
+        s += tables::entry(n, factor, k, i) * tables::entry(n, factor, k, j);
+        k += 1;
+    }
+    s
+}
+
 // The radius at (i, j), for i < j.
-fn radius(n: usize, low: &[i64], high: &[i64], c: &[i64; 64], i: usize, j: usize) -> i64
-    requires { ⌜ Sound n (now c) (now low) (now high) × (i < j) × (j < n) ⌝ }
-    ensures { λ r. ⌜ r ≡ radiusAt n (now (c .entry)) (now (low .entry)) (now (high .entry)) i j ⌝ }
+fn radius(n: usize, low: &[i64], high: &[i64], factor: &[i64], i: usize, j: usize) -> i64
+    requires { ⌜ Offer n (now low) (now high) (now factor) × (i < j) × (j < n) ⌝ }
+    ensures { λ r. ⌜ r ≡ radiusAt n (now (factor .entry)) (now (low .entry)) (now (high .entry)) i j ⌝ }
 {
     let l = tables::entry(n, low, i, j);
     let u = tables::entry(n, high, i, j);
-    spread(l, u, dot(c, i, j, i + 1))
+    spread(l, u, product(n, factor, i, j))
 }
 
 // 2^32 L(j,j) - P(j,j).
-fn diagonal(n: usize, low: &[i64], c: &[i64; 64], j: usize) -> i64
-    requires { ⌜ (n ≤ greatestOrder) × (j < n) × (n * n ≤ length (now low)) × Within entryRange (at n (now low) j j) × SmallColumn (now c) j (j + 1) ⌝ }
-    ensures { λ r. ⌜ r ≡ scale *ℤ at n (now (low .entry)) j j -ℤ gramAt (now (c .entry)) j j ⌝ }
+fn diagonal(n: usize, low: &[i64], factor: &[i64], j: usize) -> i64
+    requires { ⌜ Shaped n (now factor) × (j < n) × (n * n ≤ length (now low)) × Within entryRange (at n (now low) j j) ⌝ }
+    ensures { λ r. ⌜ r ≡ scale *ℤ at n (now (low .entry)) j j -ℤ gramAt (at n (now (factor .entry))) j j ⌝ }
 {
     let l = tables::entry(n, low, j, j);
-    SCALE * l - dot(c, j, j, j + 1)
+    SCALE * l - product(n, factor, j, j)
 }
 
 // Charges column j: each row i before it loses its radius at (i, j), and row j begins with what its diagonal has over all of those.
-fn charge(n: usize, low: &[i64], high: &[i64], c: &[i64; 64], j: usize, over: &mut [i64; 8])
-    requires { ⌜ Sound n (now c) (now low) (now high) × (j < n) × Room (now over) j ⌝ }
-    ensures { λ _. ⌜ Charged n (now (c .entry)) (now (low .entry)) (now (high .entry)) j (now (over .entry)) (now (over .exit)) ⌝ }
+fn charge(n: usize, low: &[i64], high: &[i64], factor: &[i64], j: usize, over: &mut [i64; 8])
+    requires { ⌜ Offer n (now low) (now high) (now factor) × (j < n) × Room (now over) j ⌝ }
+    ensures { λ _. ⌜ Charged n (now (factor .entry)) (now (low .entry)) (now (high .entry)) j (now (over .entry)) (now (over .exit)) ⌝ }
 {
-    let mut own = diagonal(n, low, c, j);
+    let mut own = diagonal(n, low, factor, j);
     let mut i = 0;
     while i < j {
-        let r = radius(n, low, high, c, i, j);
+        let r = radius(n, low, high, factor, i, j);
         over[i] -= r;
         own -= r;
         i += 1;
@@ -78,15 +88,15 @@ fn nonnegative(over: &[i64; 8], n: usize) -> bool
     true
 }
 
-// The residual test of the factor whose columns stand in c.
-pub fn accepted(n: usize, low: &[i64], high: &[i64], c: &[i64; 64]) -> bool
-    requires { ⌜ Sound n (now c) (now low) (now high) ⌝ }
-    ensures { λ r. ⌜ r ≡ accepts n (triangle (now (c .entry))) (at n (now (low .entry))) (at n (now (high .entry))) ⌝ }
+// The residual test of an offered factor that passed check 6, of tables that passed checks 3 to 5.
+pub fn accepted(n: usize, low: &[i64], high: &[i64], factor: &[i64]) -> bool
+    requires { ⌜ Offer n (now low) (now high) (now factor) ⌝ }
+    ensures { λ r. ⌜ r ≡ accepts n (at n (now (factor .entry))) (at n (now (low .entry))) (at n (now (high .entry))) ⌝ }
 {
     let mut over = [0i64; 8];
     let mut j = 0;
     while j < n {
-        charge(n, low, high, c, j, &mut over);
+        charge(n, low, high, factor, j, &mut over);
         j += 1;
     }
     nonnegative(&over, n)

@@ -20,10 +20,10 @@ use Rattle.integers.proofs.Machine.{within-more, within-+, within--, within-*, 
 use Rattle.tables.specs.Ranges.{limitRange}
 use Rattle.tables.specs.Matrix.{at, nth, tabulate}
 use Rattle.tables.specs.Checks.{all}
-use Rattle.sides.specs.Sides.{gradient, atCentre, gradientRange, bound, firstHalf, secondBound, halfSide, sidesFrom, Box, sides, empty, boxOf}
+use Rattle.sides.specs.Sides.{gradient, atCentre, gradientRange, bound, firstHalf, secondBound, smallerHalf, halfSide, sidesFrom, Box, sides, empty, boxOf}
 use Rattle.tables.specs.Buffers.{Filled}
 use Rattle.arithmetic.specs.Contracts.{boundRange, Terms}
-use Rattle.sides.specs.Contracts.{Centred, Near, Ready, smallerHalf, Halved, SidesIn, boxIn}
+use Rattle.sides.specs.Contracts.{Centred, Near, Ready, Halved, SidesIn, boxIn}
 use Rattle.arithmetic.proofs.Quotients.{nonneg-within, within-ceil, within-root}
 use Rattle.arithmetic.proofs.Extremes.{within-min}
 use Rattle.arithmetic.proofs.Products.{terms-within}
@@ -188,7 +188,7 @@ module _ (n : ℕ) (c : ℕ → ℤ) (d t : ℤ) (tk : ℕ → ℤ) (g : ℕ →
     second-is = ap (λ (z : ℤ). d +ℤ pos 2 *ℤ z) (sum-ext n _ _ (λ k h. ap (λ (z : ℤ). g k *ℤ z) (first-is k h)))
 
     pub half-is : (k : ℕ) → k < n → smallerHalf (nth y k) (tk k) (secondBound n d t g) ≡ halfSide n d t g tk k
-    unfolding smallerHalf halfSide
+    unfolding halfSide
     half-is k h = ap (λ (z : ℤ). smallerHalf z (tk k) (secondBound n d t g)) (first-is k h)
 
     module _ (e : leZ (pos 0) (bound n d t g) ≡ true) where

@@ -9,8 +9,7 @@ use lib.Signed.{leZ}
 use Rattle.integers.specs.Division.{ceilDiv}
 use Rattle.integers.specs.Root.{leastRoot}
 use Rattle.integers.proofs.Sums.{sum-ext}
-use Rattle.sides.specs.Sides.{bound, firstHalf, secondBound, halfSide, sidesFrom, Box, sides, empty, boxOf}
-use Rattle.sides.specs.Contracts.{smallerHalf}
+use Rattle.sides.specs.Sides.{bound, firstHalf, secondBound, smallerHalf, halfSide, sidesFrom, Box, sides, empty, boxOf}
 
 sides-ext : (n : ℕ) (c h i : ℕ → ℤ) → ((k : ℕ) → k < n → h k ≡ i k) → sidesFrom n c h ≡ sidesFrom n c i
 unfolding sidesFrom
@@ -36,7 +35,7 @@ module _ (n : ℕ) (c : ℕ → ℤ) (D t : ℤ) (tk u g h : ℕ → ℤ) (p : (
   second-same = ap (λ (z : ℤ). D +ℤ pos 2 *ℤ z) (sum-ext n _ _ (λ k l. ap₂ _*ℤ_ (q k l) (first-same k l)))
 
   half-same : (k : ℕ) → k < n → halfSide n D t g tk k ≡ halfSide n D t h u k
-  unfolding halfSide smallerHalf
+  unfolding halfSide
   half-same k l =
       ap₂ (λ (y b : ℤ). smallerHalf y (tk k) b) (first-same k l) second-same ∙ ap (λ (z : ℤ). smallerHalf (firstHalf n D t h k) z (secondBound n D t h)) (p k l)
 

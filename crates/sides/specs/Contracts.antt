@@ -4,10 +4,9 @@ use mathlib.Core.Bool.{Bool, true, false}
 use mathlib.Core.List.{List}
 use Prim.Native.Nat.{ℕ, _+_, _*_, _^_, _≤_, _<_}
 use lib.IntN.{ℤ, pos, _+ℤ_, _-ℤ_}
-use lib.Signed.{_≤ℤ_, leZ}
+use lib.Signed.{_≤ℤ_}
 use lib.ListN.{length}
-use Rattle.integers.specs.Numbers.{Within, minℤ}
-use Rattle.integers.specs.Root.{leastRoot}
+use Rattle.integers.specs.Numbers.{Within}
 use Rattle.tables.specs.Ranges.{greatestOrder, entryRange, linearRange, centreRange}
 use Rattle.tables.specs.Matrix.{at, nth, tabulate}
 use Rattle.cholesky.specs.Scaling.{Checked}
@@ -45,10 +44,6 @@ pub record Ready (n : ℕ) (c : List ℤ) (d t : ℤ) (g : List ℤ) : Type 0 wh
   pub centre-length : n ≤ length c
   pub centre : (k : ℕ) → k < n → Within centreRange (nth c k)
   pub difference : Within (2 ^ 56) d
-
--- h, by Y(k), t(k) and B2
-unfoldable pub smallerHalf : ℤ → ℤ → ℤ → ℤ
-smallerHalf y t b = elim (leZ t (pos 0)) [ true ↦ y | false ↦ minℤ y (leastRoot t b) ]
 
 -- a centre, the Y(k), and B2
 pub record Halved (n : ℕ) (c y : List ℤ) (b : ℤ) : Type 0 where

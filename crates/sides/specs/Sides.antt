@@ -29,7 +29,15 @@ module _ (n : ℕ) (L U : Matrix) (a : ℕ → ℤ) (c : ℕ → ℤ) where
   unfoldable pub atCentre : ℤ → ℤ
   atCentre α = α -ℤ pos 2 *ℤ sum n (λ k. a k *ℤ c k) -ℤ leastValue n L U c
 
+-- the greatest g(k) that is let through
+abbrev pub gradientRange : ℕ
+gradientRange = 2 ^ 20
+
 -- ---- from D, t, t(k) and the g(k), as a vector, to the sides
+-- h, "the smaller of Y(k) and Z(k)", by Y(k), t(k) and B2; "Z(k) is the least whole z ≥ 0 with t(k)·z² ≥ B2, or Y(k) where t(k) = 0"
+unfoldable pub smallerHalf : ℤ → ℤ → ℤ → ℤ
+smallerHalf y t b = elim (leZ t (pos 0)) [ true ↦ y | false ↦ minℤ y (leastRoot t b) ]
+
 module _ (n : ℕ) (D t : ℤ) (g : ℕ → ℤ) where
   -- B = D + Σg(k)²/t, "the quotient rounded up"
   unfoldable pub bound : ℤ
@@ -43,9 +51,9 @@ module _ (n : ℕ) (D t : ℤ) (g : ℕ → ℤ) where
   unfoldable pub secondBound : ℤ
   secondBound = D +ℤ pos 2 *ℤ sum n (λ k. g k *ℤ firstHalf k)
 
-  -- h, "the smaller of Y(k) and Z(k)"; "Z(k) is the least whole z ≥ 0 with t(k)·z² ≥ B2, or Y(k) where t(k) = 0"
+  -- h of side k
   unfoldable pub halfSide : (ℕ → ℤ) → ℕ → ℤ
-  halfSide tk k = elim (leZ (tk k) (pos 0)) [ true ↦ firstHalf k | false ↦ minℤ (firstHalf k) (leastRoot (tk k) secondBound) ]
+  halfSide tk k = smallerHalf (firstHalf k) (tk k) secondBound
 
 -- "Side k runs from c(k) − h to c(k) + h": low, then high, for each k
 unfoldable pub sidesFrom : ℕ → (ℕ → ℤ) → (ℕ → ℤ) → List ℤ
@@ -65,7 +73,3 @@ boxOf n c D t tk g =
       | true ↦ elim (leZ (pos 0) (secondBound n D t g)) [ true ↦ sides (sidesFrom n c (halfSide n D t g tk)) | false ↦ empty ]
       | false ↦ empty
     ]
-
--- the greatest g(k) that is let through
-abbrev pub gradientRange : ℕ
-gradientRange = 2 ^ 20

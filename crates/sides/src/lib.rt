@@ -10,8 +10,8 @@ ghost use Rattle.integers.specs.Root.{leastRoot};
 ghost use Rattle.tables.specs.Matrix.{nth};
 ghost use Rattle.tables.specs.Buffers.{Filled};
 ghost use Rattle.arithmetic.specs.Contracts.{boundRange, Terms};
-ghost use Rattle.sides.specs.Sides.{bound, boxOf};
-ghost use Rattle.sides.specs.Contracts.{Near, Ready, smallerHalf, Halved, SidesIn, Answered};
+ghost use Rattle.sides.specs.Sides.{bound, smallerHalf, boxOf};
+ghost use Rattle.sides.specs.Contracts.{Near, Ready, Halved, SidesIn, Answered};
 use arithmetic::ceil_div;
 use arithmetic::least_root;
 use arithmetic::product_sum;
@@ -71,8 +71,10 @@ fn write_sides(n: usize, c: &[i64], tk: &[i64; 8], y: &[i64; 8], b: i64, out: &m
     while k < n {
         let h = half_side(y[k], tk[k], b);
         let x = c[k];
-        out[2 * k] = x - h;
-        out[2 * k + 1] = x + h;
+        let low = x - h;
+        let high = x + h;
+        out[2 * k] = low;
+        out[2 * k + 1] = high;
         k += 1;
     }
 }

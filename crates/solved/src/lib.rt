@@ -52,14 +52,15 @@ pub fn solve(n: usize, t: &[i64; 64], j: usize, m: usize, s: i64, x: &mut [i64; 
     ensures { λ r. ⌜ Answered (solved n (stoppedAt (now (t .entry)) j m) s) n r (now (x .exit)) ⌝ }
 {
     start(n, j, s, x);
-    let mut i = m;
-    while 0 < i {
-        i -= 1;
+    let mut left = m;
+    while 0 < left {
+        let i = left - 1;
         let e = entry(t, x, i, j);
         if !tables::within(e, VECTOR_RANGE) {
             return false;
         }
         x[i] = e;
+        left -= 1;
     }
     true
 }

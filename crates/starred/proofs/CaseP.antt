@@ -17,7 +17,7 @@ use Rattle.tried.specs.Tried.{tried, first}
 use Rattle.solved.specs.Solved.{stoppedFactor, solvedEntry, solvedRows, solved}
 use Rattle.verdict.specs.Judge.{listed, judged, judgement}
 use Rattle.steps.specs.Steps.{lowered, trial, bits, step, stepAt}
-use Rattle.sides.specs.Sides.{lowGradient, highGradient, gradient, atCentre, bound, firstHalf, secondBound, halfSide, sidesFrom, boxOf}
+use Rattle.sides.specs.Sides.{lowGradient, highGradient, gradient, atCentre, bound, firstHalf, secondBound, smallerHalf, halfSide, sidesFrom, boxOf}
 use Rattle.enclosure.specs.Box.{boxed, boxAnswer}
 use Rattle.summary.specs.Fields.{tags, kindIn, kindOf, tagged, fieldAt}
 use Rattle.summary.specs.Layouts.{startOf, lengthOf, seen, unseen, placed, walkOn, walkFields, walk, walked, content}
@@ -38,5 +38,5 @@ fileP =
     ++ (6 ∷ 8 ∷ 0 ∷ 2 ∷ replicate 7 0)
 
 caseP : printed fileP ≡ ascii "definite\nrow 129007\nside -1 5\n"
-unfolding tags kindIn kindOf tagged fieldAt startOf lengthOf seen unseen placed walkOn walkFields walk walked content noProblem fromLeBytes unsignedAt signedAt numbersOf paddedNumbersOf orderOk reading readWalked readIn readAs handed problemIn fieldChecks allPresent orderIn sizesOk judgement judged listed after firstRefusal tableChecks allWithin nowhereCrossed symmetric same all within factoring columnsFrom nextColumn rows goesOn nextEntry entries scaled at table tabulate form rowWidth leastMember leastValue nonzero shows tried first stoppedFactor solvedEntry solvedRows solved sum only floorDiv wholeRoot rootWithin boxAnswer problemChecks boxed boxOf sidesFrom halfSide secondBound firstHalf bound atCentre gradient highGradient lowGradient step stepAt bits trial lowered absℤ minℤ maxℤ ceilDiv rootAbove leastRoot printed readingText problemText verdictText boxText numbered lines line numbers decimal natural digits
+unfolding tags kindIn kindOf tagged fieldAt startOf lengthOf seen unseen placed walkOn walkFields walk walked content noProblem fromLeBytes unsignedAt signedAt numbersOf paddedNumbersOf orderOk reading readWalked readIn readAs handed problemIn fieldChecks allPresent orderIn sizesOk judgement judged listed after firstRefusal tableChecks allWithin nowhereCrossed symmetric same all within factoring columnsFrom nextColumn rows goesOn nextEntry entries scaled at table tabulate form rowWidth leastMember leastValue nonzero shows tried first stoppedFactor solvedEntry solvedRows solved sum only floorDiv wholeRoot rootWithin boxAnswer problemChecks boxed boxOf sidesFrom halfSide smallerHalf secondBound firstHalf bound atCentre gradient highGradient lowGradient step stepAt bits trial lowered absℤ minℤ maxℤ ceilDiv rootAbove leastRoot printed readingText problemText verdictText boxText numbered lines line numbers decimal natural digits
 caseP = refl

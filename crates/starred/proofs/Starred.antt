@@ -17,7 +17,7 @@ use Rattle.tried.specs.Tried.{tried, first}
 use Rattle.solved.specs.Solved.{stoppedFactor, solvedEntry, solvedRows, solved}
 use Rattle.verdict.specs.Judge.{Judgement, definite, notDefinite, undecided, listed, judged, judgement}
 use Rattle.steps.specs.Steps.{lowered, trial, bits, step, stepAt}
-use Rattle.sides.specs.Sides.{lowGradient, highGradient, gradient, atCentre, bound, firstHalf, secondBound, halfSide, sidesFrom, boxOf}
+use Rattle.sides.specs.Sides.{lowGradient, highGradient, gradient, atCentre, bound, firstHalf, secondBound, smallerHalf, halfSide, sidesFrom, boxOf}
 use Rattle.enclosure.specs.Box.{Box, sides, empty, boxed, boxAnswer}
 
 data Answer : Type 0 where
@@ -64,5 +64,5 @@ lines =
     ∷ []
 
 as-printed : map (λ (l : Line). l .rules) lines ≡ map (λ (l : Line). l .document) lines
-unfolding judgement judged listed after firstRefusal tableChecks allWithin nowhereCrossed symmetric same all within factoring columnsFrom nextColumn rows goesOn nextEntry entries scaled at table tabulate form rowWidth leastMember leastValue nonzero shows tried first stoppedFactor solvedEntry solvedRows solved sum only floorDiv wholeRoot rootWithin boxAnswer problemChecks boxed boxOf sidesFrom halfSide secondBound firstHalf bound atCentre gradient highGradient lowGradient step stepAt bits trial lowered absℤ minℤ maxℤ ceilDiv rootAbove leastRoot
+unfolding judgement judged listed after firstRefusal tableChecks allWithin nowhereCrossed symmetric same all within factoring columnsFrom nextColumn rows goesOn nextEntry entries scaled at table tabulate form rowWidth leastMember leastValue nonzero shows tried first stoppedFactor solvedEntry solvedRows solved sum only floorDiv wholeRoot rootWithin boxAnswer problemChecks boxed boxOf sidesFrom halfSide smallerHalf secondBound firstHalf bound atCentre gradient highGradient lowGradient step stepAt bits trial lowered absℤ minℤ maxℤ ceilDiv rootAbove leastRoot
 as-printed = refl

@@ -1,5 +1,7 @@
 pub mod Examples
-pub mod Copies
 pub mod Bits
-pub mod Trials
+pub mod Rows
+pub mod Diagonals
 pub mod Searches
+pub mod Trials
+pub mod Walked

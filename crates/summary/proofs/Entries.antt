@@ -19,10 +19,10 @@ use Rattle.summary.specs.declared.field.Field.{Field}
 use Rattle.summary.specs.declared.field.Found.the-variants as Found
 use Rattle.summary.specs.declared.layout.Layout.{Layout}
 use Rattle.summary.specs.declared.layout.Walked.{Walked}
-use Rattle.summary.specs.Fields.{head, kindOf, tagged, fieldAt, Stands}
+use Rattle.summary.specs.Fields.{head, kindOf, tagged, fieldAt}
 use Rattle.summary.specs.Layouts.{placeOf, startOf, lengthOf, seen, unseen, placed, walk, walked, content}
 use Rattle.summary.specs.Entries.{Entry, tagOf, headBytes, entryBytes, fileOf, entryOf, Writable, contentSeen, Written}
-use Rattle.summary.proofs.Finding.{kind-place, same-kind, tag-known, field-end, field-whole, found-inside, found-end}
+use Rattle.summary.proofs.Finding.{Stands, kind-place, same-kind, tag-known, field-end, field-whole, found-inside, found-end}
 use Rattle.summary.proofs.Walking.{seen-yes, seen-no, walk-end, walk-more, walk-ind}
 use Rattle.summary.proofs.Parts.{kind-discrete, Sized, unseen-start, unseen-sized, start-placed, length-placed, start-kept, length-kept, placed-sized}
 

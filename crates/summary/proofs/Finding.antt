@@ -16,7 +16,7 @@ use Rattle.summary.specs.declared.field.Tagged.the-variants as Tagged
 use Rattle.summary.specs.declared.field.Field.{Field}
 use Rattle.summary.specs.declared.field.Found.{Found}
 use Rattle.summary.specs.declared.field.Found.the-variants as Found
-use Rattle.summary.specs.Fields.{FieldTag, tags, kindIn, kindOf, head, tagged, fieldAt, Stands}
+use Rattle.summary.specs.Fields.{FieldTag, tags, kindIn, kindOf, head, tagged, fieldAt}
 use Rattle.summary.specs.Layouts.{placeOf}
 
 -- ---- tags
@@ -72,6 +72,14 @@ place-below Kind.Centre = omega arith
 -- kinds at one place are the same
 pub same-kind : (a b : Kind) → placeOf a ≡ placeOf b → a ≡ b
 same-kind a b e = cc (kind-place a, kind-place b)
+
+-- the field f stands at `at`: what its head says, and where its content lies
+pub record Stands (s : List ℕ) (at : ℕ) (f : Field) : Type 0 where
+  pub tag : kindOf (getD s at 0) ≡ Tagged.Known (f .kind)
+  pub size : f .length ≡ unsignedAt 2 s (at + 1)
+  pub begins : f .start ≡ at + head
+  pub ends : f .next ≡ f .start + f .length
+  pub inside : f .next ≤ length s
 
 -- ---- what stands at a place
 module _ (s : List ℕ) (at : ℕ) where

@@ -1,3 +1,4 @@
+mod FirstField
 pub mod Finding
 pub mod Walking
 pub mod Parts

@@ -4,15 +4,13 @@ use mathlib.Core.List.{List}
 use Prim.Native.Nat.{ℕ, _+_, _≤_}
 use native.Mathlib.Decide.{ℕ-discrete}
 use native.Mathlib.Omega.{arith}
-use lib.ListN.{length, length-set, length-drop}
+use lib.ListN.{length, length-set, length-drop, getD-replicate}
 use lib.Seq.{getD-set-same, getD-set-other, length-take-le}
 use Rattle.summary.specs.declared.field.Kind.{Kind}
-use Rattle.summary.specs.declared.field.Kind.the-variants as Kind
 use Rattle.summary.specs.declared.field.Field.{Field}
 use Rattle.summary.specs.declared.layout.Layout.{Layout}
-use Rattle.summary.specs.Fields.{Stands}
 use Rattle.summary.specs.Layouts.{placeOf, startOf, lengthOf, unseen, placed, walked, content, Inside}
-use Rattle.summary.proofs.Finding.{place-below, same-kind, found-inside}
+use Rattle.summary.proofs.Finding.{Stands, place-below, same-kind, found-inside}
 use Rattle.summary.proofs.Walking.{walk-ind}
 
 -- kinds are the same or not
@@ -31,21 +29,11 @@ pub record Sized (l : Layout) : Type 0 where
 -- ---- a layout with no field, and with one more
 pub unseen-start : (k : Kind) → startOf unseen k ≡ 0
 unfolding startOf unseen
-unseen-start Kind.Order = refl
-unseen-start Kind.Low = refl
-unseen-start Kind.High = refl
-unseen-start Kind.Linear = refl
-unseen-start Kind.Limit = refl
-unseen-start Kind.Centre = refl
+unseen-start k = getD-replicate 6 (placeOf k) 0 0 (place-below k)
 
 pub unseen-length : (k : Kind) → lengthOf unseen k ≡ 0
 unfolding lengthOf unseen
-unseen-length Kind.Order = refl
-unseen-length Kind.Low = refl
-unseen-length Kind.High = refl
-unseen-length Kind.Linear = refl
-unseen-length Kind.Limit = refl
-unseen-length Kind.Centre = refl
+unseen-length k = getD-replicate 6 (placeOf k) 0 0 (place-below k)
 
 pub unseen-sized : Sized unseen
 unfolding unseen

@@ -1,8 +1,7 @@
 -- Document 01, "Summary file and program": a field, and what stands at a place of a file.
-use mathlib.Core.Path.{_≡_}
 use mathlib.Core.Bool.{true, false}
 use mathlib.Core.List.{List, [], _∷_}
-use Prim.Native.Nat.{ℕ, _+_, _≤_}
+use Prim.Native.Nat.{ℕ, _+_}
 use lib.Dec.{leb, eqb}
 use lib.ListN.{length, getD}
 use Rattle.words.specs.Numbers.{unsignedAt}
@@ -11,7 +10,6 @@ use Rattle.summary.specs.declared.field.Kind.{Kind}
 use Rattle.summary.specs.declared.field.Kind.the-variants as Kind
 use Rattle.summary.specs.declared.field.Tagged.{Tagged}
 use Rattle.summary.specs.declared.field.Tagged.the-variants as Tagged
-use Rattle.summary.specs.declared.field.Field.{Field}
 use Rattle.summary.specs.declared.field.Found.{Found}
 use Rattle.summary.specs.declared.field.Found.the-variants as Found
 
@@ -59,11 +57,3 @@ fieldAt s at =
         | false ↦ Found.Refused Cut
       ]
     ]
-
--- the field f stands at `at`: what its head says, and where its content lies
-pub record Stands (s : List ℕ) (at : ℕ) (f : Field) : Type 0 where
-  pub tag : kindOf (getD s at 0) ≡ Tagged.Known (f .kind)
-  pub size : f .length ≡ unsignedAt 2 s (at + 1)
-  pub begins : f .start ≡ at + head
-  pub ends : f .next ≡ f .start + f .length
-  pub inside : f .next ≤ length s

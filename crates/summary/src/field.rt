@@ -1,6 +1,9 @@
 // A field of the file: a tag, a length and the content.
 ghost use mathlib.Core.Path.{_≡_};
-ghost use Rattle.summary.specs.Fields.{kindOf, fieldAt};
+ghost use Prim.Native.Nat.{_+_, _≤_};
+ghost use lib.ListN.{length};
+ghost use Rattle.words.specs.Numbers.{unsignedAt};
+ghost use Rattle.summary.specs.Fields.{kindOf, head, fieldAt};
 use tables::Refusal;
 
 // A field's head: one byte of tag, two of length.
@@ -52,6 +55,16 @@ pub fn kind_of(tag: u8) -> Tagged
     }
 }
 
+// The length in a field's head: two bytes, low byte first.
+fn length_at(file: &[u8], at: usize) -> usize
+    requires { ⌜ at + head ≤ length (now file) ⌝ }
+    ensures { λ r. ⌜ r ≡ unsignedAt 2 (now (file .entry)) (at + 1) ⌝ }
+{
+    let low = file[at + 1] as usize;
+    let high = file[at + 2] as usize;
+    low + 256 * high
+}
+
 // The field at a place of the file: 10, then 11.
 pub fn field_at(file: &[u8], at: usize) -> Found
     ensures { λ r. ⌜ r ≡ fieldAt (now (file .entry)) at ⌝ }
@@ -64,7 +77,7 @@ pub fn field_at(file: &[u8], at: usize) -> Found
         return Found::Refused(Refusal::Cut);
     }
     let start = at + HEAD;
-    let length = words::load_unsigned(file, at + 1, 2) as usize;
+    let length = length_at(file, at);
     if size - start < length {
         return Found::Refused(Refusal::Cut);
     }

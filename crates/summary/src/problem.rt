@@ -7,7 +7,6 @@ ghost use Rattle.words.specs.Numbers.{signedAt, paddedNumbersOf};
 ghost use Rattle.tables.specs.Ranges.{greatestOrder};
 ghost use Rattle.tables.specs.Checks.{firstRefusal};
 ghost use Rattle.tables.specs.declared.Checked.the-variants.{Passed};
-ghost use Rattle.summary.specs.declared.field.Kind.the-variants.{Order};
 ghost use Rattle.summary.specs.Layouts.{lengthOf, content, Inside};
 ghost use Rattle.summary.specs.Problems.{allPresent, orderIn, sizesOk, Sized, fieldChecks, problemIn, noProblem, handed, readIn, reading, LetThrough};
 use crate::field::Kind;
@@ -80,12 +79,15 @@ fn sizes_ok(layout: Layout, n: usize) -> bool
                     && length_of(layout, Kind::Centre) == vector)))
 }
 
-// n, from the content of tag 01.
+// n, the first byte in the content of tag 01, and 0 where that is empty.
 fn order_in(file: &[u8], layout: Layout) -> u8
-    requires { ⌜ Inside (now file) layout × (lengthOf layout Order ≡ 1) ⌝ }
+    requires { ⌜ Inside (now file) layout ⌝ }
     ensures { λ r. ⌜ r ≡ orderIn (now (file .entry)) layout ⌝ }
 {
     let part = content(file, layout, Kind::Order);
+    if part.len() == 0 {
+        return 0;
+    }
     part[0]
 }
 
@@ -97,17 +99,19 @@ fn check_fields(file: &[u8], layout: Layout) -> Checked
     if !all_present(layout) {
         return Checked::Refused(Refusal::Absent);
     }
-    if length_of(layout, Kind::Order) != 1 {
+    let sized = length_of(layout, Kind::Order) == 1;
+    let n = order_in(file, layout);
+    let ordered = tables::order_ok(n as i64);
+    if !sized {
         return Checked::Refused(Refusal::Size);
     }
-    let n = order_in(file, layout);
-    if !tables::order_ok(n as i64) {
+    if !ordered {
         return Checked::Refused(Refusal::Order);
     }
-    if !sizes_ok(layout, n as usize) {
-        return Checked::Refused(Refusal::Size);
+    if sizes_ok(layout, n as usize) {
+        return Checked::Passed;
     }
-    Checked::Passed
+    Checked::Refused(Refusal::Size)
 }
 
 // The short numbers in the content of a kind, count of them.

@@ -1,5 +1,6 @@
-// A reader over a lent file: it hands out each field with its content. Its own functions are thin; the work is that of content_at and field_at.
+// A reader over a lent file: it hands out each field with its content. Its own functions are thin; the work is that of field_at and content_in.
 ghost use mathlib.Core.Path.{_≡_};
+ghost use Prim.Native.Nat.{ℕ};
 ghost use Rattle.summary.specs.Fields.{fieldAt};
 ghost use Rattle.summary.specs.Pieces.{contentAt};
 use crate::field::Found;
@@ -17,15 +18,20 @@ pub struct Piece<'a> {
     pub found: Found,
 }
 
-// The content of the field at a place, the empty part where no field stands.
-pub fn content_at<'a>(file: &'a [u8], at: usize) -> &'a [u8]
-    ensures { λ r. ⌜ now r ≡ contentAt (now (file .entry)) at ⌝ }
+// The content of what was found in the file: the empty part where no field was found.
+pub fn content_in<'a>(file: &'a [u8], found: Found) -> &'a [u8]
+    ensures { λ r. ⌜ ((at : ℕ) → found ≡ fieldAt (now (file .entry)) at → now r ≡ contentAt (now (file .entry)) at) ⌝ }
 {
-    let found = field_at(file, at);
     match found {
         Found::Here(field) => {
             let start = field.start;
             let next = field.next;
+            if next < start {
+                return &file[..0];
+            }
+            if file.len() < next {
+                return &file[..0];
+            }
             &file[start..next]
         }
         Found::End => &file[..0],
@@ -51,7 +57,8 @@ fn piece_of<'a>(content: &'a [u8], found: Found) -> Piece<'a>
 pub fn next_field<'a>(r: Reader<'a>) -> Piece<'a>
     ensures { λ p. ⌜ (now (p .content) ≡ contentAt (now (r .entry .file)) (r .entry .at)) × (p .found ≡ fieldAt (now (r .entry .file)) (r .entry .at)) ⌝ }
 {
-    piece_of(content_at(r.file, r.at), field_at(r.file, r.at))
+    let found = field_at(r.file, r.at);
+    piece_of(content_in(r.file, found), found)
 }
 
 // The same file at another place: behind a field that was handed out.

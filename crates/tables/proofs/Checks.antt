@@ -11,13 +11,13 @@ use lib.IntN.{ℤ, pos, negsuc, negℤ, natAbs, _-ℤ_, +ℤ-idl}
 use lib.Signed.{_≤ℤ_, _<ℤ_, leZ, ltZ, mag, nonNeg, ≤ℤ-refl, clashℤ}
 use mir.Syntax.{w64}
 use mir.Val.{Fits, SFits, toZ, ofZ}
-use borrow.Author.Tests.{leb-true, le-leb, eqb-true, not-true, not-false}
+use borrow.Author.Tests.{leb-true, le-leb, eqb-true, eq-eqb, not-true, not-false}
 use Rattle.integers.specs.Numbers.{Within}
 use Rattle.integers.proofs.Parts.{≤ℤ-antisym, ≤ℤ-trans, pos-nonneg, ≤-out, leZ-true, leZ-false}
 use Rattle.integers.proofs.Machine.{within-neg, within-in, within-low, within-high, fits, lt-yes, lt-no, same-bits, as-usize}
 use Rattle.tables.specs.Ranges.{greatestOrder, entryRange}
 use Rattle.tables.specs.Matrix.{at}
-use Rattle.tables.specs.Checks.{all, Check, firstRefusal, orderOk, sizesOk, within, allWithin, nowhereCrossed, same, symmetric, tableChecks}
+use Rattle.tables.specs.Checks.{all, Check, firstRefusal, orderOk, sizesOk, within, allWithin, nowhereCrossed, same, symmetric, tableChecks, pairBounded, tablesBounded}
 use Rattle.tables.specs.Bounds.{Bounds}
 use Rattle.tables.specs.declared.Refusal.{Refusal}
 use Rattle.tables.specs.declared.Checked.the-variants.{Passed, Refused}
@@ -159,6 +159,11 @@ module _ (x y : ℤ) (h : mag x < 2 ^ 63) (k : mag y < 2 ^ 63) where
   pub read-differs : (ofZ w64 x ≡ ofZ w64 y → ⊥) → same x y ≡ false
   read-differs f = same-false (λ e. f (ap (ofZ w64) e))
 
+-- two numbers are equal where their bits are
+pub same-read : {x y : ℤ} → SFits w64 x → SFits w64 y → eqb (ofZ w64 x) (ofZ w64 y) ≡ same x y
+same-read {x} {y} f g =
+    bool-ext _ (same x y) (λ e. same-true (same-bits f g (eqb-true _ _ e))) (λ e. eq-eqb _ _ (ap (ofZ w64) (same-of x y e)))
+
 -- ---- the first refusal
 pub first-none : firstRefusal [] ≡ Passed
 unfolding firstRefusal
@@ -244,6 +249,57 @@ module _ (n : ℕ) (l u : List ℤ) where
         symmetric-of n l (b .low-symmetric),
         symmetric-of n u (b .high-symmetric),
       )
+
+-- ---- tables of which each pair passes
+module _ (n : ℕ) (l u : List ℤ) (e : tablesBounded n l u ≡ true) where
+  -- what is asked of the entries at (i, j) and (j, i), for j ≤ i
+  pub record Pair (i j : ℕ) : Type 0 where
+    pub low : negℤ (pos entryRange) ≤ℤ at n l i j
+    pub high : at n u i j ≤ℤ pos entryRange
+    pub ordered : at n l i j ≤ℤ at n u i j
+    pub low-same : same (at n l i j) (at n l j i) ≡ true
+    pub high-same : same (at n u i j) (at n u j i) ≡ true
+
+  pair : (i j : ℕ) → i < n → j ≤ i → Pair i j
+  unfolding tablesBounded pairBounded
+  pair i j h k =
+      let a = all-at _ (suc i) (all-at _ n e i h) j (omega arith) in
+      let b = and-right (leZ (negℤ (pos entryRange)) (at n l i j)) _ a in
+      let c = and-right (leZ (at n u i j) (pos entryRange)) _ b in
+      let d = and-right (leZ (at n l i j) (at n u i j)) _ c in
+      record {
+        low = le-of _ _ (and-left _ _ a);
+        high = le-of _ _ (and-left _ _ b);
+        ordered = le-of _ _ (and-left _ _ c);
+        low-same = and-left _ _ d;
+        high-same = and-right (same (at n l i j) (at n l j i)) _ d;
+      }
+
+  low-same : (i j : ℕ) → i < n → j < n → at n l i j ≡ at n l j i
+  unfolding symmetric
+  low-same = symmetric-at n l (all-of _ n (λ i h. all-of _ i (λ j k. pair i j h (omega arith) .low-same)))
+
+  high-same : (i j : ℕ) → i < n → j < n → at n u i j ≡ at n u j i
+  unfolding symmetric
+  high-same = symmetric-at n u (all-of _ n (λ i h. all-of _ i (λ j k. pair i j h (omega arith) .high-same)))
+
+  -- so what holds of the bounds up to the diagonal holds of all
+  each : (P : ℤ → ℤ → Type 0) → ((i j : ℕ) → Pair i j → P (at n l i j) (at n u i j)) → (i j : ℕ) → i < n → j < n → P (at n l i j) (at n u i j)
+  each P f i j h k = go (decLt i j)
+    where
+      go : Dec (i < j) → P (at n l i j) (at n u i j)
+      go (yes d) = rw (low-same i j h k, high-same i j h k) (f j i (pair j i k (omega arith)))
+      go (no d) = f i j (pair i j h (omega arith))
+
+  pub bounded-passed : firstRefusal (tableChecks n l u) ≡ Passed
+  bounded-passed =
+      bounds-passed n l u (record {
+        low-range = each (λ x y. natAbs x ≤ entryRange) (λ i j p. within-in (p .low) (≤ℤ-trans (p .ordered) (p .high)) .size);
+        high-range = each (λ x y. natAbs y ≤ entryRange) (λ i j p. within-in (≤ℤ-trans (p .low) (p .ordered)) (p .high) .size);
+        ordered = each (λ x y. x ≤ℤ y) (λ i j p. p .ordered);
+        low-symmetric = low-same;
+        high-symmetric = high-same;
+      })
 
 -- tests that are equal at each index
 pub all-ext : (n : ℕ) (p q : ℕ → Bool) → ((i : ℕ) → i < n → p i ≡ q i) → all n p ≡ all n q

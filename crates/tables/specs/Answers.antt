@@ -20,6 +20,7 @@ after refused Passed a = a
 unfoldable pub entryChecks : ℤ → Bool → List Check
 entryChecks n sized = record { passes = orderOk n; otherwise = Order } ∷ record { passes = sized; otherwise = Length } ∷ []
 
+-- 'accepted' or 'yes', and 'not accepted' or 'no'
 abbrev pub verdict : Bool → Answer
 verdict b = elim b [ true ↦ Answer.Yes | false ↦ Answer.No ]
 

@@ -1,4 +1,4 @@
--- Document 01, "What the unit carries": the greatest order, and the range of each kind of number, both ends included.
+-- Document 01, "What the unit carries": the greatest order, and the range of each kind of number (a factor's is that of check 6 and of "Factoring"), both ends included.
 use Prim.Native.Nat.{ℕ, _^_}
 
 abbrev pub greatestOrder : ℕ

@@ -4,6 +4,7 @@ use Prim.Native.String.{String}
 use Rattle.tables.specs.declared.Refusal.{Refusal}
 use Rattle.tables.specs.declared.Refusal.the-variants.{Order, Length, Range, Crossed, Lopsided, Factor, Vector, Flat, Far, Cut, Tag, Again, Absent, Size, Long}
 
+-- the word is the document's; no contract cites it
 pub record Listed : Type 0 where
   pub number : ℕ
   pub word : String

@@ -10,7 +10,7 @@ ghost use Rattle.tables.specs.Buffers.{Filled};
 ghost use Rattle.tables.specs.Ranges.{greatestOrder, linearRange, limitRange, centreRange};
 ghost use Rattle.tables.specs.Refusals.{refusalNumber};
 ghost use Rattle.tables.specs.Answers.{answerCode};
-ghost use Rattle.tables.specs.Checks.{orderOk, sizesOk, within, allWithin, nowhereCrossed, rowSymmetric, symmetric, tableChecks, problemChecks, firstRefusal};
+ghost use Rattle.tables.specs.Checks.{orderOk, sizesOk, within, allWithin, nowhereCrossed, rowSymmetric, symmetric, tableChecks, pairBounded, rowBounded, tablesBounded, problemChecks, firstRefusal};
 
 // Orders are 1 to 8.
 pub const GREATEST_ORDER: i64 = 8;
@@ -88,7 +88,7 @@ pub fn refusal_number(r: Refusal) -> u8
     }
 }
 
-// An answer's number at a C entry: 0 yes, -1 no, else the refusal's.
+// An answer's number at a C entry: 0 'accepted' or 'yes', -1 'not accepted' or 'no', else the refusal's.
 pub fn answer_code(a: Answer) -> i64
     ensures { λ r. ⌜ r ≡ answerCode a ⌝ }
 {
@@ -207,8 +207,8 @@ pub fn symmetric(n: usize, t: &[i64]) -> bool
     true
 }
 
-// Checks 3, 4 and 5 of a problem of order n, each over both tables before the next.
-pub fn check_tables(n: usize, low: &[i64], high: &[i64]) -> Checked
+// The first of the checks 3, 4 and 5 that fails, each asked over both tables before the next.
+fn find_refusal(n: usize, low: &[i64], high: &[i64]) -> Checked
     requires { ⌜ (n ≤ greatestOrder) × (n * n ≤ length (now low)) × (n * n ≤ length (now high)) ⌝ }
     ensures { λ r. ⌜ r ≡ firstRefusal (tableChecks n (now (low .entry)) (now (high .entry))) ⌝ }
 {
@@ -223,6 +223,65 @@ pub fn check_tables(n: usize, low: &[i64], high: &[i64]) -> Checked
         return Checked::Refused(Refusal::Lopsided);
     }
     Checked::Passed
+}
+
+// Whether bounds l and u at (i, j), with lt and ut at (j, i), pass checks 3, 4 and 5: not below -2^20, not above 2^20, not crossed, and symmetric.
+fn pair_bounded(l: i64, lt: i64, u: i64, ut: i64) -> bool
+    ensures { λ r. ⌜ r ≡ pairBounded l lt u ut ⌝ }
+{
+    if l < -ENTRY_RANGE {
+        return false;
+    }
+    if ENTRY_RANGE < u {
+        return false;
+    }
+    if u < l {
+        return false;
+    }
+    l == lt && u == ut
+}
+
+// Whether row i, up to the diagonal, and column i pass them.
+fn row_bounded(n: usize, low: &[i64], high: &[i64], i: usize) -> bool
+    requires { ⌜ (n ≤ greatestOrder) × (i < n) × (n * n ≤ length (now low)) × (n * n ≤ length (now high)) ⌝ }
+    ensures { λ r. ⌜ r ≡ rowBounded n (now (low .entry)) (now (high .entry)) i ⌝ }
+{
+    let mut j = 0;
+    while j <= i {
+        let l = entry(n, low, i, j);
+        let u = entry(n, high, i, j);
+        if !pair_bounded(l, entry(n, low, j, i), u, entry(n, high, j, i)) {
+            return false;
+        }
+        j += 1;
+    }
+    true
+}
+
+// Whether tables of order n pass them: each pair (i, j) and (j, i) is looked at once.
+fn tables_bounded(n: usize, low: &[i64], high: &[i64]) -> bool
+    requires { ⌜ (n ≤ greatestOrder) × (n * n ≤ length (now low)) × (n * n ≤ length (now high)) ⌝ }
+    ensures { λ r. ⌜ r ≡ tablesBounded n (now (low .entry)) (now (high .entry)) ⌝ }
+{
+    let mut i = 0;
+    while i < n {
+        if !row_bounded(n, low, high, i) {
+            return false;
+        }
+        i += 1;
+    }
+    true
+}
+
+// Checks 3, 4 and 5 of a problem of order n. Which of them fails is looked for only where one does.
+pub fn check_tables(n: usize, low: &[i64], high: &[i64]) -> Checked
+    requires { ⌜ (n ≤ greatestOrder) × (n * n ≤ length (now low)) × (n * n ≤ length (now high)) ⌝ }
+    ensures { λ r. ⌜ r ≡ firstRefusal (tableChecks n (now (low .entry)) (now (high .entry))) ⌝ }
+{
+    if tables_bounded(n, low, high) {
+        return Checked::Passed;
+    }
+    find_refusal(n, low, high)
 }
 
 // Whether the linear terms, the limit and the centre are within their ranges.

@@ -1,20 +1,20 @@
 -- The search finds the first tried vector that shows 'not definite': with the entries before d chosen, the sum is their least value, and each
 -- open entry has the share that it would add.
 use mathlib.Core.Path.{_≡_, refl, sym, ap, ap₂, _∙_}
-use mathlib.Core.Bool.{Bool, true, false, not, _&&_}
+use mathlib.Core.Bool.{Bool, true, false, not}
 use mathlib.Core.List.{List, [], _∷_, _++_, map, append-nil, append-assoc}
 use mathlib.Core.Option.{Option, none, some}
 use Prim.Native.Nat.{ℕ, zero, suc, _+_, _≤_, _<_}
 use native.Mathlib.Omega.{arith}
 use native.Mathlib.Numerals.{add-one}
 use lib.IntN.{ℤ, pos, negsuc, negℤ, natAbs, _+ℤ_, _*ℤ_, +ℤ-idl, +ℤ-idr, zero-*ℤ}
-use lib.Signed.{leZ, ltZ}
-use lib.ListN.{length, getD, replicate, length-append, length-replicate, List·getD-append, List·getD-map}
+use lib.Signed.{leZ}
+use lib.ListN.{length, length-append, List·getD-append, List·getD-map}
 use lib.Seq.{getD-append-seam}
 use Rattle.integers.specs.Sum.{sum}
-use Rattle.integers.proofs.Solver.{_&_, ring, order, solver}
+use Rattle.integers.proofs.Solver.{ring, order, solver}
 use Rattle.integers.proofs.Sums.{sum-zero, sum-suc, sum-ext, sum-none}
-use Rattle.tables.specs.Matrix.{Matrix, at, nth}
+use Rattle.tables.specs.Matrix.{at, nth}
 use Rattle.tables.specs.Bounds.{Bounds}
 use Rattle.tables.specs.Checks.{all, same}
 use Rattle.tables.proofs.Checks.{all-of, same-true}
@@ -24,7 +24,7 @@ use Rattle.vectors.specs.VectorTest.{leastTerm, leastPair, leastRow, leastShare
 use Rattle.vectors.proofs.Values.{shares-add}
 use Rattle.vectors.proofs.Showing.{nonzero-true}
 use Rattle.tried.specs.Tried.{tried, first}
-use Rattle.tried.specs.Search.{front, orElse, reached, alike, opposed, seek, seekHalf}
+use Rattle.tried.specs.Search.{front, orElse, reached, more, times, seek, seekHalf}
 use Rattle.tried.proofs.TriedList.{first-ext, tried-zero, tried-suc, part, first-negated}
 use Rattle.tried.proofs.Negated.{shows-negated}
 
@@ -133,14 +133,14 @@ module _ (n : ℕ) (l u : List ℤ) where
         minus = λ i k g. sym (+ℤ-idr (q i)) ∙ next (pos 0) (negsuc 0) (pos 0) i k (λ m. c .minus i m g) (rw (term-zero (at n l i d) (at n u i d)) refl);
       }
 
-      choose-one : Prefix (xs ++ (pos 1 ∷ [])) (s +ℤ p d) (alike (at n l) d p) (opposed (at n u) d q)
+      choose-one : Prefix (xs ++ (pos 1 ∷ [])) (s +ℤ p d) (more (times (pos 2) (at n l)) d p) (more (times (negsuc 1) (at n u)) d q)
       choose-one = record {
         sum-is = ap₂ (λ (x y : ℤ). x +ℤ y) (c .sum-is) (c .plus d (omega arith) h) ∙ sym (sum-more xs (pos 1));
         plus = λ i k g. next (pos 1) (pos 1) _ i k (λ m. c .plus i m g) (low-twice i g);
         minus = λ i k g. next (pos 1) (negsuc 0) _ i k (λ m. c .minus i m g) (high-twice i g);
       }
 
-      choose-minus-one : Prefix (xs ++ (negsuc 0 ∷ [])) (s +ℤ q d) (opposed (at n u) d p) (alike (at n l) d q)
+      choose-minus-one : Prefix (xs ++ (negsuc 0 ∷ [])) (s +ℤ q d) (more (times (negsuc 1) (at n u)) d p) (more (times (pos 2) (at n l)) d q)
       choose-minus-one = record {
         sum-is = ap₂ (λ (x y : ℤ). x +ℤ y) (c .sum-is) (c .minus d (omega arith) h) ∙ sym (sum-more xs (negsuc 0));
         plus = λ i k g. next (negsuc 0) (pos 1) _ i k (λ m. c .plus i m g) (high-twice i g);
@@ -159,7 +159,7 @@ module _ (n : ℕ) (l u : List ℤ) where
     deeper : (k : ℕ) (xs : List ℤ) (a : ℤ) → first (λ y. low xs (a ∷ y)) (tried k) ≡ first (low (xs ++ (a ∷ []))) (tried k)
     deeper k xs a = first-ext _ _ (λ y. ap (λ (v : List ℤ). leZ (leastValue n (at n l) (at n u) (nth v)) (pos 0)) (sym (append-assoc xs (a ∷ []) y))) (tried k)
 
-    agrees : (k d : ℕ) (xs : List ℤ) (s : ℤ) (p q : ℕ → ℤ) → length xs ≡ d → d + k ≡ n → Prefix xs s p q → first (low xs) (tried k) ≡ seek (at n l) (at n u) d k p q s
+    agrees : (k d : ℕ) (xs : List ℤ) (s : ℤ) (p q : ℕ → ℤ) → length xs ≡ d → d + k ≡ n → Prefix xs s p q → first (low xs) (tried k) ≡ seek (times (pos 2) (at n l)) (times (negsuc 1) (at n u)) d k p q s
     unfolding seek reached
     agrees zero d xs s p q e f c =
         tried-zero (low xs)
@@ -207,7 +207,7 @@ module _ (n : ℕ) (l u : List ℤ) where
         go (some x) f = refl
 
     half-agrees : (k d : ℕ) (xs : List ℤ) (p : ℕ → ℤ) → length xs ≡ d → d + k ≡ n → ((i : ℕ) → nth xs i ≡ pos 0) → Prefix xs (pos 0) p p →
-        first (shown xs) (tried k) ≡ seekHalf (at n l) (at n u) d k p
+        first (shown xs) (tried k) ≡ seekHalf (times (pos 2) (at n l)) (times (negsuc 1) (at n u)) d k p
     unfolding seekHalf
     half-agrees zero d xs p e f z c = tried-zero (shown xs) ∙ ap (λ (t : Bool). elim t as (λ z. Option (List ℤ)) [ true ↦ some [] | false ↦ none ]) (shown-none xs z)
     half-agrees (suc k) d xs p e f z c =
@@ -234,5 +234,5 @@ module _ (n : ℕ) (l u : List ℤ) where
       }
 
       -- the first tried vector that shows 'not definite' is the one that the search over half of them finds
-      pub tried-half : first (λ v. shows n (at n l) (at n u) (nth v)) (tried n) ≡ seekHalf (at n l) (at n u) 0 n p
+      pub tried-half : first (λ v. shows n (at n l) (at n u) (nth v)) (tried n) ≡ seekHalf (times (pos 2) (at n l)) (times (negsuc 1) (at n u)) 0 n p
       tried-half = half-agrees n 0 [] p refl (omega arith) (λ i. refl) start

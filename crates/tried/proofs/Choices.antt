@@ -52,3 +52,8 @@ chosen-miss a t f = rw (f .answer) refl
 pub reached-is : (x : List ℤ) (d : ℕ) (s : ℤ) {r : Bool} → length x ≡ 8 → leZ s (pos 0) ≡ r → Searched (reached s) r d 0 x
 unfolding reached found tabulate
 reached-is x d s h e = record { answer = ap (λ (b : Bool). elim b as (λ z. Option (List ℤ)) [ true ↦ some [] | false ↦ none ]) e; size = h }
+
+-- nothing is found
+pub nothing-found : {o : Option (List ℤ)} {x : List ℤ} {d k : ℕ} → length x ≡ 8 → o ≡ none → Searched o false d k x
+unfolding found
+nothing-found h e = record { answer = e; size = h }

@@ -4,3 +4,4 @@ pub mod Searching
 pub mod TriedList
 pub mod Negated
 pub mod Agreement
+pub mod LeastSums

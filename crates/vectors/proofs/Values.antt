@@ -5,7 +5,7 @@ use mathlib.Core.Logic.{_≢_}
 use mathlib.Core.List.{List, [], _∷_}
 use Prim.Native.Nat.{ℕ, zero, suc, _*_, _^_, _≤_, _<_}
 use native.Mathlib.Omega.{arith}
-use lib.IntN.{ℤ, pos, _+ℤ_, _*ℤ_}
+use lib.IntN.{ℤ, pos, _+ℤ_, _*ℤ_, *ℤ-zero, zero-*ℤ}
 use lib.Signed.{ltZ}
 use mir.Syntax.{w64}
 use mir.Val.{SFits}
@@ -13,7 +13,7 @@ use Rattle.integers.specs.Numbers.{Within}
 use Rattle.integers.specs.Sum.{sum}
 use Rattle.integers.proofs.Machine.{within-more, within-+, within-*, within-sum, fits-within}
 use Rattle.integers.proofs.Solver.{_&_, ring, order, solver}
-use Rattle.integers.proofs.Sums.{sum-zero, sum-suc, sum-ext, sum-*, eqb-by}
+use Rattle.integers.proofs.Sums.{sum-zero, sum-suc, sum-ext, sum-none, sum-*, eqb-by}
 use Rattle.tables.specs.Ranges.{entryRange}
 use Rattle.tables.specs.Matrix.{Matrix, at, nth, form}
 use Rattle.tables.specs.Bounds.{Bounds}
@@ -30,6 +30,13 @@ term-low l u p e = sym (ap (λ (b : Bool). elim b as (λ z. ℤ) [ true ↦ l *�
 pub term-high : (l u p : ℤ) → ltZ (pos 0) p ≡ false → u *ℤ p ≡ leastTerm l u p
 unfolding leastTerm
 term-high l u p e = sym (ap (λ (b : Bool). elim b as (λ z. ℤ) [ true ↦ l *ℤ p | false ↦ u *ℤ p ]) e)
+
+-- an entry that is 0 adds nothing
+pub share-none : (n : ℕ) (l u v : List ℤ) (i : ℕ) → nth v i ≡ pos 0 → leastShare n l u v i ≡ pos 0
+unfolding leastShare leastRow leastPair leastTerm
+share-none n l u v i e =
+    let row = sum-none i (leastPair n l u v i) (λ j h. rw (e, zero-*ℤ (nth v j)) (*ℤ-zero (at n u i j))) in
+    rw (row, e) (ring (at n l i i ∷ []) (search solver depth 40 fits 20000) refl)
 
 -- ---- sizes
 pub share-fits : {l p : ℤ} → Within entryRange l → Within (2 ^ 30) p → SFits w64 (l *ℤ p)

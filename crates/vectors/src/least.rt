@@ -39,11 +39,14 @@ fn least_row(n: usize, low: &[i64], high: &[i64], x: &[i64], i: usize) -> i64
     s
 }
 
-// What entry i adds to the least value of the entries before it.
+// What entry i adds to the least value of the entries before it: nothing where it is 0.
 fn least_share(n: usize, low: &[i64], high: &[i64], x: &[i64], i: usize) -> i64
     requires { ⌜ Asked n (now low) (now high) (now x) × (i < n) ⌝ }
     ensures { λ r. ⌜ r ≡ leastShare n (now (low .entry)) (now (high .entry)) (now (x .entry)) i ⌝ }
 {
+    if x[i] == 0 {
+        return 0;
+    }
     let row = least_row(n, low, high, x, i);
     let l = tables::entry(n, low, i, i);
     2 * row + l * (x[i] * x[i])

@@ -44,14 +44,16 @@ module _ {n : ℕ} {M : Matrix} {f : List ℤ} where
       go a b k m (yes e) = rw e (getD-set-same f (i * n + j) (M i j) (pos 0) l) ∙ ap₂ M (sym (same-row i j a b h k e)) (sym (same-column i j a b h k e))
       go a b k m (no d) = getD-set-other f (i * n + j) (a * n + b) (M i j) (pos 0) d ∙ w .entries a b k (omega arith)
 
+  -- a table that was written has the numbers of the matrix's table
+  pub written-nth : Written n M f (n * n) → (k : ℕ) → k < n * n → nth f k ≡ nth (table n M) k
+  written-nth w k h =
+      let r = row-inside n k h in
+      let c = column-inside n k h in
+      nth-at n k f ∙ w .entries (k / n) (k % n) c (inside r c) ∙ sym (nth-at n k (table n M) ∙ at-table n M (k / n) (k % n) r c)
+
   -- a buffer of n² numbers is then the whole table
   pub written-table : length f ≡ n * n → Written n M f (n * n) → f ≡ table n M
-  written-table e w =
-      ext-getD (pos 0) f (table n M) (e ∙ sym (length-table n M)) (λ k h.
-      let l : k < n * n = omega arith in
-      let r = row-inside n k l in
-      let c = column-inside n k l in
-      nth-at n k f ∙ w .entries (k / n) (k % n) c (inside r c) ∙ sym (nth-at n k (table n M) ∙ at-table n M (k / n) (k % n) r c))
+  written-table e w = ext-getD (pos 0) f (table n M) (e ∙ sym (length-table n M)) (λ k h. written-nth w k (omega arith))
 
 -- the table of the factor, whose columns stand in t
 pub factor-table : (t : List ℤ) (n : ℕ) → table n (triangle t) ≡ table n (entries (columnsOf t n))

@@ -7,7 +7,7 @@ ghost use Rattle.residual.specs.Slack.{triangle};
 ghost use Rattle.verdict.specs.FactorTable.{Written};
 
 // Entry (i, j) of the factor: 0 below the diagonal.
-fn factor_entry(t: &[i64; 64], i: usize, j: usize) -> i64
+pub fn factor_entry(t: &[i64; 64], i: usize, j: usize) -> i64
     requires { ⌜ (i < 8) × (j < 8) ⌝ }
     ensures { λ r. ⌜ r ≡ triangle (now (t .entry)) i j ⌝ }
 {

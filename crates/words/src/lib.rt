@@ -121,7 +121,7 @@ pub fn store_i64(b: &mut [u8], at: usize, v: i64)
 }
 
 // The first k numbers of b, of `size` bytes each, to the start of out.
-fn load_numbers(b: &[u8], out: &mut [i64], k: usize, size: usize)
+pub fn load_numbers(b: &[u8], out: &mut [i64], k: usize, size: usize)
     requires { ⌜ (size ≡ bytes (widthOf size)) × (k * size ≤ length (now b)) × (k ≤ length (now out)) ⌝ }
     ensures { λ _. ⌜ now (out .exit) ≡ numbersOf (widthOf size) (now (b .entry)) k ++ drop k (now (out .entry)) ⌝ }
 {
@@ -131,16 +131,6 @@ fn load_numbers(b: &[u8], out: &mut [i64], k: usize, size: usize)
         out[i] = v;
         i += 1;
     }
-}
-
-// The first k numbers of b, and zeros after them.
-pub fn load_table(b: &[u8], k: usize) -> [i64; 64]
-    requires { ⌜ (k * bytes w64 ≤ length (now b)) × (k ≤ 64) ⌝ }
-    ensures { λ r. ⌜ r ≡ paddedNumbersOf w64 64 (now (b .entry)) k ⌝ }
-{
-    let mut a = [0i64; 64];
-    load_numbers(b, &mut a, k, SIZE);
-    a
 }
 
 // The first k numbers of b, and zeros after them.

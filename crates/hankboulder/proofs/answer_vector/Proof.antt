@@ -1,36 +1,41 @@
-use mathlib.Core.Path.{_∙_}
-use Prim.Native.Nat.{_*_, _-_}
+use mathlib.Core.Path.{refl, _∙_}
+use native.Mathlib.Omega.{arith}
 use borrow.Author.Needs.{needs}
-use Rattle.words.specs.Numbers.{paddedNumbersOf}
 use Rattle.tables.proofs.Matrix.{at-most-64}
-use Rattle.hankboulder.proofs.Padded.{loaded, vector-padded}
+use Rattle.hankboulder.proofs.Padded.{room, vector-loaded}
 use Rattle.hankboulder.proofs.answer_vector.Statement.{statement}
 use Rattle.hankboulder.proofs.answer_vector.Tie as tie
 
-abbrev start : (c : tie.After-x) → tie.Start
-start c = c .before .before .before .before .before .before .before .before .before
+-- where one, two and all three are loaded
+abbrev both : (c : tie.After-load-numbers3) → tie.After-load-numbers2
+both c = c .before .before .before
 
-returns : tie.Need-returns
-unfolding paddedNumbersOf
-returns c =
-    let t = c .before .before .before .before in
-    let z = 64 - start (c .before) .args .n * start (c .before) .args .n in
-    c .answer .ensures ∙ rw (t .before .before .load-table .ensures, t .before .load-table2 .ensures, t .load-vector .ensures) (vector-padded _ z z (8 - start (c .before) .args .n) _ _ _)
+abbrev one : (c : tie.After-load-numbers3) → tie.After-load-numbers
+one c = both c .before .before .before
+
+abbrev start : (c : tie.After-load-numbers3) → tie.Start
+start c = one c .before .before .before .before .before
 
 pub answer-vector-spec : {M : Type 1} → statement M
 answer-vector-spec =
     tie.close
     (tie.spec
     (λ c. search needs)
-    (λ c κs. let p = c .before .before .before .pre in (p .1, at-most-64 (p .0)))
-    (λ c κs. let p = c .before .before .before .before .pre in (p .2, at-most-64 (p .0)))
-    (λ c κs. let p = c .before .before .before .before .before .pre in (p .3, p .0))
+    (λ c. search needs)
+    (λ c κs. let p = c .before .before .before .before .pre in (refl, p .1, at-most-64 (p .0)))
+    (λ c. search needs)
+    (λ c κs. let p = c .before .before .before .before .before .before .before .pre in (refl, p .2, at-most-64 (p .0)))
+    (λ c. search needs)
+    (λ c κs. let p = c .before .before .before .before .before .before .before .before .before .before .pre in (refl, omega arith, p .0))
     (λ c. search needs)
     (λ c. search needs)
     (λ c. search needs)
     (λ c κs.
-    let p = start c .pre in
-    let m = at-most-64 (p .0) in
-    let t = c .before .before .before in
-    (p .0, loaded _ (t .before .before .load-table .ensures) m, loaded _ (t .before .load-table2 .ensures) m, loaded _ (t .load-vector .ensures) (p .0)))
-    returns)
+    let t = c .before .before .before .before in
+    let h = start t .pre .0 in
+    let m = at-most-64 h in
+    (h, room _ (one t .load-numbers .ensures) m, room _ (both t .load-numbers2 .ensures) m, room _ (t .load-numbers3 .ensures) h))
+    (λ c.
+    let t = c .before .before .before .before .before in
+    c .answer .ensures
+    ∙ vector-loaded _ (start t .pre .0) _ _ (one t .load-numbers .ensures) (both t .load-numbers2 .ensures) _ (t .load-numbers3 .ensures)))

@@ -1,4 +1,3 @@
-use mathlib.Core.Path.{sym, _∙_}
 use native.Mathlib.Omega.{arith}
 use borrow.Author.Needs.{needs}
 use lib.ListN.{length-take}
@@ -12,9 +11,8 @@ main-spec =
     (λ c. search needs)
     (λ c κs. search needs)
     (λ c. search needs)
-    (λ c. search needs)
-    (λ c κs. search needs)
-    (λ c. c .before .report .ensures .1)
-    (λ c. let r = c .before .before .report in omega (arith, r .ensures .1, length-take (r .result .length) (r .result .text)))
+    (λ c κs. let size = c .file3 .given in (omega arith, c .before .before .read-full .ensures .0))
+    (λ c. c .before .report-read .ensures .1)
+    (λ c. let r = c .before .before .report-read in omega (arith, r .ensures .1, length-take (r .result .length) (r .result .text)))
     (λ c κs. search needs)
     (λ c. search needs))

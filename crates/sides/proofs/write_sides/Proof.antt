@@ -7,7 +7,8 @@ use mir.Syntax.{w64}
 use mir.Val.{toZ, ofZ}
 use Rattle.integers.proofs.Machine.{clean, clean-element, clean-result}
 use Rattle.tables.specs.Matrix.{nth}
-use Rattle.sides.specs.Contracts.{smallerHalf, SidesIn}
+use Rattle.sides.specs.Sides.{smallerHalf}
+use Rattle.sides.specs.Contracts.{SidesIn}
 use Rattle.sides.proofs.HalfSides.{low-fits, high-fits, sides-none, sides-more}
 use Rattle.sides.proofs.write_sides.Statement.{statement}
 use Rattle.sides.proofs.write_sides.Tie as tie
@@ -27,12 +28,12 @@ half c =
     clean-result (c .half-side) ∙ c .half-side .ensures
     ∙ rw (clean-element _ (c .before .before .half-side-arg .given), clean-element _ (c .before .half-side-arg2 .given), clean (f .b))
 
-low : tie.Need-sub-out Inv-loop μ-loop
+low : tie.Need-sub-low Inv-loop μ-loop
 low c =
     let b = c .before .before .before .before in
     rw (half (c .before), clean-element _ (c .x .given)) (low-fits (b .before .before .pre .0) _ (b .loop-test .taken))
 
-high : tie.Need-add-out Inv-loop μ-loop
+high : tie.Need-add-high Inv-loop μ-loop
 high c =
     let b = c .before .before .before .before in
     rw (half (c .before), clean-element _ (c .x .given)) (high-fits (b .before .before .pre .0) _ (b .loop-test .taken))
@@ -61,12 +62,12 @@ write-sides-spec =
     -- c[k]
     (λ c. let order = c .before .before .before .before .before .pre .0 .order in omega arith)
     (λ c. let size = c .before .before .before .before .before .pre .0 .centre-length in omega arith)
-    -- the two stores
+    -- the two ends and their stores
     low
-    (λ c. let order = c .before .before .before .before .before .before .pre .0 .order in omega arith)
-    (λ c. let order = c .before .before .before .before .before .before .pre .0 .order in omega arith)
-    (λ c. let order = c .before .before .before .before .before .before .pre .0 .order in omega arith)
     high
+    (λ c. let order = c .before .before .before .before .before .before .pre .0 .order in omega arith)
+    (λ c. let order = c .before .before .before .before .before .before .pre .0 .order in omega arith)
+    (λ c. let order = c .before .before .before .before .before .before .pre .0 .order in omega arith)
     (λ c. let order = c .before .before .before .before .before .before .pre .0 .order in omega arith)
     (λ c. let order = c .before .before .before .before .before .before .pre .0 .order in omega arith)
     (λ c. let order = c .before .before .before .before .before .before .pre .0 .order in omega arith)

@@ -1,4 +1,4 @@
--- The loop's invariant is the walk's, before the rows from i - 1 down.
+-- The loop's invariant is the walk's, with the rows below `left` still to be done.
 use mathlib.Core.Path.{_≡_, subst}
 use mathlib.Core.Bool.{true, false}
 use Prim.Native.Nat.{suc, _-_, _≤_, _<_}
@@ -16,32 +16,32 @@ use Rattle.solved.proofs.solve.Statement.{statement}
 use Rattle.solved.proofs.solve.Tie as tie
 
 abbrev Inv-loop : tie.InvT-loop
-Inv-loop n t j m s x₀ i₀ x i = (i ≤ m) × Solving n t j m (toZ w64 s) x i
+Inv-loop n t j m s x₀ left₀ x left = (left ≤ m) × Solving n t j m (toZ w64 s) x left
 
 abbrev μ-loop : tie.MeasureT-loop
-μ-loop n t j m s x₀ i₀ x i = i
+μ-loop n t j m s x₀ left₀ x left = left
 
 -- in the loop: there is a row, and what holds before it
-inside : (c : tie.In-loop Inv-loop μ-loop) → c .before .loop .i - 1 < c .before .before .before .before .args .m
+inside : (c : tie.In-loop Inv-loop μ-loop) → c .before .loop .left - 1 < c .before .before .before .before .args .m
 inside c = let h = c .before .loop .inv .0 in omega arith
 
-in-array : (c : tie.In-loop Inv-loop μ-loop) → c .before .loop .i - 1 < 8
+in-array : (c : tie.In-loop Inv-loop μ-loop) → c .before .loop .left - 1 < 8
 in-array c = let a = c .before .before .before .before .pre .0 in omega (arith, inside c, a .rows, a .inside, a .order)
 
 walked : (c : tie.In-loop Inv-loop μ-loop) →
     (let a = c .before .before .before .before .args in
     let l = c .before .loop in
-    Solving (a .n) (a .t .now) (a .j) (a .m) (toZ w64 (ofZ w64 (a .s))) (l .x) (suc (l .i - 1)))
+    Solving (a .n) (a .t .now) (a .j) (a .m) (toZ w64 (ofZ w64 (a .s))) (l .x) (suc (l .left - 1)))
 walked c =
     let l = c .before .loop in
-    let e : l .i ≡ suc (l .i - 1) = omega arith in
+    let e : l .left ≡ suc (l .left - 1) = omega arith in
     subst (Solving _ _ _ _ _ _) e (l .inv .1)
 
 -- what the range test found
 passed : (c : tie.Else1 Inv-loop μ-loop) →
     (let p = c .before .before .before .before in
     let a = p .before .before .before .before .args in
-    within vectorRange (entryOf (a .t .now) (p .before .loop .x) (p .before .loop .i - 1) (a .j)) ≡ true)
+    within vectorRange (entryOf (a .t .now) (p .before .loop .x) (p .before .loop .left - 1) (a .j)) ≡ true)
 passed c =
     let e = c .before .before .entry in
     rw (clean-result e, e .ensures) at (call-true (c .before .within .ensures) (c .if1 .left))
@@ -49,7 +49,7 @@ passed c =
 failed : (c : tie.Then1 Inv-loop μ-loop) →
     (let p = c .before .before .before .before in
     let a = p .before .before .before .before .args in
-    within vectorRange (entryOf (a .t .now) (p .before .loop .x) (p .before .loop .i - 1) (a .j)) ≡ false)
+    within vectorRange (entryOf (a .t .now) (p .before .loop .x) (p .before .loop .left - 1) (a .j)) ≡ false)
 failed c =
     let e = c .before .before .entry in
     rw (clean-result e, e .ensures) at (call-false (c .before .within .ensures) (c .if1 .taken))
@@ -72,7 +72,7 @@ returns-2 : tie.Need-returns-2 Inv-loop μ-loop
 returns-2 c =
     let l = c .before .loop in
     let s = c .before .before .before .before in
-    let e : l .i ≡ 0 = omega arith in
+    let e : l .left ≡ 0 = omega arith in
     record { answer = rw (clean (s .fits .s)) at (solving-end (s .pre .0) (rw e at (l .inv .1))); size = l .inv .1 .size }
 
 pub solve-spec : {M : Type 1} → statement M
@@ -87,6 +87,7 @@ solve-spec =
     returns
     (λ c. let h = in-array (c .before .before .before .before) in omega arith)
     (λ c. in-array (c .before .before .before .before))
+    (λ c. omega arith)
     (λ c. omega arith)
     loop-again
     returns-2)

@@ -1,76 +1,75 @@
 -- The loop's invariant is the search's, before bit b - 1. The measure is b.
-use mathlib.Core.Path.{_≡_}
-use Prim.Native.Nat.{_-_, _^_}
+use mathlib.Core.Path.{_≡_, sym, _∙_}
+use Prim.Native.Nat.{suc, _*_, _-_, _^_, _%_}
 use native.Mathlib.Omega.{arith}
 use mir.Syntax.{w64}
 use mir.Val.{toZ}
-use lib.IntN.{pos, _+ℤ_}
-use Rattle.integers.proofs.Machine.{clean, fits}
-use Rattle.steps.specs.Diagonals.{Takeable}
-use Rattle.steps.proofs.Trials.{none-takeable, low-lowerable, high-lowerable, takeable-fits}
-use Rattle.steps.proofs.Searches.{Searching, shifted, search-bit, search-start, search-takeable, search-more, search-left, search-end}
+use lib.IntN.{pos}
+use Rattle.integers.proofs.Machine.{clean, fits, fits-within}
+use Rattle.cholesky.specs.Store.{upper}
+use Rattle.steps.proofs.Searches.{Searching, shifted, tried-within, scaled-nonneg, scaled-within, search-bit, search-start, search-tried, search-more, search-left, search-end}
 use Rattle.steps.proofs.search.Statement.{statement}
 use Rattle.steps.proofs.search.Tie as tie
 
 abbrev Inv-loop : tie.InvT-loop
-Inv-loop n low high first last l₀ u₀ t₀ b₀ l u t b = Searching n first last low high l u (toZ w64 t) b
+Inv-loop n first last h t₀ b₀ t b = Searching n first last (upper h) (toZ w64 t) b
 
 abbrev μ-loop : tie.MeasureT-loop
-μ-loop n low high first last l₀ u₀ t₀ b₀ l u t b = b
+μ-loop n first last h t₀ b₀ t b = b
 
-takeable : (c : tie.In-loop Inv-loop μ-loop) →
-    Takeable (c .before .before .args .n) (c .before .before .args .last) (toZ w64 (c .before .loop .t) +ℤ pos (2 ^ (c .before .loop .b - 1)))
-    (c .before .before .args .low .now) (c .before .before .args .high .now)
-takeable c = let p = c .before .before .pre in search-takeable (p .0) (p .1) (search-bit (c .loop-test .taken) (c .before .loop .inv))
+-- before bit b - 1, and what is tried with it
+module _ (c : tie.In-loop Inv-loop μ-loop) where
+  searching : (let s = c .before .before .args in
+      Searching (s .n) (s .first) (s .last) (upper (s .h .now)) (toZ w64 (c .before .loop .t)) (suc (c .before .loop .b - 1)))
+  searching = search-bit (c .loop-test .taken) (c .before .loop .inv)
+
+  bit : toZ w64 (1 * 2 ^ (c .before .loop .b - 1) % 2 ^ 64) ≡ pos (2 ^ (c .before .loop .b - 1))
+  bit = shifted (c .before .loop .b - 1) (omega (arith, c .before .loop .inv .least, c .loop-test .taken))
 
 add-next : tie.Need-add-next Inv-loop μ-loop
-add-next c =
-    let l = c .before .loop in
-    rw (shifted (l .b - 1) (omega (arith, l .inv .bits, c .loop-test .taken))) (takeable-fits (takeable c))
+add-next c = rw (bit c) (fits-within (tried-within (search-tried (searching c))) (omega arith))
+
+mul-trial : tie.Need-mul-trial Inv-loop μ-loop
+mul-trial c = rw (clean (add-next c), bit c) (fits-within (scaled-within (search-tried (searching c))) (omega arith))
 
 trial-requires : tie.Need-trial-requires Inv-loop μ-loop
 trial-requires c κs =
-    let i = c .before .before in
-    let l = i .before .loop in
-    rw (clean (add-next i), shifted (l .b - 1) (omega (arith, l .inv .bits, i .loop-test .taken))) (takeable i, l .inv .low-copy, l .inv .high-copy)
+    let h = search-tried (searching c) in
+    rw (clean (mul-trial c), clean (add-next c), bit c) (c .before .before .pre, scaled-nonneg h, scaled-within h)
 
 loop-again : tie.Need-loop-again Inv-loop μ-loop
 loop-again c =
-    let i = c .before .before .before .before in
-    let l = i .before .loop in
-    let h = shifted (l .b - 1) (omega (arith, l .inv .bits, i .loop-test .taken)) in
-    let r = rw (clean (add-next i), h, c .if1 .taken) at (c .before .trial .ensures) in
-    rw (clean (add-next i), h) (search-more (search-bit (i .loop-test .taken) (l .inv)) r)
+    let i = c .before .before in
+    let r = rw (clean (mul-trial i), clean (add-next i), bit i) at (c .before .trial .ensures) in
+    rw (clean (add-next i), bit i) (search-more (searching i) (sym r ∙ c .if1 .taken))
 
 loop-again-2 : tie.Need-loop-again-2 Inv-loop μ-loop
 loop-again-2 c =
-    let i = c .before .before .before .before in
-    let l = i .before .loop in
-    let h = shifted (l .b - 1) (omega (arith, l .inv .bits, i .loop-test .taken)) in
-    let r = rw (clean (add-next i), h, c .if1 .left) at (c .before .trial .ensures) in
-    search-left (search-bit (i .loop-test .taken) (l .inv)) r
+    let i = c .before .before in
+    let r = rw (clean (mul-trial i), clean (add-next i), bit i) at (c .before .trial .ensures) in
+    search-left (searching i) (sym r ∙ c .if1 .left)
 
 returns : tie.Need-returns Inv-loop μ-loop
 returns c =
-    let a = c .before .before .before .before in
-    let l = a .before .loop in
-    let e : l .b ≡ 0 = omega (arith, a .loop-test .left) in
-    search-end (rw e at (l .inv)) (c .before .before .lower .ensures) (c .lower2 .ensures)
+    let l = c .before .loop in
+    let e : l .b ≡ 0 = omega (arith, c .loop-test .left) in
+    search-end (rw e at (l .inv))
 
 pub search-spec : {M : Type 1} → statement M
 search-spec =
     tie.close
-    (tie.spec Inv-loop μ-loop
-    (λ c. search-start (c .pre .2) (c .pre .3))
+    (tie.spec
+    Inv-loop
+    μ-loop
+    (λ c. search-start)
     (λ c. omega (arith, c .loop-test .taken))
-    (λ c. let b = c .before .loop .inv .bits in fits (omega arith))
-    (λ c. omega (arith, c .before .loop .inv .bits))
+    (λ c. let b = c .before .loop .inv .least in fits (omega arith))
+    (λ c. omega (arith, c .before .loop .inv .least))
     add-next
+    mul-trial
     trial-requires
-    (λ c. omega (arith, c .before .before .before .before .loop-test .taken))
+    (λ c. omega (arith, c .before .before .loop-test .taken))
     loop-again
-    (λ c. omega (arith, c .before .before .before .before .loop-test .taken))
+    (λ c. omega (arith, c .before .before .loop-test .taken))
     loop-again-2
-    (λ c κs. let p = c .before .before .before .pre in (low-lowerable (none-takeable (p .0) (p .1)), c .before .before .loop .inv .low-copy))
-    (λ c κs. let p = c .before .before .before .before .before .pre in (high-lowerable (none-takeable (p .0) (p .1)), c .before .before .before .before .loop .inv .high-copy))
     returns)

@@ -1,66 +1,92 @@
--- The loop's invariant: the steps before k are stored, and the copies are the tables.
-use mathlib.Core.Path.{_≡_, refl, _∙_}
-use Prim.Native.Nat.{_*_, _-_, _≤_, _<_}
+-- The loop's invariant: the steps before the next are stored, and the table holds what is left of H, unless factoring stopped in a row before.
+use mathlib.Core.Path.{_≡_, refl, sym, _∙_, subst}
+use mathlib.Core.Bool.{true, false}
+use Prim.Native.Nat.{_-_, _≤_, _<_}
 use native.Mathlib.Omega.{arith}
 use native.Mathlib.Numerals.{add-one}
+use lib.Dec.{T}
 use Rattle.integers.proofs.Machine.{clean-result}
 use Rattle.tables.specs.Matrix.{at}
 use Rattle.tables.specs.Buffers.{Filled}
-use Rattle.tables.proofs.Matrix.{at-most-64}
 use Rattle.tables.proofs.Buffers.{filled-none, filled-more}
+use Rattle.cholesky.specs.Scale.{takeOff, scaled}
 use Rattle.steps.specs.Steps.{stepAt}
-use Rattle.steps.specs.Diagonals.{Copied}
-use Rattle.steps.proofs.Searches.{step-only}
+use Rattle.cholesky.proofs.Filling.{checked-lent}
+use Rattle.cholesky.proofs.Walked.{Walked}
+use Rattle.steps.proofs.Walked.{Stopped, walked-start, walked-triable, walked-on, walked-off, stopped-more, step-at-is, step-at-none}
 use Rattle.steps.proofs.steps_at.Statement.{statement}
 use Rattle.steps.proofs.steps_at.Tie as tie
 
 abbrev Inv-loop : tie.InvT-loop
-Inv-loop n low high t₀ l₀ u₀ k₀ t l u k =
-    (k ≤ n) × Filled 8 k (stepAt n (at n low) (at n high)) t × Copied low (n * n) l × Copied high (n * n) u
+Inv-loop n low high t₀ h₀ goes-on₀ next₀ t h goes-on next =
+    (next ≤ n) × Filled 8 next (stepAt n (at n low) (at n high)) t
+    × (goes-on ≡ true → Walked (scaled takeOff n (at n low) (at n high)) h next n)
+    × (goes-on ≡ false → Stopped n (scaled takeOff n (at n low) (at n high)) next)
 
 abbrev μ-loop : tie.MeasureT-loop
-μ-loop n low high t₀ l₀ u₀ k₀ t l u k = n - k
+μ-loop n low high t₀ h₀ goes-on₀ next₀ t h goes-on next = n - next
 
 -- an index of t
-index : (c : tie.In-loop Inv-loop μ-loop) → c .before .loop .k < 8
-index c = let p = c .before .before .before .before .before .before .before .before .pre .0 in omega (arith, p .order, c .loop-test .taken)
+index : (c : tie.In-loop Inv-loop μ-loop) → c .before .loop .next < 8
+index c = let p = c .before .before .before .before .pre .0 in omega (arith, p .order, c .loop-test .taken)
+
+-- before the step of k, where factoring went on so far
+walked : (c : tie.Then1 Inv-loop μ-loop) →
+    (let s = c .before .before .before .before .before .args in
+    Walked (scaled takeOff (s .n) (at (s .n) (s .low .now)) (at (s .n) (s .high .now))) (c .before .before .loop .h) (c .before .before .loop .next) (s .n))
+walked c = c .before .before .loop .inv .2 (c .if1 .taken)
 
 loop-again : tie.Need-loop-again Inv-loop μ-loop
 loop-again c =
-    let i = c .before .before .before in
+    let f = c .before .before in
+    let d = f .before .before in
+    let i = d .before in
     let l = i .before .loop in
-    let f = c .search .ensures in (
+    let p = i .before .before .before .before .pre .0 in
+    let k = i .loop-test .taken in
+    let r = rw add-one at (f .search .ensures) in (
+      omega (arith, k),
+      rw add-one (filled-more (index i) (clean-result (f .search) ∙ r ∙ step-at-is (p .bounds) k (walked d)) (l .inv .1)),
+      λ e. rw add-one (walked-on (walked d) k (c .pass-row .ensures) e),
+      λ e. rw add-one (walked-off (walked d) k (c .pass-row .ensures) e),
+    )
+
+loop-again-2 : tie.Need-loop-again-2 Inv-loop μ-loop
+loop-again-2 c =
+    let i = c .before in
+    let l = i .before .loop in
+    let p = i .before .before .before .before .pre .0 in
+    let s = l .inv .3 (c .if1 .left) in (
       omega (arith, i .loop-test .taken),
-      rw add-one (filled-more (index i) (clean-result (c .search) ∙ f .found ∙ step-only _ _ _ (l .k)) (l .inv .1)),
-      f .low,
-      f .high,
+      rw add-one (filled-more (index i) (step-at-none (p .bounds) (i .loop-test .taken) s) (l .inv .1)),
+      λ e. absurd (subst T (sym e ∙ c .if1 .left) tt),
+      λ e. rw add-one (stopped-more s),
     )
 
 pub steps-at-spec : {M : Type 1} → statement M
 steps-at-spec =
     tie.close
-    (tie.spec Inv-loop μ-loop
-    (λ c. let p = c .pre .0 in omega (arith, at-most-64 (p .order)))
-    (λ c. refl)
-    (λ c κs. let p = c .before .pre .0 in (p .low-length, at-most-64 (p .order)))
-    (λ c. let p = c .before .before .before .pre .0 in omega (arith, at-most-64 (p .order)))
-    (λ c. refl)
-    (λ c κs. let p = c .before .before .before .before .pre .0 in (p .high-length, at-most-64 (p .order)))
+    (tie.spec
+    Inv-loop
+    μ-loop
+    (λ c κs. (checked-lent (c .before .pre .0), refl))
     (λ c.
-    let s = c .before .before .before .before .before .before in
-    (omega arith, filled-none (s .pre .1), c .before .before .before .before .copy-numbers .ensures, c .before .copy-numbers2 .ensures))
+    let s = c .before .before in
+    let p = s .pre .0 in
+    (omega arith, filled-none (s .pre .1), λ e. walked-start (p .bounds) (p .order) (c .scale .ensures), λ e. absurd (subst T e tt)))
     (λ c. omega (arith, index c))
-    (λ c κs.
-    let i = c .before .before in
-    let l = i .before .loop in
-    let p = i .before .before .before .before .before .before .before .before .pre .0 in
-    (p, omega (arith, i .loop-test .taken), l .inv .2, l .inv .3))
+    (λ c κs. let d = c .before in rw add-one (walked-triable (walked d) (d .before .loop-test .taken)))
     (λ c. omega (arith, index (c .before .before .before)))
     (λ c. index (c .before .before .before))
-    (λ c. omega (arith, c .before .before .before .loop-test .taken))
+    (λ c κs. let d = c .before .before .before in (walked d .sized, d .before .loop-test .taken))
+    (λ c. omega (arith, c .before .before .before .before .before .loop-test .taken))
     loop-again
+    (λ c. omega (arith, index (c .before)))
+    (λ c. index (c .before))
+    (λ c. omega (arith, c .before .loop-test .taken))
+    loop-again-2
     (λ c.
     let l = c .before .loop in
-    let s = c .before .before .before .before .before .before .before .before in
-    let e : l .k ≡ s .args .n = omega (arith, l .inv .0, c .loop-test .left) in
+    let s = c .before .before .before .before in
+    let e : l .next ≡ s .args .n = omega (arith, l .inv .0, c .loop-test .left) in
     rw e at (l .inv .1)))

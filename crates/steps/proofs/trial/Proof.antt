@@ -1,53 +1,44 @@
-use mathlib.Core.Path.{_∙_}
+use mathlib.Core.Path.{_≡_, sym, _∙_}
+use mathlib.Core.Bool.{true}
+use native.Mathlib.Omega.{arith}
 use Rattle.integers.proofs.Machine.{clean}
+use Rattle.tables.specs.Checks.{all}
 use Rattle.tables.proofs.Checks.{call-false, call-true}
-use Rattle.steps.proofs.Copies.{lowered-apart}
-use Rattle.steps.proofs.Trials.{low-lowerable, high-lowerable, tried-fails, tried-checked, tried-ends}
+use Rattle.cholesky.specs.Store.{upper}
+use Rattle.cholesky.proofs.Rows.{sized-less}
+use Rattle.steps.specs.Tables.{stays}
+use Rattle.steps.proofs.Diagonals.{trial-fails, trial-short, trial-sized, trial-ends}
 use Rattle.steps.proofs.trial.Statement.{statement}
 use Rattle.steps.proofs.trial.Tie as tie
 
-ends-requires : tie.Need-ends-requires
-ends-requires c κs =
-    let p = c .before .before .before .before in
-    let a = p .before .before .before in
-    let s = a .before .before .before .before in
-    let e = clean (s .fits .t) in
-    tried-checked (s .pre .0) (s .args .first) (rw e at (a .before .before .lower .ensures)) (rw e at (a .lower2 .ensures)) (call-true (p .before .positive .ensures) (p .if1 .left))
+-- the diagonal stays
+kept : (c : tie.Else1) → (let a = c .before .before .args in all (a .last) (stays (upper (a .h .now)) (a .first) (a .e)) ≡ true)
+kept c = rw (clean (c .before .before .fits .e)) at (call-true (c .before .stays .ensures) (c .if1 .left))
 
-returns : tie.Need-returns
-returns c =
-    let a = c .before .before .before in
-    let s = a .before .before .before .before in
-    let e = clean (s .fits .t) in
-    let l = rw e at (a .before .before .lower .ensures) in
-    let u = rw e at (a .lower2 .ensures) in
-    record {
-      answered = tried-fails (s .pre .0) (s .args .first) l u (call-false (c .before .positive .ensures) (c .if1 .taken));
-      low = lowered-apart (s .args .t) l;
-      high = lowered-apart (s .args .t) u;
-    }
-
-returns-2 : tie.Need-returns-2
-returns-2 c =
-    let p = c .before .before .before .before .before in
-    let a = p .before .before .before in
-    let s = a .before .before .before .before in
-    let e = clean (s .fits .t) in
-    let l = rw e at (a .before .before .lower .ensures) in
-    let u = rw e at (a .lower2 .ensures) in
-    record {
-      answered = c .ends .ensures ∙ tried-ends (s .pre .0) (s .args .first) l u (call-true (p .before .positive .ensures) (p .if1 .left));
-      low = lowered-apart (s .args .t) l;
-      high = lowered-apart (s .args .t) u;
-    }
+returns-3 : tie.Need-returns-3
+returns-3 c =
+    let e = c .before .before .before .before .before .before in
+    let s = e .before .before in
+    let w = rw (clean (s .fits .e)) at (c .before .before .lower .ensures) in
+    c .ends-from .ensures ∙ trial-ends (s .pre .0) _ (kept e) w (s .pre .1)
 
 pub trial-spec : {M : Type 1} → statement M
 trial-spec =
     tie.close
     (tie.spec
-    (λ c κs. let s = c .before in rw (clean (s .fits .t)) (low-lowerable (s .pre .0), s .pre .1))
-    (λ c κs. let s = c .before .before .before in rw (clean (s .fits .t)) (high-lowerable (s .pre .0), s .pre .2))
-    (λ c κs. c .before .before .before .before .before .pre .0 .checked .order)
-    returns
-    ends-requires
-    returns-2)
+    (λ c κs. let t = c .pre .0 in (sized-less (t .inside) (t .sized), t .ordered, rw (clean (c .fits .e)) (c .pre .2)))
+    (λ c.
+    let s = c .before .before in
+    sym (trial-fails (s .pre .0) _ (rw (clean (s .fits .e)) at (call-false (c .before .stays .ensures) (c .if1 .taken)))))
+    (λ c. let t = c .before .before .pre .0 in omega (arith, t .sized .order, t .inside, t .ordered))
+    (λ c. let e = c .before in sym (trial-short (e .before .before .pre .0) _ (kept e) (c .if2 .taken)))
+    (λ c κs.
+    let s = c .before .before .before .before .before in
+    let t = s .pre .0 in
+    (sized-less (t .inside) (t .sized), t .ordered, rw (clean (s .fits .e)) (s .pre .2)))
+    (λ c κs.
+    let e = c .before .before .before .before .before in
+    let s = e .before .before in
+    let w = rw (clean (s .fits .e)) at (c .before .lower .ensures) in
+    (trial-sized (s .pre .0) _ (kept e) w (s .pre .1), omega (arith, c .before .before .before .before .if2 .left)))
+    returns-3)

@@ -1,5 +1,5 @@
 -- By recursion over the remaining order, n - d: the choices 0 and 1 of entry d, in their order.
-use mathlib.Core.Path.{_≡_, refl}
+use mathlib.Core.Path.{refl}
 use Prim.Native.Nat.{ℕ, _+_, _-_, _<_}
 use native.Mathlib.Omega.{arith}
 use borrow.Fn.Kinds.{In}
@@ -39,12 +39,12 @@ returns-2 : (t : ℕ) → lts.Need-returns-2 (below t, this.Post, choose.Asked, 
 returns-2 t c =
     let s = c .before .before .before .before in
     let g = s .pre .1 .0 in
-    half-hit (g .inside) (below-8 g) _ _ (s .args .plus .now) (rw (c .if2 .taken) at (c .before .search-half .ensures))
+    half-hit (g .inside) (g .same .order) _ _ (s .args .plus .now) (rw (c .if2 .taken) at (c .before .search-half .ensures))
 
 choose-requires : (t : ℕ) → lts.Need-choose-requires (below t, this.Post, choose.Asked, choose.Learnt, search.Asked, search.Learnt) (here t) this.Post
 choose-requires t c κs =
     let g = c .before .before .before .before .before .before .pre .1 .0 in
-    (g .low, g .high, g .inside, g .plus, g .plus, omega arith, omega arith)
+    (g .same, g .other, g .inside, g .plus, g .plus, omega arith, omega arith)
 
 search-requires : (t : ℕ) → lts.Need-search-requires (below t, this.Post, choose.Asked, choose.Learnt, search.Asked, search.Learnt) (here t) this.Post
 search-requires t c κs =
@@ -56,7 +56,7 @@ returns-3 : (t : ℕ) → lts.Need-returns-3 (below t, this.Post, choose.Asked, 
 returns-3 t c =
     let s = c .before .before .before .before .before .before .before .before .before .before .before .before in
     let g = s .pre .1 .0 in
-    half-one (g .inside) (below-8 g) _ _ (s .args .plus .now) (rw (c .before .before .before .before .before .before .before .before .if2 .left) at (c .before .before .before .before .before .before .before .before .before .search-half .ensures)) (c .before .before .before .before .before .choose .ensures)
+    half-one (g .inside) (g .same .order) _ _ (s .args .plus .now) (rw (c .before .before .before .before .before .before .before .before .if2 .left) at (c .before .before .before .before .before .before .before .before .before .search-half .ensures)) (c .before .before .before .before .before .choose .ensures)
     (rw (clean-element _ (c .before .before .before .before .search-arg .given)) at (c .search .ensures))
 
 pub +search-half-spec : {M : Type 1} → statement M

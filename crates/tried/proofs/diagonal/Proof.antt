@@ -19,7 +19,7 @@ abbrev μ-loop : tie.MeasureT-loop
 loop-again : tie.Need-loop-again Inv-loop μ-loop
 loop-again c =
     let order = c .before .before .before .pre .0 .order in
-    (omega arith, rw (clean-result (c .entry), c .entry .ensures, add-one) (diagonal-more (omega arith) (c .before .before .loop .inv .1)))
+    (omega arith, rw (clean-result (c .entry), c .entry .ensures, add-one) (diagonal-more (c .before .before .before .pre .0) (c .before .loop-test .taken) (c .before .before .loop .inv .1)))
 
 pub diagonal-spec : {M : Type 1} → statement M
 diagonal-spec =

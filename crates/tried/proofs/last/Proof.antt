@@ -1,5 +1,5 @@
 -- By the tests, in their order.
-use mathlib.Core.Path.{_≡_, refl}
+use mathlib.Core.Path.{refl}
 use native.Mathlib.Omega.{arith}
 use lib.IntN.{pos, _+ℤ_}
 use borrow.Author.Needs.{needs}

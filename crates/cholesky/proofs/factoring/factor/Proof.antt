@@ -1,47 +1,75 @@
--- The loop's invariant is the sweep's, before column j.
+-- The loop's invariant: the rows before row i were worked out in the columns before `end`, and column `end` stopped after `rows` of them.
 use mathlib.Core.Path.{_≡_}
-use Prim.Native.Nat.{_-_, _≤_}
+use Prim.Native.Nat.{_-_, _≤_, _<_}
 use native.Mathlib.Omega.{arith}
 use native.Mathlib.Numerals.{add-one}
-use Rattle.cholesky.proofs.Sweep.{Sweep, sweep-start, sweep-ready, sweep-column, sweep-stop, sweep-end}
+use Rattle.cholesky.specs.Store.{upper}
+use Rattle.cholesky.proofs.Walked.{Rows, Stop, rows-start, stop-start, rows-some, rows-more, stop-now, stop-kept}
+use Rattle.cholesky.proofs.Sweep.{sweep-stop, sweep-end}
 use Rattle.cholesky.proofs.factoring.factor.Statement.{statement}
 use Rattle.cholesky.proofs.factoring.factor.Tie as tie
 
 abbrev Inv-loop : tie.InvT-loop
-Inv-loop h n t₀ j₀ t j = (j ≤ n) × Sweep h n t j
+Inv-loop n s₀ end₀ rows₀ i₀ s end rows i = (i ≤ end) × (end ≤ n) × (rows ≤ i) × Rows (upper s₀) s i end × (end < n → Stop (upper s₀) s end rows)
 
 abbrev μ-loop : tie.MeasureT-loop
-μ-loop h n t₀ j₀ t j = n - j
+μ-loop n s₀ end₀ rows₀ i₀ s end rows i = end - i
 
-column-requires : tie.Need-column-requires Inv-loop μ-loop
-column-requires c κs =
-    let b = c .before in
-    sweep-ready (b .before .before .pre .0) (b .loop-test .taken) (b .before .loop .inv .1)
+loop-holds : tie.Need-loop-holds Inv-loop μ-loop
+loop-holds c =
+    let z = c .before .before .pre in
+    let s = c .start .ensures in
+    (omega arith, s .bound, omega arith, rows-start z s, stop-start z s)
 
-returns : tie.Need-returns Inv-loop μ-loop
-returns c =
-    let b = c .before .before .before in
-    sweep-stop (b .before .before .pre .0) (b .loop-test .taken) (b .before .loop .inv .1) (c .before .column .ensures) (c .if1 .taken)
+take-row-requires : tie.Need-take-row-requires Inv-loop μ-loop
+take-row-requires c κs =
+    let h = c .before .loop-test .taken in
+    let s = c .before .before .loop .inv .3 in
+    (s .walked .sized, h, rows-some s h)
 
+-- a column stopped
 loop-again : tie.Need-loop-again Inv-loop μ-loop
 loop-again c =
     let b = c .before .before .before in
-    (omega arith, rw add-one (sweep-column (b .before .before .pre .0) (b .loop-test .taken) (b .before .loop .inv .1) (c .before .column .ensures) (c .if1 .left)))
+    let v = b .before .loop .inv in
+    let x = c .before .take-row .ensures in
+    let h = b .loop-test .taken in
+    rw add-one (x .columns .past, omega (arith, v .1), omega arith, rows-more (v .3) h x, λ a. stop-now (v .3) h x (c .if1 .taken))
+
+-- none did
+loop-again-2 : tie.Need-loop-again-2 Inv-loop μ-loop
+loop-again-2 c =
+    let b = c .before .before .before in
+    let l = b .before .loop in
+    let v = l .inv in
+    let x = c .before .take-row .ensures in
+    let h = b .loop-test .taken in
+    let e : c .before .take-row .result ≡ l .end = omega (arith, x .columns .bound) in
+    rw add-one (omega arith, v .1, omega (arith, v .2), rw e at (rows-more (v .3) h x), λ a. stop-kept (v .3) h x (v .2) (v .4 a))
+
+returns : tie.Need-returns Inv-loop μ-loop
+returns c =
+    let l = c .before .before .loop in
+    let e : l .i ≡ l .end = omega arith in
+    sweep-stop (rw e at (l .inv .3)) (l .inv .1) (c .if2 .taken) (l .inv .4 (c .if2 .taken))
 
 returns-2 : tie.Need-returns-2 Inv-loop μ-loop
 returns-2 c =
-    let l = c .before .loop in
-    let e : l .j ≡ c .before .before .args .n = omega arith in
-    sweep-end (c .before .before .pre .0) (rw e at (l .inv .1))
+    let l = c .before .before .loop in
+    let e : l .i ≡ l .end = omega arith in
+    sweep-end (rw e at (l .inv .3)) (l .inv .1) (c .if2 .left)
 
 pub factor-spec : {M : Type 1} → statement M
 factor-spec =
     tie.close
     (tie.spec Inv-loop μ-loop
-    (λ c. (omega arith, sweep-start (c .pre .0) (c .pre .1)))
-    column-requires
-    returns
-    (λ c. omega arith)
-    (λ c. omega arith)
+    (λ c κs. c .before .pre)
+    loop-holds
+    take-row-requires
+    (λ c. let b = c .before .before .before in let order = b .before .before .before .pre .order in omega arith)
+    (λ c. let x = c .before .take-row .ensures in let past = x .columns .past in omega arith)
     loop-again
+    (λ c. omega arith)
+    loop-again-2
+    returns
     returns-2)

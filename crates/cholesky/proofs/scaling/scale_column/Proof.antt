@@ -1,25 +1,38 @@
 -- The loop's invariant is the filling's, before row i.
-use mathlib.Core.Path.{_≡_}
-use Prim.Native.Nat.{suc, _-_, _≤_}
+use mathlib.Core.Path.{_≡_, sym, _∙_}
+use Prim.Native.Nat.{_-_, _≤_}
 use native.Mathlib.Omega.{arith}
 use native.Mathlib.Numerals.{add-one}
 use borrow.Author.Needs.{needs}
 use Rattle.integers.proofs.Machine.{clean-result}
 use Rattle.tables.specs.Matrix.{at}
+use Rattle.cholesky.specs.Scale.{takeOff}
+use Rattle.cholesky.proofs.ScaledMatrix.{scaled-off}
 use Rattle.cholesky.proofs.Filling.{Filling, filling-start, filling-row, filling-end}
 use Rattle.cholesky.proofs.scaling.scale_column.Statement.{statement}
 use Rattle.cholesky.proofs.scaling.scale_column.Tie as tie
 
 abbrev Inv-loop : tie.InvT-loop
-Inv-loop n low high j h₀ i₀ h i = (i ≤ suc j) × Filling n (at n low) (at n high) h j i
+Inv-loop n low high j h₀ i₀ h i = (i ≤ j) × Filling n (at n low) (at n high) h j i
 
 abbrev μ-loop : tie.MeasureT-loop
-μ-loop n low high j h₀ i₀ h i = suc j - i
+μ-loop n low high j h₀ i₀ h i = j - i
 
 loop-again : tie.Need-loop-again Inv-loop μ-loop
 loop-again c =
-    let order = c .before .before .before .pre .0 .order in
-    (omega arith, rw (clean-result (c .scaled), add-one) (filling-row (c .before .loop-test .taken) (omega arith) (c .scaled .ensures) (c .before .before .loop .inv .1)))
+    let s = c .before .before .before in
+    let order = s .pre .0 .order in
+    let l = c .before .before .loop in
+    let off = scaled-off takeOff (s .args .n) _ _ (l .i) (s .args .j) (omega arith) in
+    (omega arith, rw (clean-result (c .middle), add-one) (filling-row (omega arith) (omega arith) (c .middle .ensures ∙ sym off) (l .inv .1)))
+
+returns : tie.Need-returns Inv-loop μ-loop
+returns c =
+    let s = c .before .before .before in
+    let l = c .before .before .loop in
+    let order = s .pre .0 .order in
+    let e : l .i ≡ s .args .j = omega arith in
+    rw (clean-result (c .diagonal)) (filling-end (filling-row (omega arith) (omega arith) (c .diagonal .ensures) (rw e at (l .inv .1))))
 
 pub scale-column-spec : {M : Type 1} → statement M
 scale-column-spec =
@@ -34,4 +47,9 @@ scale-column-spec =
     (λ c. search needs)
     (λ c. omega arith)
     loop-again
-    (λ c. let e : c .before .loop .i ≡ suc (c .before .before .args .j) = omega arith in filling-end (rw e at (c .before .loop .inv .1))))
+    (λ c κs. search needs)
+    (λ c. search needs)
+    (λ c. search needs)
+    (λ c. search needs)
+    (λ c. search needs)
+    returns)

@@ -34,12 +34,10 @@ answer-spec =
     (λ c κs.
     let p = c .before .before .before .before .before .pre in
     record {
-      order = p .0;
+      factor = record { order = p .0; size = p .3; shape = shaped c };
       low-size = p .1;
       high-size = p .2;
-      factor-size = p .3;
       bounds = passed-bounds _ _ _ (passed (c .before .before));
-      shape = shaped c;
     })
-    (λ c. let e = c .before .before in ap verdict (sym (c .if2 .taken) ∙ c .before .tested .ensures) ∙ offer-passed Answer.Refused _ _ _ (passed (e .before .before)) (shaped e))
-    (λ c. let e = c .before .before in ap verdict (sym (c .if2 .left) ∙ c .before .tested .ensures) ∙ offer-passed Answer.Refused _ _ _ (passed (e .before .before)) (shaped e)))
+    (λ c. let e = c .before .before in ap verdict (sym (c .if2 .taken) ∙ c .before .accepted .ensures) ∙ offer-passed Answer.Refused _ _ _ (passed (e .before .before)) (shaped e))
+    (λ c. let e = c .before .before in ap verdict (sym (c .if2 .left) ∙ c .before .accepted .ensures) ∙ offer-passed Answer.Refused _ _ _ (passed (e .before .before)) (shaped e)))

@@ -8,10 +8,10 @@ use Rattle.residual.proofs.row_test.accepted.Statement.{statement}
 use Rattle.residual.proofs.row_test.accepted.Tie as tie
 
 abbrev Inv-loop : tie.InvT-loop
-Inv-loop n low high c over₀ j₀ over j = (j ≤ n) × Rows n c low high over j
+Inv-loop n low high f over₀ j₀ over j = (j ≤ n) × Rows n f low high over j
 
 abbrev μ-loop : tie.MeasureT-loop
-μ-loop n low high c over₀ j₀ over j = n - j
+μ-loop n low high f over₀ j₀ over j = n - j
 
 loop-again : tie.Need-loop-again Inv-loop μ-loop
 loop-again c =
@@ -33,5 +33,5 @@ accepted-spec =
     (λ c. omega arith)
     (λ c. omega arith)
     loop-again
-    (λ c κs. c .before .before .before .pre .order)
+    (λ c κs. c .before .before .before .pre .factor .order)
     returns)

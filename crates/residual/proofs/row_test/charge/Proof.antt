@@ -6,24 +6,17 @@ use native.Mathlib.Numerals.{add-one}
 use mir.Syntax.{w64}
 use mir.Val.{toZ}
 use Rattle.integers.proofs.Machine.{clean, clean-element, clean-result}
-use Rattle.cholesky.proofs.Sizes.{shorter}
-use Rattle.residual.proofs.Slack.{Charging, charging-start, charging-row-fits, charging-own-fits, charging-next, charging-end}
+use Rattle.residual.proofs.Slack.{low-within, Charging, charging-start, charging-row-fits, charging-own-fits, charging-next, charging-end}
 use Rattle.residual.proofs.row_test.charge.Statement.{statement}
 use Rattle.residual.proofs.row_test.charge.Tie as tie
 use Rattle.residual.proofs.row_test.charge.Reads as reads
 use Rattle.residual.proofs.row_test.charge.Lts as lts
 
 abbrev Inv-loop : tie.InvT-loop
-Inv-loop n low high c j over₀ own₀ i₀ over own i = (i ≤ j) × Charging n c low high j over₀ over (toZ w64 own) i
+Inv-loop n low high f j over₀ own₀ i₀ over own i = (i ≤ j) × Charging n f low high j over₀ over (toZ w64 own) i
 
 abbrev μ-loop : tie.MeasureT-loop
-μ-loop n low high c j over₀ own₀ i₀ over own i = j - i
-
-diagonal-requires : tie.Need-diagonal-requires Inv-loop μ-loop
-diagonal-requires c κs =
-    let p = c .pre in
-    let s = p .0 in
-    (s .order, p .1, s .low-size, record { size = s .bounds .low-range _ _ (p .1) (p .1) }, shorter (s .columns _ (p .1)) (omega arith))
+μ-loop n low high f j over₀ own₀ i₀ over own i = j - i
 
 loop-holds : tie.Need-loop-holds Inv-loop μ-loop
 loop-holds c =
@@ -59,17 +52,17 @@ pub charge-spec : {M : Type 1} → statement M
 charge-spec =
     tie.close
     (tie.spec Inv-loop μ-loop
-    diagonal-requires
+    (λ c κs. let p = c .pre in (p .0 .factor, p .1, p .0 .low-size, low-within (p .0) (p .1) (p .1)))
     loop-holds
     (λ c κs. let p = c .before .before .before .pre in (p .0, c .loop-test .taken, p .1))
-    (λ c. let n8 = c .before .before .before .before .pre .0 .order in omega arith)
-    (λ c. let n8 = c .before .before .before .before .pre .0 .order in omega arith)
+    (λ c. let n8 = c .before .before .before .before .pre .0 .factor .order in omega arith)
+    (λ c. let n8 = c .before .before .before .before .pre .0 .factor .order in omega arith)
     sub-over
-    (λ c. let n8 = c .before .before .before .before .before .pre .0 .order in omega arith)
+    (λ c. let n8 = c .before .before .before .before .before .pre .0 .factor .order in omega arith)
     sub-own
     (λ c. omega arith)
     (λ c. omega arith)
     loop-again
-    (λ c. let n8 = c .before .before .before .pre .0 .order in omega arith)
-    (λ c. let n8 = c .before .before .before .pre .0 .order in omega arith)
+    (λ c. let n8 = c .before .before .before .pre .0 .factor .order in omega arith)
+    (λ c. let n8 = c .before .before .before .pre .0 .factor .order in omega arith)
     returns)

@@ -17,10 +17,9 @@ field-at-spec =
     (λ c. sym (field-head-cut _ _ (c .before .if1 .left) (omega arith)))
     -- the length
     (λ c. search needs)
+    (λ c κs. omega arith)
     (λ c. search needs)
-    (λ c κs. search needs)
-    (λ c. search needs)
-    (λ c. let e = c .before .load-unsigned .ensures in sym (field-cut _ _ (omega arith) (omega arith)))
+    (λ c. let e = c .before .length-at .ensures in sym (field-cut _ _ (omega arith) (omega arith)))
     -- the tag
     (λ c. search needs)
     (λ c κs. search needs)
@@ -29,7 +28,7 @@ field-at-spec =
     (λ c. search needs)
     (λ c.
     let d = c .before .before .before in
-    field-whole _ _ (d .before .before .before .load-unsigned .ensures) (omega arith) (sym (c .before .tagged .given .1) ∙ d .kind-of .ensures))
+    field-whole _ _ (d .before .before .before .length-at .ensures) (omega arith) (sym (c .before .tagged .given .1) ∙ d .kind-of .ensures))
     (λ c.
     let d = c .before .before .before in
-    field-whole _ _ (d .before .before .before .load-unsigned .ensures) (omega arith) (sym (c .before .tagged2 .given .1) ∙ d .kind-of .ensures)))
+    field-whole _ _ (d .before .before .before .length-at .ensures) (omega arith) (sym (c .before .tagged2 .given .1) ∙ d .kind-of .ensures)))

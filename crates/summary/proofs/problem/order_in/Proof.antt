@@ -1,9 +1,8 @@
-use mathlib.Core.Path.{ap}
+use mathlib.Core.Path.{sym}
 use native.Mathlib.Omega.{arith}
-use lib.ListN.{length}
+use lib.ListN.{List·getD-eq-default}
 use Rattle.summary.specs.declared.field.Kind.the-variants as Kind
 use Rattle.summary.specs.Problems.{orderIn}
-use Rattle.summary.proofs.Parts.{length-content}
 use Rattle.summary.proofs.problem.order_in.Statement.{statement}
 use Rattle.summary.proofs.problem.order_in.Tie as tie
 
@@ -11,6 +10,7 @@ pub order-in-spec : {M : Type 1} → statement M
 unfolding orderIn
 order-in-spec =
     tie.close
-    (tie.spec (λ c κs. c .before .pre .0 .ends Kind.Order)
-    (λ c. omega (arith, ap length (c .before .content .ensures), length-content _ _ Kind.Order (c .before .before .before .pre .0)))
-    (λ c. rw (c .before .content .ensures)))
+    (tie.spec (λ c κs. c .before .pre .ends Kind.Order)
+    (λ c. let p = c .before .content in rw (sym (p .ensures)) (sym (List·getD-eq-default (p .result .now) 0 {n = 0} (omega arith))))
+    (λ c. omega arith)
+    (λ c. rw (c .before .before .content .ensures)))

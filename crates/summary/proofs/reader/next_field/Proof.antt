@@ -1,5 +1,6 @@
--- `reader::next_field` meets its contract: a walk of its MIR, by hand. The reader is taken apart, `content_at` and `field_at` are called on the file and the place, and `piece_of` on what they return. All that the proof knows of the three is that each meets its contract.
+-- `reader::next_field` meets its contract: a walk of its MIR, by hand. The reader is taken apart, `field_at` is called on the file and the place, `content_in` on the file and what was found, and `piece_of` on what they return. All that the proof knows of the three is that each meets its contract.
 -- The reader is Copy: what it owns is had twice, one copy is kept whole for the exit, and of the other what the file owns goes to the callee, beside the lifetime's token, which comes back.
+-- What was found owns only facts, and is had anew for each callee.
 -- Assumes nothing.
 use mathlib.Core.Path.{_≡_, refl, ap, _∙_}
 use Prim.Native.Nat.{ℕ, _<_, _^_}
@@ -18,7 +19,7 @@ use ghost.Atoms.{Atoms, sem}
 use contract.Lifetimes.{Lfts}
 use contract.Monad.{Fun, fact}
 use contract.Running.{givenOf, tables, tablesOf}
-use types.Kit.{Given, ‵, raw, _⊛_, given, ⋆, some, later, _$_, _∵_, !, qed, by, move, drop, use1, use2, split, join, learn, pick, fsplit, fjoin, suffices, frame, await, done}
+use types.Kit.{Given, ‵, raw, _⊛_, ⋆, some, later, _$_, _∵_, !, qed, by, move, drop, use1, use2, split, join, pick, fsplit, fjoin, suffices, frame, await, done}
 use types.Part.{whole, sub, look-in}
 use types.Run.{look, init, forget, stop, fld, from, load, of-opd, and-then, no-more, assigns, land, returns, enter, alloc1, alloc0, params1, pass1, pass0, free1, free0}
 use sound.WpLaws.{FmC, fmOf, WpFn-mono}
@@ -33,7 +34,7 @@ use denote.Steps.{owned, peeks, heard, nothing}
 use denote.Enum.Laws as EL
 use denote.Struct.Declared.{Declared}
 use denote.Struct.Laws as LL
-use denote.Struct.Rest.{all-own, ownAt, rest, own-open, own-out}
+use denote.Struct.Rest.{ownAt}
 use denote.Struct.Values.{Values}
 use denote.Triple.Statement.{Contract, Triple}
 use denote.Triple.Call.{calls-at}
@@ -47,12 +48,13 @@ use Rattle.summary.specs.Pieces.{contentAt}
 use Rattle.summary.specs.Fields.{fieldAt}
 use Rattle.summary.specs.declared.field.Found.{Found}
 use Rattle.summary.specs.declared.reader.Reader.{Reader}
+use Rattle.summary.proofs.FirstField.{first-own}
 use Rattle.summary.proofs.reader.Reader as T
 use Rattle.summary.proofs.reader.Reader.Laws as T′
-use Rattle.summary.proofs.reader.content_at as cont
-use Rattle.summary.proofs.reader.content_at.Symbol as cont-def
-use Rattle.summary.proofs.reader.content_at.Symbol.{name as #reader·content-at}
-use Rattle.summary.proofs.reader.content_at.Met as cont-thm
+use Rattle.summary.proofs.reader.content_in as cont
+use Rattle.summary.proofs.reader.content_in.Symbol as cont-def
+use Rattle.summary.proofs.reader.content_in.Symbol.{name as #reader·content-in}
+use Rattle.summary.proofs.reader.content_in.Met as cont-thm
 use Rattle.summary.specs.declared.reader.Piece.{Piece}
 use Rattle.summary.proofs.field.Found as F
 use Rattle.summary.proofs.field.Found.Laws as F′
@@ -80,8 +82,8 @@ stayed = (stay-none B yes, tt)
 
 module _ {M : Type 1} (𝓤 : URA M) (H : Heap 𝓤) (A : Atoms 𝓤) (mem : Memory → SProp 𝓤) (run : Routine → Fun 𝓤) where
   -- the contracts that the proof cites
-  abbrev ContentAt : Contract 𝓤
-  ContentAt = tripleOf 𝓤 H A cont.signature (cont.spec 𝓤 H A mem run)
+  abbrev ContentIn : Contract 𝓤
+  ContentIn = tripleOf 𝓤 H A cont.signature (cont.spec 𝓤 H A mem run)
 
   abbrev FieldAt : Contract 𝓤
   FieldAt = tripleOf 𝓤 H A at-place.signature (at-place.spec 𝓤 H A mem run)
@@ -117,50 +119,52 @@ module _ {M : Type 1} (𝓤 : URA M) (H : Heap 𝓤) (A : Atoms 𝓤) (W : Given
   abbrev Sl : RattleType
   Sl = ShrSlice (named 0) κ u8
 
-  -- what the two callees on the slice and the number are passed
-  abbrev passed : Vals cont.signature (κ, tt)
+  -- the call of `field_at`
+  abbrev passed : Vals at-place.signature (κ, tt)
   passed = (v ∷ [], (vint w64 (d .at) ∷ [], tt))
-
-  abbrev to-content : ContentAt 𝓤 H A mem run .Ghost
-  to-content = (((κ, tt), (q, tt), tt, (d .file, (d .at, tt)), passed), tt)
 
   abbrev to-field : FieldAt 𝓤 H A mem run .Ghost
   to-field = (((κ, tt), (q, tt), tt, (d .file, (d .at, tt)), passed), tt)
 
-  asked-content : ent 𝓤 (onEntry 𝓤 H A cont.signature (κ, tt) (q, tt) (d .file, (d .at, tt)) passed) (ContentAt 𝓤 H A mem run .pre to-content)
-  asked-content = qed W ((‵ (flft κ q) ⊛ ‵ ftrue) ∷ ‵ (owns (Sl ∷ usize ∷ []) (d .file, (d .at, tt)) passed) ∷ []) ∵ join ! $ frame ! $ done !
-
   asked-field : ent 𝓤 (onEntry 𝓤 H A at-place.signature (κ, tt) (q, tt) (d .file, (d .at, tt)) passed) (FieldAt 𝓤 H A mem run .pre to-field)
   asked-field = qed W ((‵ (flft κ q) ⊛ ‵ ftrue) ∷ ‵ (owns (Sl ∷ usize ∷ []) (d .file, (d .at, tt)) passed) ∷ []) ∵ join ! $ frame ! $ done !
 
-  -- the token and what the reader owns give what a callee asks, and the reader's part is kept
-  lends-content : d .at < 2 ^ 64 → ent 𝓤 (⋆ 𝓤 H A ((‵ (flft κ q) ⊛ ‵ ftrue) ∷ ‵ Own ∷ [])) (sep 𝓤 (ContentAt 𝓤 H A mem run .pre to-content) (sem 𝓤 H A Own))
-  lends-content fits =
-      qed W ((‵ (flft κ q) ⊛ ‵ ftrue) ∷ ‵ Own ∷ []) ∵
-      move ! (1 ∷ []) $ use1 W (‵ Own ⊛ ‵ Own) (LL.copy D (T′.the-copy (namedLft 1 0 tt (κ, tt))) 𝓤 H A W .twice d (mach ∷ [])) $ split ! $
-      use1 W (given (mach ∷ [] ≡ mach ∷ []) (‵ (all-own (D .parts) L vd))) (own-open 𝓤 H A W D L vd mach) $ learn ! (λ _. use1 W (‵ (ownAt (D .parts) L 0 (d .file)) ⊛ ‵ (rest (D .parts) L 0 vd)) (own-out 𝓤 H A W (D .parts) L 0 vd) $ split ! $
-      move ! (1 ∷ []) $ drop ! $ nothing ! $ owned ! usize (Is usize) (uint-makes 𝓤 H A W w64) (d .at) _ (refl, fits) $ fjoin ! $ move ! (1 ∷ 0 ∷ []) $ fjoin ! $
-      move ! (2 ∷ 0 ∷ []) $ use2 W (raw (ContentAt 𝓤 H A mem run .pre to-content)) asked-content $ frame ! $ done !)
+  field-said : (t : Found) → ent 𝓤 (ensured 𝓤 H A at-place.ended (at-place.clauses 𝓤 H A mem run) (κ, tt) (d .file, (d .at, tt)) tt t) (fact 𝓤 (t ≡ fieldAt (now (d .file)) (d .at)))
+  field-said t = exE 𝓤 _ (λ ws. snd∗ 𝓤 (sem 𝓤 H A (lasts at-place.ended (κ, tt) (d .file, (d .at, tt)) ws)) (fact 𝓤 (t ≡ fieldAt (now (d .file)) (d .at))))
 
+  -- the call of `content_in`, at what was found, t, with its machine value
+  abbrev to-content : Found → Val → ContentIn 𝓤 H A mem run .Ghost
+  to-content t u = (((κ, tt), (q, tt), tt, (d .file, (t, tt)), (v ∷ [], (u ∷ [], tt))), tt)
+
+  asked-content : (t : Found) (u : Val) → ent 𝓤 (onEntry 𝓤 H A cont.signature (κ, tt) (q, tt) (d .file, (t, tt)) (v ∷ [], (u ∷ [], tt))) (ContentIn 𝓤 H A mem run .pre (to-content t u))
+  asked-content t u = qed W ((‵ (flft κ q) ⊛ ‵ ftrue) ∷ ‵ (owns (Sl ∷ F.the-row ∷ []) (d .file, (t, tt)) (v ∷ [], (u ∷ [], tt))) ∷ []) ∵ join ! $ frame ! $ done !
+
+  abbrev Finds : Found → RefT (List ℕ) → Type 0
+  Finds t r = (at : ℕ) → t ≡ fieldAt (now (d .file)) at → now r ≡ contentAt (now (d .file)) at
+
+  content-said : (t : Found) (r : RefT (List ℕ)) → ent 𝓤 (ensured 𝓤 H A cont.ended (cont.clauses 𝓤 H A mem run) (κ, tt) (d .file, (t, tt)) tt r) (fact 𝓤 (Finds t r))
+  content-said t r = exE 𝓤 _ (λ ws. snd∗ 𝓤 (sem 𝓤 H A (lasts cont.ended (κ, tt) (d .file, (t, tt)) ws)) (fact 𝓤 (Finds t r)))
+
+  -- the token and what the reader owns give what a callee asks, and the reader's part is kept
   lends-field : d .at < 2 ^ 64 → ent 𝓤 (⋆ 𝓤 H A ((‵ (flft κ q) ⊛ ‵ ftrue) ∷ ‵ Own ∷ [])) (sep 𝓤 (FieldAt 𝓤 H A mem run .pre to-field) (sem 𝓤 H A Own))
   lends-field fits =
       qed W ((‵ (flft κ q) ⊛ ‵ ftrue) ∷ ‵ Own ∷ []) ∵
       move ! (1 ∷ []) $ use1 W (‵ Own ⊛ ‵ Own) (LL.copy D (T′.the-copy (namedLft 1 0 tt (κ, tt))) 𝓤 H A W .twice d (mach ∷ [])) $ split ! $
-      use1 W (given (mach ∷ [] ≡ mach ∷ []) (‵ (all-own (D .parts) L vd))) (own-open 𝓤 H A W D L vd mach) $ learn ! (λ _. use1 W (‵ (ownAt (D .parts) L 0 (d .file)) ⊛ ‵ (rest (D .parts) L 0 vd)) (own-out 𝓤 H A W (D .parts) L 0 vd) $ split ! $
-      move ! (1 ∷ []) $ drop ! $ nothing ! $ owned ! usize (Is usize) (uint-makes 𝓤 H A W w64) (d .at) _ (refl, fits) $ fjoin ! $ move ! (1 ∷ 0 ∷ []) $ fjoin ! $
-      move ! (2 ∷ 0 ∷ []) $ use2 W (raw (FieldAt 𝓤 H A mem run .pre to-field)) asked-field $ frame ! $ done !)
+      use1 W (‵ (ownAt (D .parts) L 0 (d .file))) (first-own 𝓤 H A W D L vd mach) $ nothing ! $ owned ! usize (Is usize) (uint-makes 𝓤 H A W w64) (d .at) _ (refl, fits) $ fjoin ! $ move ! (1 ∷ 0 ∷ []) $ fjoin ! $
+      move ! (2 ∷ 0 ∷ []) $ use2 W (raw (FieldAt 𝓤 H A mem run .pre to-field)) asked-field $ frame ! $ done !
+
+  lends-content : (t : Found) (u : Val) → Is F.the-row t (u ∷ []) → ent 𝓤 (⋆ 𝓤 H A ((‵ (flft κ q) ⊛ ‵ ftrue) ∷ ‵ Own ∷ [])) (sep 𝓤 (ContentIn 𝓤 H A mem run .pre (to-content t u)) (sem 𝓤 H A Own))
+  lends-content t u is =
+      qed W ((‵ (flft κ q) ⊛ ‵ ftrue) ∷ ‵ Own ∷ []) ∵
+      move ! (1 ∷ []) $ use1 W (‵ Own ⊛ ‵ Own) (LL.copy D (T′.the-copy (namedLft 1 0 tt (κ, tt))) 𝓤 H A W .twice d (mach ∷ [])) $ split ! $
+      use1 W (‵ (ownAt (D .parts) L 0 (d .file))) (first-own 𝓤 H A W D L vd mach) $ nothing ! $ owned ! F.the-row (Is F.the-row) (EL.makes F.the-type F′.the-plain 𝓤 H A) t _ is $ fjoin ! $ move ! (1 ∷ 0 ∷ []) $ fjoin ! $
+      move ! (2 ∷ 0 ∷ []) $ use2 W (raw (ContentIn 𝓤 H A mem run .pre (to-content t u))) (asked-content t u) $ frame ! $ done !
 
   -- the entry, with the reader's part by itself
-  apart : d .at < 2 ^ 64 → ent 𝓤 (onEntry 𝓤 H A next.signature (κ, tt) (q, tt) (d, tt) (mach ∷ [], tt)) (sep 𝓤 (ContentAt 𝓤 H A mem run .pre to-content) (sem 𝓤 H A Own))
+  apart : d .at < 2 ^ 64 → ent 𝓤 (onEntry 𝓤 H A next.signature (κ, tt) (q, tt) (d, tt) (mach ∷ [], tt)) (sep 𝓤 (FieldAt 𝓤 H A mem run .pre to-field) (sem 𝓤 H A Own))
   apart fits =
       qed W ((‵ (flft κ q) ⊛ ‵ ftrue) ∷ ‵ (owns (B (κ, tt) ∷ []) (d, tt) (mach ∷ [], tt)) ∷ []) ∵
-      move ! (1 ∷ []) $ fsplit ! $ move ! (1 ∷ []) $ drop ! $ move ! (1 ∷ 0 ∷ []) $ by ! (lends-content fits)
-
-  content-said : (r : RefT (List ℕ)) → ent 𝓤 (ensured 𝓤 H A cont.ended (cont.clauses 𝓤 H A mem run) (κ, tt) (d .file, (d .at, tt)) tt r) (fact 𝓤 (now r ≡ contentAt (now (d .file)) (d .at)))
-  content-said r = exE 𝓤 _ (λ ws. snd∗ 𝓤 (sem 𝓤 H A (lasts cont.ended (κ, tt) (d .file, (d .at, tt)) ws)) (fact 𝓤 (now r ≡ contentAt (now (d .file)) (d .at))))
-
-  field-said : (t : Found) → ent 𝓤 (ensured 𝓤 H A at-place.ended (at-place.clauses 𝓤 H A mem run) (κ, tt) (d .file, (d .at, tt)) tt t) (fact 𝓤 (t ≡ fieldAt (now (d .file)) (d .at)))
-  field-said t = exE 𝓤 _ (λ ws. snd∗ 𝓤 (sem 𝓤 H A (lasts at-place.ended (κ, tt) (d .file, (d .at, tt)) ws)) (fact 𝓤 (t ≡ fieldAt (now (d .file)) (d .at))))
+      move ! (1 ∷ []) $ fsplit ! $ move ! (1 ∷ []) $ drop ! $ move ! (1 ∷ 0 ∷ []) $ by ! (lends-field fits)
 
   -- the call of `piece_of`, at the content r and what was found t, with their machine values
   abbrev to-piece : RefT (List ℕ) → Val → Found → Val → PieceOf 𝓤 H A mem run .Ghost
@@ -178,53 +182,53 @@ module _ {M : Type 1} (𝓤 : URA M) (H : Heap 𝓤) (A : Atoms 𝓤) (W : Given
       suffices ! _ (ends-at 𝓤 H A next.ended stayed (next.clauses 𝓤 H A mem run) W (((κ, tt), (q, tt), tt, (d, tt), (mach ∷ [], tt)), tt) u p (tt, tt) (tt, tt)) $ says ! (e, e′) $
       move ! (1 ∷ []) $ frame ! $ nothing ! $ move ! (2 ∷ 0 ∷ []) $ fjoin ! $ frame ! $ done !
 
-  module _ (C : Calls 𝓤 H) (Λ : Loops 𝓤 H) (fm : FmC 𝓤 H (W .laws) C) (known-content : Triple 𝓤 (C #reader·content-at) (ContentAt 𝓤 H A mem run)) (known-field : Triple 𝓤 (C #field·field-at) (FieldAt 𝓤 H A mem run)) (known-piece : Triple 𝓤 (C #reader·piece-of) (PieceOf 𝓤 H A mem run)) where
+  module _ (C : Calls 𝓤 H) (Λ : Loops 𝓤 H) (fm : FmC 𝓤 H (W .laws) C) (known-field : Triple 𝓤 (C #field·field-at) (FieldAt 𝓤 H A mem run)) (known-content : Triple 𝓤 (C #reader·content-in) (ContentIn 𝓤 H A mem run)) (known-piece : Triple 𝓤 (C #reader·piece-of) (PieceOf 𝓤 H A mem run)) where
     walk : Holds (hasTy (T′.mir (named 0)) mach) × WT mach → ent 𝓤 (onEntry 𝓤 H A next.signature (κ, tt) (q, tt) (d, tt) (mach ∷ [], tt)) (WpFn 𝓤 H C Λ code.function (mach ∷ []) Post)
     walk wt =
         qed W (raw (onEntry 𝓤 H A next.signature (κ, tt) (q, tt) (d, tt) (mach ∷ [], tt)) ∷ []) ∵ enter ! C Λ code.function (mach ∷ []) _ $
-        alloc1 ! (λ l₀. alloc1 ! (λ l₁. alloc1 ! (λ l₂. alloc1 ! (λ l₃. alloc1 ! (λ l₄. alloc1 ! (λ l₅. alloc1 ! (λ l₆. alloc1 ! (λ l₇. alloc0 ! $ params1 ! $ pass1 ! (init ! 12 refl wt) $ pass0 ! $
-        assigns ! (of-opd ! (load ! (from ! (fld ! refl (stop !))) (look-in ! 12 (sub ! 0 refl (whole !))))) (from ! (stop !)) (init ! 8 refl (tt, wt .1 .0)) $
-        assigns ! (of-opd ! (load ! (from ! (fld ! refl (stop !))) (look-in ! 12 (sub ! 1 refl (whole !))))) (from ! (stop !)) (init ! 6 refl (tt, wt .1 .1 .0)) $
-        move ! (16 ∷ []) $ use1 W (raw (ContentAt 𝓤 H A mem run .pre to-content) ⊛ ‵ Own) (apart (wt .1 .1 .0 .fits)) $ split ! $
-        calls-at ! fm (ContentAt 𝓤 H A mem run) known-content to-content (and-then ! (load ! (from ! (stop !)) (look ! 10 refl)) (and-then ! (load ! (from ! (stop !)) (look ! 8 refl)) (no-more !))) (λ u.
-        use1 W (later (some (λ (r : RefT (List ℕ)). ((‵ (flft κ q) ⊛ ‵ ftrue) ⊛ ‵ (Sl .own r (u ∷ []))) ⊛ raw (ensured 𝓤 H A cont.ended (cont.clauses 𝓤 H A mem run) (κ, tt) (d .file, (d .at, tt)) tt r)))) (id⊢ 𝓤 _) $ await ! tt $ pick ! (λ r.
-        split ! $ move ! (1 ∷ []) $ use1 W (raw (fact 𝓤 (now r ≡ contentAt (now (d .file)) (d .at)))) (content-said r) $ heard ! (now r ≡ contentAt (now (d .file)) (d .at)) (λ e. split ! $ move ! (1 ∷ []) $
-        -- [the content; the token; what the reader owns; _7; …; _0; …]
-        peeks ! Sl (Is Sl) (shows 𝓤 H A Sl) r (u ∷ []) (λ is.
-        land ! (from ! (stop !)) (init ! 13 refl (shr-slice-lawful 𝓤 H A W erased κ u8 .typed r (u ∷ []) is .0)) $
-        assigns ! (of-opd ! (load ! (from ! (fld ! refl (stop !))) (look-in ! 15 (sub ! 0 refl (whole !))))) (from ! (stop !)) (init ! 5 refl (tt, wt .1 .0)) $
-        assigns ! (of-opd ! (load ! (from ! (fld ! refl (stop !))) (look-in ! 15 (sub ! 1 refl (whole !))))) (from ! (stop !)) (init ! 3 refl (tt, wt .1 .1 .0)) $
-        move ! (1 ∷ 2 ∷ []) $ use2 W (raw (FieldAt 𝓤 H A mem run .pre to-field) ⊛ ‵ Own) (lends-field (wt .1 .1 .0 .fits)) $ split ! $
-        -- [what field_at asks; what the reader owns; the content; _7; …]
-        calls-at ! fm (FieldAt 𝓤 H A mem run) known-field to-field (and-then ! (load ! (from ! (stop !)) (look ! 5 refl)) (and-then ! (load ! (from ! (stop !)) (look ! 3 refl)) (no-more !))) (λ u′.
-        use1 W (later (some (λ (t : Found). ((‵ (flft κ q) ⊛ ‵ ftrue) ⊛ ‵ (F.the-row .own t (u′ ∷ []))) ⊛ raw (ensured 𝓤 H A at-place.ended (at-place.clauses 𝓤 H A mem run) (κ, tt) (d .file, (d .at, tt)) tt t)))) (id⊢ 𝓤 _) $ await ! tt $ pick ! (λ t.
-        split ! $ move ! (1 ∷ []) $ use1 W (raw (fact 𝓤 (t ≡ fieldAt (now (d .file)) (d .at)))) (field-said t) $ heard ! (t ≡ fieldAt (now (d .file)) (d .at)) (λ e′. split ! $ move ! (1 ∷ []) $
-        -- [what was found; the token; what the reader owns; the content; _7; …]
-        peeks ! F.the-row (Is F.the-row) (shows 𝓤 H A F.the-row) t (u′ ∷ []) (λ is′.
-        land ! (from ! (stop !)) (init ! 8 refl (EL.lawful F.the-type F′.the-laws 𝓤 H A W tt .typed t _ is′ .0)) $
-        nothing ! $ move ! (1 ∷ 0 ∷ []) $ fjoin ! $ move ! (3 ∷ 0 ∷ []) $ fjoin ! $ move ! (1 ∷ 0 ∷ []) $
-        use2 W (raw (PieceOf 𝓤 H A mem run .pre (to-piece r u t u′))) (asked-piece r u t u′) $
-        -- [what piece_of asks; what the reader owns; _7; …]
-        calls-at ! fm (PieceOf 𝓤 H A mem run) known-piece (to-piece r u t u′) (and-then ! (load ! (from ! (stop !)) (look ! 12 refl)) (and-then ! (load ! (from ! (stop !)) (look ! 6 refl)) (no-more !))) (λ u″.
+        alloc1 ! (λ l₀. alloc1 ! (λ l₁. alloc1 ! (λ l₂. alloc1 ! (λ l₃. alloc1 ! (λ l₄. alloc1 ! (λ l₅. alloc1 ! (λ l₆. alloc0 ! $ params1 ! $ pass1 ! (init ! 10 refl wt) $ pass0 ! $
+        assigns ! (of-opd ! (load ! (from ! (fld ! refl (stop !))) (look-in ! 10 (sub ! 0 refl (whole !))))) (from ! (stop !)) (init ! 6 refl (tt, wt .1 .0)) $
+        assigns ! (of-opd ! (load ! (from ! (fld ! refl (stop !))) (look-in ! 10 (sub ! 1 refl (whole !))))) (from ! (stop !)) (init ! 4 refl (tt, wt .1 .1 .0)) $
+        move ! (14 ∷ []) $ use1 W (raw (FieldAt 𝓤 H A mem run .pre to-field) ⊛ ‵ Own) (apart (wt .1 .1 .0 .fits)) $ split ! $
+        -- [what field_at asks; what the reader owns; _6; …; _0; …]
+        calls-at ! fm (FieldAt 𝓤 H A mem run) known-field to-field (and-then ! (load ! (from ! (stop !)) (look ! 8 refl)) (and-then ! (load ! (from ! (stop !)) (look ! 6 refl)) (no-more !))) (λ u.
+        use1 W (later (some (λ (t : Found). ((‵ (flft κ q) ⊛ ‵ ftrue) ⊛ ‵ (F.the-row .own t (u ∷ []))) ⊛ raw (ensured 𝓤 H A at-place.ended (at-place.clauses 𝓤 H A mem run) (κ, tt) (d .file, (d .at, tt)) tt t)))) (id⊢ 𝓤 _) $ await ! tt $ pick ! (λ t.
+        split ! $ move ! (1 ∷ []) $ use1 W (raw (fact 𝓤 (t ≡ fieldAt (now (d .file)) (d .at)))) (field-said t) $ heard ! (t ≡ fieldAt (now (d .file)) (d .at)) (λ e. split ! $ move ! (1 ∷ []) $
+        -- [what was found; the token; what the reader owns; _6; …]
+        peeks ! F.the-row (Is F.the-row) (shows 𝓤 H A F.the-row) t (u ∷ []) (λ is.
+        land ! (from ! (stop !)) (init ! 11 refl (EL.lawful F.the-type F′.the-laws 𝓤 H A W tt .typed t _ is .0)) $
+        assigns ! (of-opd ! (load ! (from ! (fld ! refl (stop !))) (look-in ! 13 (sub ! 0 refl (whole !))))) (from ! (stop !)) (init ! 3 refl (tt, wt .1 .0)) $
+        move ! (1 ∷ 2 ∷ []) $ use2 W (raw (ContentIn 𝓤 H A mem run .pre (to-content t u)) ⊛ ‵ Own) (lends-content t u is) $ split ! $
+        -- [what content_in asks; what the reader owns; what was found; _6; …]
+        calls-at ! fm (ContentIn 𝓤 H A mem run) known-content (to-content t u) (and-then ! (load ! (from ! (stop !)) (look ! 3 refl)) (and-then ! (load ! (from ! (stop !)) (look ! 11 refl)) (no-more !))) (λ u′.
+        use1 W (later (some (λ (r : RefT (List ℕ)). ((‵ (flft κ q) ⊛ ‵ ftrue) ⊛ ‵ (Sl .own r (u′ ∷ []))) ⊛ raw (ensured 𝓤 H A cont.ended (cont.clauses 𝓤 H A mem run) (κ, tt) (d .file, (t, tt)) tt r)))) (id⊢ 𝓤 _) $ await ! tt $ pick ! (λ r.
+        split ! $ move ! (1 ∷ []) $ use1 W (raw (fact 𝓤 (Finds t r))) (content-said t r) $ heard ! (Finds t r) (λ e′. split ! $ move ! (1 ∷ []) $
+        -- [the content; the token; what the reader owns; what was found; _6; …]
+        peeks ! Sl (Is Sl) (shows 𝓤 H A Sl) r (u′ ∷ []) (λ is′.
+        land ! (from ! (stop !)) (init ! 6 refl (shr-slice-lawful 𝓤 H A W erased κ u8 .typed r (u′ ∷ []) is′ .0)) $
+        nothing ! $ move ! (4 ∷ 0 ∷ []) $ fjoin ! $ move ! (1 ∷ 0 ∷ []) $ fjoin ! $ move ! (1 ∷ 0 ∷ []) $
+        use2 W (raw (PieceOf 𝓤 H A mem run .pre (to-piece r u′ t u))) (asked-piece r u′ t u) $
+        -- [what piece_of asks; what the reader owns; _6; …]
+        calls-at ! fm (PieceOf 𝓤 H A mem run) known-piece (to-piece r u′ t u) (and-then ! (load ! (from ! (stop !)) (look ! 4 refl)) (and-then ! (load ! (from ! (stop !)) (look ! 10 refl)) (no-more !))) (λ u″.
         use1 W (later (some (λ (p : Piece). ((‵ (flft κ q) ⊛ ‵ ftrue) ⊛ ‵ (Q .own p (u″ ∷ []))) ⊛ raw (ensured 𝓤 H A piece.ended (piece.clauses 𝓤 H A mem run) (κ, tt) (r, (t, tt)) tt p)))) (id⊢ 𝓤 _) $ await ! tt $ pick ! (λ p.
         split ! $ move ! (1 ∷ []) $ use1 W (raw (fact 𝓤 ((p .content ≡ r) × (p .found ≡ t)))) (piece-said r t p) $ heard ! ((p .content ≡ r) × (p .found ≡ t)) (λ e″. split ! $ move ! (1 ∷ []) $
         peeks ! Q (Is Q) (shows 𝓤 H A Q) p (u″ ∷ []) (λ is″.
-        land ! (from ! (stop !)) (init ! 17 refl (LL.lawful (P.the-type (namedLft 1 0 tt (κ, tt))) (P′.the-laws (namedLft 1 0 tt (κ, tt))) 𝓤 H A W .typed p _ is″ .0)) $
-        returns ! (look ! 17 refl) $ forget ! 3 refl $ forget ! 5 refl $ forget ! 7 refl $ forget ! 9 refl $ forget ! 11 refl $ forget ! 13 refl $ forget ! 15 refl $ forget ! 17 refl $
-        move ! (17 ∷ 18 ∷ []) $ free1 ! $ move ! (15 ∷ 16 ∷ []) $ free1 ! $ move ! (13 ∷ 14 ∷ []) $ free1 ! $ move ! (11 ∷ 12 ∷ []) $ free1 ! $ move ! (9 ∷ 10 ∷ []) $ free1 ! $ move ! (7 ∷ 8 ∷ []) $ free1 ! $ move ! (5 ∷ 6 ∷ []) $ free1 ! $ move ! (3 ∷ 4 ∷ []) $ free1 ! $ free0 ! $
-        by ! (exits p u″ (ap now (e″ .0) ∙ e) (e″ .1 ∙ e′))))))))))))))))))))))
+        land ! (from ! (stop !)) (init ! 15 refl (LL.lawful (P.the-type (namedLft 1 0 tt (κ, tt))) (P′.the-laws (namedLft 1 0 tt (κ, tt))) 𝓤 H A W .typed p _ is″ .0)) $
+        returns ! (look ! 15 refl) $ forget ! 3 refl $ forget ! 5 refl $ forget ! 7 refl $ forget ! 9 refl $ forget ! 11 refl $ forget ! 13 refl $ forget ! 15 refl $
+        move ! (15 ∷ 16 ∷ []) $ free1 ! $ move ! (13 ∷ 14 ∷ []) $ free1 ! $ move ! (11 ∷ 12 ∷ []) $ free1 ! $ move ! (9 ∷ 10 ∷ []) $ free1 ! $ move ! (7 ∷ 8 ∷ []) $ free1 ! $ move ! (5 ∷ 6 ∷ []) $ free1 ! $ move ! (3 ∷ 4 ∷ []) $ free1 ! $ free0 ! $
+        by ! (exits p u″ (ap now (e″ .0) ∙ e′ (d .at) e) (e″ .1 ∙ e)))))))))))))))))))))
 
 module _ {M : Type 1} (𝓤 : URA M) (H : Heap 𝓤) (A : Atoms 𝓤) (W : Given 𝓤 H A) (mem : Memory → SProp 𝓤) (run : Routine → Fun 𝓤) where
-  next-field-walks : (C : Calls 𝓤 H) (Λ : Loops 𝓤 H) → FmC 𝓤 H (W .laws) C → Triple 𝓤 (C #reader·content-at) (ContentAt 𝓤 H A mem run) → Triple 𝓤 (C #field·field-at) (FieldAt 𝓤 H A mem run) → Triple 𝓤 (C #reader·piece-of) (PieceOf 𝓤 H A mem run)
+  next-field-walks : (C : Calls 𝓤 H) (Λ : Loops 𝓤 H) → FmC 𝓤 H (W .laws) C → Triple 𝓤 (C #field·field-at) (FieldAt 𝓤 H A mem run) → Triple 𝓤 (C #reader·content-in) (ContentIn 𝓤 H A mem run) → Triple 𝓤 (C #reader·piece-of) (PieceOf 𝓤 H A mem run)
       → Walks 𝓤 H A next.ended stayed (WpFn 𝓤 H C Λ code.function) (next.clauses 𝓤 H A mem run)
-  next-field-walks C Λ fm known-content known-field known-piece = walked 𝓤 H A next.ended stayed (next.clauses 𝓤 H A mem run) (WpFn 𝓤 H C Λ code.function) (λ κs. (LL.vals (T.the-type (namedLft 1 0 tt κs)) (T′.the-laws (namedLft 1 0 tt κs)), tt)) (λ κs. (LL.tells (T.the-type (namedLft 1 0 tt κs)) (T′.the-laws (namedLft 1 0 tt κs)), tt))
-      (λ κs qs bounds a g are. via 𝓤 _ (fst∗ 𝓤 _ (emp 𝓤)) (walk 𝓤 H A W mem run (κs .0) (qs .0) (a .0) C Λ fm known-content known-field known-piece (LL.lawful (T.the-type (namedLft 1 0 tt κs)) (T′.the-laws (namedLft 1 0 tt κs)) 𝓤 H A W .typed (a .0) _ (are .0) .0)))
+  next-field-walks C Λ fm known-field known-content known-piece = walked 𝓤 H A next.ended stayed (next.clauses 𝓤 H A mem run) (WpFn 𝓤 H C Λ code.function) (λ κs. (LL.vals (T.the-type (namedLft 1 0 tt κs)) (T′.the-laws (namedLft 1 0 tt κs)), tt)) (λ κs. (LL.tells (T.the-type (namedLft 1 0 tt κs)) (T′.the-laws (namedLft 1 0 tt κs)), tt))
+      (λ κs qs bounds a g are. via 𝓤 _ (fst∗ 𝓤 _ (emp 𝓤)) (walk 𝓤 H A W mem run (κs .0) (qs .0) (a .0) C Λ fm known-field known-content known-piece (LL.lawful (T.the-type (namedLft 1 0 tt κs)) (T′.the-laws (namedLft 1 0 tt κs)) 𝓤 H A W .typed (a .0) _ (are .0) .0)))
 
 next-field-meets : {M : Type 1} (𝓤 : URA M) (H : Heap 𝓤) (A : Atoms 𝓤) (W : Given 𝓤 H A) (mem : Memory → SProp 𝓤) (run : Routine → Fun 𝓤) (𝓣 : Tables 𝓤 H)
-    → Triple 𝓤 (𝓣 .C #reader·content-at) (ContentAt 𝓤 H A mem run) → Triple 𝓤 (𝓣 .C #field·field-at) (FieldAt 𝓤 H A mem run) → Triple 𝓤 (𝓣 .C #reader·piece-of) (PieceOf 𝓤 H A mem run)
+    → Triple 𝓤 (𝓣 .C #field·field-at) (FieldAt 𝓤 H A mem run) → Triple 𝓤 (𝓣 .C #reader·content-in) (ContentIn 𝓤 H A mem run) → Triple 𝓤 (𝓣 .C #reader·piece-of) (PieceOf 𝓤 H A mem run)
     → Meets 𝓤 H A next.signature (WpFn 𝓤 H (𝓣 .C) (𝓣 .Λ) code.function) (next.spec 𝓤 H A mem run)
-next-field-meets 𝓤 H A W mem run 𝓣 known-content known-field known-piece = walk-meets 𝓤 H A next.ended stayed W (goes-none 𝓤 H A W 1 B yes (λ κs x f. refl), tt) (next.clauses 𝓤 H A mem run) (WpFn 𝓤 H (𝓣 .C) (𝓣 .Λ) code.function) (WpFn-mono 𝓤 H (W .laws) 𝓣 code.function)
-    (next-field-walks 𝓤 H A W mem run (𝓣 .C) (𝓣 .Λ) (fmOf 𝓤 H (W .laws) 𝓣) known-content known-field known-piece)
+next-field-meets 𝓤 H A W mem run 𝓣 known-field known-content known-piece = walk-meets 𝓤 H A next.ended stayed W (goes-none 𝓤 H A W 1 B yes (λ κs x f. refl), tt) (next.clauses 𝓤 H A mem run) (WpFn 𝓤 H (𝓣 .C) (𝓣 .Λ) code.function) (WpFn-mono 𝓤 H (W .laws) 𝓣 code.function)
+    (next-field-walks 𝓤 H A W mem run (𝓣 .C) (𝓣 .Λ) (fmOf 𝓤 H (W .laws) 𝓣) known-field known-content known-piece)
 
 pub next-field-spec : {M : Type 1} → stated.statement M
 unfolding code.routine tablesOf
@@ -232,6 +236,6 @@ next-field-spec 𝓤 H 𝓜 𝓖 𝓡 =
     entered 𝓤 H (tripleOf 𝓤 H (𝓖 .A) next.signature (next.spec 𝓤 H (𝓖 .A) (𝓜 .mem) (𝓡 .run)))
     (tables 𝓤 H 𝓜 𝓡 code.env .C) (tables 𝓤 H 𝓜 𝓡 code.env .Λ) #reader·next-field code.function (code.unfolded 𝓤 H 𝓜 𝓡)
     (next-field-meets 𝓤 H (𝓖 .A) (givenOf 𝓤 H 𝓜 𝓖) (𝓜 .mem) (𝓡 .run) (tablesOf 𝓤 H 𝓜 (tables 𝓤 H 𝓜 𝓡 code.env))
-    (cited 𝓤 H (ContentAt 𝓤 H (𝓖 .A) (𝓜 .mem) (𝓡 .run)) 𝓜 𝓡 code.env #reader·content-at cont-def.routine code.calls-summary·reader·content-at (cont-thm.met 𝓤 H 𝓜 𝓖 𝓡))
     (cited 𝓤 H (FieldAt 𝓤 H (𝓖 .A) (𝓜 .mem) (𝓡 .run)) 𝓜 𝓡 code.env #field·field-at at-place-def.routine code.calls-summary·field·field-at (at-place-thm.met 𝓤 H 𝓜 𝓖 𝓡))
+    (cited 𝓤 H (ContentIn 𝓤 H (𝓖 .A) (𝓜 .mem) (𝓡 .run)) 𝓜 𝓡 code.env #reader·content-in cont-def.routine code.calls-summary·reader·content-in (cont-thm.met 𝓤 H 𝓜 𝓖 𝓡))
     (cited 𝓤 H (PieceOf 𝓤 H (𝓖 .A) (𝓜 .mem) (𝓡 .run)) 𝓜 𝓡 code.env #reader·piece-of piece-def.routine code.calls-summary·reader·piece-of (piece-thm.met 𝓤 H 𝓜 𝓖 𝓡)))

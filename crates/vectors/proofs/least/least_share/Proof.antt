@@ -1,26 +1,29 @@
-use mathlib.Core.Path.{_∙_}
+use mathlib.Core.Path.{sym, _∙_}
 use borrow.Author.Needs.{needs}
-use Rattle.integers.proofs.Machine.{clean, clean-element, clean-result}
+use Rattle.integers.proofs.Machine.{clean, clean-element, clean-result, fits-literal, same-bits}
 use Rattle.vectors.specs.VectorTest.{leastShare}
-use Rattle.vectors.proofs.Values.{low-within, product-within, product-fits, share-fits, twice-fits, share-adds}
+use Rattle.vectors.proofs.Values.{share-none, low-within, product-within, product-fits, share-fits, twice-fits, share-adds}
 use Rattle.vectors.proofs.least.least_share.Statement.{statement}
 use Rattle.vectors.proofs.least.least_share.Tie as tie
+
+abbrev start : (c : tie.After-least-row) → tie.Start
+start c = c .before .before .before
 
 twice : tie.Need-mul-result
 twice c =
     let r = c .before in
-    let p = r .before .pre in
+    let p = start r .pre in
     rw (clean-result (r .least-row), r .least-row .ensures) (twice-fits (p .0) (p .1))
 
 square : tie.Need-mul-result-4
 square c =
-    let p = c .before .before .before .before .pre in
+    let p = start (c .before .before .before) .pre in
     rw (clean-element _ (c .before .result .given)) (product-fits (p .0) (p .1) (p .1))
 
 own : tie.Need-mul-result-5
 own c =
     let e = c .before .before in
-    let p = e .before .before .pre in
+    let p = start (e .before) .pre in
     rw (clean-result (e .entry), e .entry .ensures, clean (square c), clean-element _ (c .before .result .given))
     (share-fits (low-within (p .0) (p .1) (p .1)) (product-within (p .0) (p .1) (p .1)))
 
@@ -28,13 +31,13 @@ added : tie.Need-add-result
 added c =
     let e = c .before .before in
     let r = e .before in
-    let p = r .before .pre in
+    let p = start r .pre in
     rw (clean (twice e), clean (own c), clean-result (e .entry), e .entry .ensures, clean (square c), clean-result (r .least-row), r .least-row .ensures, clean-element _ (c .before .result .given))
     (share-adds (p .0) (p .1))
 
-returns : tie.Need-returns
+returns-2 : tie.Need-returns-2
 unfolding leastShare
-returns c =
+returns-2 c =
     let e = c .before .before in
     let r = e .before in
     clean (added c)
@@ -44,6 +47,9 @@ pub least-share-spec : {M : Type 1} → statement M
 least-share-spec =
     tie.close
     (tie.spec
+    (λ c. search needs)
+    (λ c. search needs)
+    (λ c. sym (share-none _ _ _ _ _ (same-bits (record { sfits = c .before .if12 .given }) (fits-literal tt) (c .if1 .taken))))
     (λ c κs. search needs)
     (λ c κs. search needs)
     twice
@@ -54,4 +60,4 @@ least-share-spec =
     square
     own
     added
-    returns)
+    returns-2)

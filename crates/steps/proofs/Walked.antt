@@ -1,0 +1,186 @@
+-- The steps on H, and those of one diagonal entry on what is left of H after the rows before it.
+use mathlib.Core.Path.{_≡_, refl, sym, ap₂, _∙_, subst}
+use mathlib.Core.Bool.{Bool, true, false}
+use mathlib.Core.List.{List, [], _∷_}
+use Prim.Native.Nat.{ℕ, zero, suc, _-_, _^_, _≤_, _<_}
+use native.Mathlib.Omega.{arith}
+use native.Mathlib.Decide.{decLt, ℕ-discrete}
+use lib.Dec.{T}
+use lib.IntN.{ℤ, pos, _*ℤ_}
+use lib.Signed.{_≤ℤ_}
+use Rattle.integers.specs.Sum.{only}
+use Rattle.integers.specs.Division.{floorDiv}
+use Rattle.integers.specs.Root.{wholeRoot}
+use Rattle.integers.proofs.Parts.{≤ℤ-trans, pos-nonneg, *ℤ-nonneg}
+use Rattle.integers.proofs.Solver.{_&_, order, ring, solver}
+use Rattle.integers.proofs.Sums.{only-by, only-other}
+use Rattle.tables.specs.Matrix.{Matrix}
+use Rattle.tables.specs.Bounds.{Bounds}
+use Rattle.tables.proofs.Checks.{bool-ext, false-of}
+use Rattle.cholesky.specs.Scale.{scale, takeOff, scaled}
+use Rattle.cholesky.specs.Scaling.{Scaled}
+use Rattle.cholesky.specs.Factoring.{factoring}
+use Rattle.cholesky.specs.Store.{upper}
+use Rattle.cholesky.specs.Reduced.{rowEntry, reduced, endsFrom, leftOf}
+use Rattle.cholesky.proofs.Filling.{sized-scaled}
+use Rattle.cholesky.proofs.Reduced.{RowPasses, ends-passes, ends-of, ends-ext, tests-pass, pass-tests, tests-ext, left-falls, ends-rows, rows-end, factoring-by-rows}
+use Rattle.cholesky.proofs.Walked.{Walked, walked-row}
+use Rattle.steps.specs.Steps.{lowered, stepBits, trial, step, stepAt}
+use Rattle.steps.specs.Tables.{taken, RowPassed, Triable, stepFrom}
+use Rattle.steps.proofs.Bits.{bits-ext, bits-none}
+use Rattle.steps.proofs.Diagonals.{taken-in, taken-out, lowered-on, lowered-none, lowered-ext}
+use Rattle.steps.proofs.Trials.{trial-is}
+
+-- ---- H, as it stands in the table
+module _ {n : ℕ} {L U : Matrix} {h : List ℤ} (b : Bounds n L U) (o : n ≤ 8) (w : Scaled n L U h n) where
+  pub scaled-triable : Triable n 0 n h
+  scaled-triable = record { sized = sized-scaled b o w; inside = omega arith; ordered = omega arith; some = λ k. k }
+
+  -- no row was taken
+  pub walked-start : Walked (scaled takeOff n L U) h 0 n
+  unfolding leftOf
+  walked-start = record { sized = sized-scaled b o w; agree = record { entries = λ i j p q r. w .entries i j q r }; passed = λ i q. absurd (omega arith) }
+
+  -- t
+  pub step-is : stepFrom n 0 n (upper h) ≡ step n L U
+  unfolding stepFrom step
+  step-is = bits-ext _ _ same stepBits (pos 0)
+    where
+      same : (t : ℤ) → endsFrom (n - 0) (lowered (taken 0 n (scale *ℤ t)) (upper h)) 0 ≡ trial n L U (λ i. t)
+      same t =
+          let e : n - 0 ≡ n = omega arith in
+          rw e (ends-ext n n 0 (omega arith) (record {
+            entries = λ i j k l m.
+                lowered-ext _ (λ i. scale *ℤ t) (upper h) (scaled takeOff n L U) i j (taken-in 0 n (scale *ℤ t) i (omega arith) (omega arith)) (w .entries i j l m);
+          })
+          ∙ sym (factoring-by-rows _ n) ∙ sym (trial-is n L U (λ i. t) b))
+
+-- ---- what is taken off later entries changes no row before them
+module _ (d : ℕ → ℤ) (S S′ : Matrix) (f : (a b : ℕ) → S′ a b ≡ lowered d S a b) (i : ℕ) (none : d i ≡ pos 0) where
+  row-kept : (j : ℕ) → S′ i j ≡ S i j
+  row-kept j = f i j ∙ lowered-none d S i j none
+
+  entry-kept : (j : ℕ) → rowEntry S′ i j ≡ rowEntry S i j
+  unfolding rowEntry
+  entry-kept j = ap₂ (λ (x y : ℤ). floorDiv x (wholeRoot y)) (row-kept j) (row-kept i)
+
+  reduced-lowered : (a b : ℕ) → reduced S′ i a b ≡ lowered d (reduced S i) a b
+  unfolding reduced lowered
+  reduced-lowered a b =
+      rw (f a b, entry-kept a, entry-kept b)
+      (ring (S a b ∷ only a b (d a) ∷ rowEntry S i a ∷ rowEntry S i b ∷ []) (search solver depth 40 fits 20000) refl)
+
+-- ---- a number taken off entry (k,k) alone
+module _ (n : ℕ) (H : Matrix) (k : ℕ) (d : ℕ → ℤ) (alone : (i : ℕ) → (i ≡ k → ⊥) → d i ≡ pos 0) where
+  abbrev H′ : Matrix
+  H′ = lowered d H
+
+  left-lowered : (i : ℕ) → i ≤ k → (a b : ℕ) → leftOf H′ i a b ≡ lowered d (leftOf H i) a b
+  unfolding leftOf
+  left-lowered zero h a b = refl
+  left-lowered (suc i) h a b = reduced-lowered d (leftOf H i) (leftOf H′ i) (left-lowered i (omega arith)) i (alone i (omega arith)) a b
+
+  module _ (i : ℕ) (h : i < k) where
+    first-kept : leftOf H′ i i i ≡ leftOf H i i i
+    first-kept = row-kept d (leftOf H i) (leftOf H′ i) (left-lowered i (omega arith)) i (alone i (omega arith)) i
+
+    later-kept : (j : ℕ) → rowEntry (leftOf H′ i) i j ≡ rowEntry (leftOf H i) i j
+    later-kept = entry-kept d (leftOf H i) (leftOf H′ i) (left-lowered i (omega arith)) i (alone i (omega arith))
+
+    -- a row before k passes as it did, if so much is left of entry (k,k)
+    pass-before : RowPasses (leftOf H i) i n → pos 1 ≤ℤ leftOf H′ k k k → RowPasses (leftOf H′ i) i n
+    unfolding leftOf
+    pass-before p one =
+        record {
+          first = rw first-kept (p .first);
+          later = λ j q r. record { small = rw (later-kept j) (p .later j q r .small); some = go j q r (ℕ-discrete j k) };
+        }
+      where
+        go : (j : ℕ) → i < j → j < n → Dec (j ≡ k) → pos 1 ≤ℤ leftOf H′ (suc i) j j
+        go j q r (yes e) = rw e (≤ℤ-trans one (left-falls H′ k (suc i) k h))
+        go j q r (no e) = rw (left-lowered (suc i) h j j, lowered-none d (leftOf H (suc i)) j j (alone j e)) (p .later j q r .some)
+
+    -- and a row that passes with a number taken off passes without
+    pass-after : ((j : ℕ) → pos 0 ≤ℤ d j) → RowPasses (leftOf H′ i) i n → RowPasses (leftOf H i) i n
+    unfolding leftOf
+    pass-after nonneg p =
+        record {
+          first = rw (← first-kept) (p .first);
+          later = λ j q r. record { small = rw (← later-kept j) (p .later j q r .small); some = go j q r };
+        }
+      where
+        go : (j : ℕ) → i < j → j < n → pos 1 ≤ℤ leftOf H (suc i) j j
+        go j q r =
+            order (leftOf H (suc i) j j ∷ leftOf H′ (suc i) j j ∷ d j ∷ [])
+            ((left-lowered (suc i) h j j ∙ lowered-on d (leftOf H (suc i)) j) & nonneg j & p .later j q r .some) (search solver depth 40 fits 20000) (omega arith)
+
+  -- factoring ends where it does in the rows from k on
+  lowered-ends : k < n → ((i : ℕ) → i < k → RowPasses (leftOf H i) i n) → factoring n H′ .ends ≡ endsFrom (n - k) (leftOf H′ k) k
+  lowered-ends h passed =
+      bool-ext _ _ (λ e. ends-of H′ n (n - k) k (omega arith) (λ l q r. ends-rows H′ n e l r)) (λ e. rows-end H′ n (λ i q. go e i q (decLt i k)))
+    where
+      go : endsFrom (n - k) (leftOf H′ k) k ≡ true → (i : ℕ) → i < n → Dec (i < k) → RowPasses (leftOf H′ i) i n
+      go e i q (yes r) = pass-before i r (passed i r) (ends-passes H′ n (n - k) k k (omega arith) e (omega arith) h .first)
+      go e i q (no r) = ends-passes H′ n (n - k) k i (omega arith) e (omega arith) q
+
+-- ---- t(k)
+-- one of them stops
+pub record Stopped (n : ℕ) (H : Matrix) (k : ℕ) : Type 0 where
+  pub stops : ((i : ℕ) → i < k → RowPasses (leftOf H i) i n) → ⊥
+
+module _ {n k : ℕ} {H : Matrix} where
+  pub stopped-more : Stopped n H k → Stopped n H (suc k)
+  stopped-more s = record { stops = λ f. s .stops (λ i q. f i (omega arith)) }
+
+  module _ {h : List ℤ} (w : Walked H h k n) (l : k < n) where
+    pub walked-triable : Triable n k (suc k) h
+    walked-triable = record { sized = w .sized; inside = l; ordered = omega arith; some = λ q. omega arith }
+
+    module _ {answer : Bool} {h′ : List ℤ} (r : RowPassed h n k answer h′) where
+      pub walked-on : answer ≡ true → Walked H h′ (suc k) n
+      walked-on e = walked-row w l (tests-pass (upper h) l (sym (r .answered) ∙ e) .first) (omega arith) (r .made e)
+
+      pub walked-off : answer ≡ false → Stopped n H (suc k)
+      walked-off e = record { stops = λ f. subst T (sym (pass-tests (leftOf H k) l (f k (omega arith))) ∙ sym (tests-ext (upper h) l (w .agree)) ∙ sym (r .answered) ∙ e) tt }
+
+module _ {n : ℕ} {L U : Matrix} (b : Bounds n L U) {k : ℕ} (l : k < n) where
+  abbrev G : Matrix
+  G = scaled takeOff n L U
+
+  -- 2^32 t off entry (k,k)
+  off : ℤ → ℕ → ℤ
+  off t i = scale *ℤ only i k t
+
+  off-none : (t : ℤ) (i : ℕ) → (i ≡ k → ⊥) → off t i ≡ pos 0
+  unfolding off
+  off-none t i e = rw (only-other i k t e) refl
+
+  off-nonneg : (t : ℤ) → pos 0 ≤ℤ t → (i : ℕ) → pos 0 ≤ℤ off t i
+  unfolding off
+  off-nonneg t h i = *ℤ-nonneg (pos-nonneg (2 ^ 32)) (only-by i k t (λ z. pos 0 ≤ℤ z) (λ e. h) (λ e. pos-nonneg 0))
+
+  off-is : (t : ℤ) (i : ℕ) → taken k (suc k) (scale *ℤ t) i ≡ off t i
+  unfolding off
+  off-is t i =
+      only-by i k t (λ z. taken k (suc k) (scale *ℤ t) i ≡ scale *ℤ z) (λ e. taken-in k (suc k) (scale *ℤ t) i (omega arith) (omega arith))
+      (λ e. taken-out k (suc k) (scale *ℤ t) i (λ u v. absurd (omega arith)))
+
+  pub step-at-is : {h : List ℤ} → Walked G h k n → stepFrom n k (suc k) (upper h) ≡ stepAt n L U k
+  unfolding stepFrom stepAt off
+  step-at-is {h} w = bits-ext _ _ same stepBits (pos 0)
+    where
+      same : (t : ℤ) → endsFrom (n - k) (lowered (taken k (suc k) (scale *ℤ t)) (upper h)) k ≡ trial n L U (λ i. only i k t)
+      same t =
+          ends-ext n (n - k) k (omega arith) (record {
+            entries = λ i j p q r.
+                lowered-ext _ (off t) (upper h) (leftOf G k) i j (off-is t i) (w .agree .entries i j p q r)
+                ∙ sym (left-lowered n G k (off t) (off-none t) k (omega arith) i j);
+          })
+          ∙ sym (lowered-ends n G k (off t) (off-none t) l (w .passed)) ∙ sym (trial-is n L U (λ i. only i k t) b)
+
+  pub step-at-none : Stopped n G k → pos 0 ≡ stepAt n L U k
+  unfolding stepAt off
+  step-at-none s =
+      sym (bits-none _ stepBits (pos 0) (pos-nonneg 0) (λ t h.
+      trial-is n L U (λ i. only i k t) b
+      ∙ false-of _ (λ e. s .stops (λ i q. pass-after n G k (off t) (off-none t) i q (off-nonneg t h) (ends-rows _ n e i (omega arith))))))
