@@ -1,5 +1,4 @@
 // Text in a buffer: words, numbers in decimal, and lines of them. Each function puts its text at a place of the buffer and answers the place behind it.
-ghost use mathlib.Core.Path.{_≡_};
 ghost use Prim.Native.Nat.{_+_, _*_, _≤_};
 ghost use lib.ListN.{length};
 ghost use mathlib.Core.List.{[], _∷_};

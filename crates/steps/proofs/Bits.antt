@@ -1,19 +1,24 @@
 -- The bits of a step: each is added or left.
 use mathlib.Core.Path.{_≡_, refl, ap, ap₂, _∙_}
 use mathlib.Core.Bool.{Bool, true, false}
+use mathlib.Core.Logic.{_⊎_, inl, inr}
 use mathlib.Core.List.{[], _∷_}
-use Prim.Native.Nat.{ℕ, zero, suc, _-_, _^_}
+use Prim.Native.Nat.{ℕ, zero, suc, _^_}
 use native.Mathlib.Omega.{arith}
 use native.Mathlib.Nat.{pow-suc}
-use lib.IntN.{ℤ, pos, _+ℤ_}
-use lib.Signed.{_≤ℤ_}
-use Rattle.integers.proofs.Parts.{pos-nonneg}
-use Rattle.integers.proofs.Solver.{_&_, order, solver}
+use lib.Pow.{pow-pos}
+use lib.IntN.{ℤ, pos, _+ℤ_, _-ℤ_}
+use lib.Signed.{_≤ℤ_, _<ℤ_}
+use Rattle.integers.proofs.Parts.{≤-in, ≤ℤ-or-<ℤ, pos-nonneg}
+use Rattle.integers.proofs.Solver.{_&_, order, ring, solver}
 use Rattle.steps.specs.Steps.{bits}
 
 -- 2^(b + 1) is 2^b twice
 pub power-suc : (b : ℕ) → pos (2 ^ suc b) ≡ pos (2 ^ b) +ℤ pos (2 ^ b)
 power-suc b = ap pos (omega (arith, pow-suc 2 b))
+
+power-some : (b : ℕ) → pos 1 ≤ℤ pos (2 ^ b)
+power-some b = ≤-in (omega (arith, pow-pos b))
 
 module _ (p : ℤ → Bool) (b : ℕ) (t : ℤ) where
   chosen : Bool → ℤ
@@ -43,3 +48,28 @@ bits-none p zero t h f = refl
 bits-none p (suc b) t h f =
     bits-left p b t (f (t +ℤ pos (2 ^ b)) (order (t ∷ pos (2 ^ b) ∷ []) (h & pos-nonneg (2 ^ b)) (search solver depth 40 fits 20000) (omega arith)))
     ∙ bits-none p b t h f
+
+-- where exactly the numbers up to m pass, the bits make m, or the greatest number that b bits make
+module _ (p : ℤ → Bool) (m : ℤ) (yes : (t : ℤ) → t ≤ℤ m → p t ≡ true) (no : (t : ℤ) → m <ℤ t → p t ≡ false) where
+  pub bits-most : (b : ℕ) (t : ℤ) → t ≤ℤ m → m <ℤ (t +ℤ pos (2 ^ b)) → bits p b t ≡ m
+  unfolding bits
+  bits-most zero t h k = order (t ∷ m ∷ []) (h & k) (search solver depth 40 fits 20000) (omega arith)
+  bits-most (suc b) t h k = go (≤ℤ-or-<ℤ (t +ℤ pos (2 ^ b)) m) (bits-most b (t +ℤ pos (2 ^ b))) (bits-most b t h)
+    where
+      go : ((t +ℤ pos (2 ^ b)) ≤ℤ m) ⊎ (m <ℤ (t +ℤ pos (2 ^ b))) →
+          ((t +ℤ pos (2 ^ b)) ≤ℤ m → m <ℤ (t +ℤ pos (2 ^ b) +ℤ pos (2 ^ b)) → bits p b (t +ℤ pos (2 ^ b)) ≡ m) →
+          (m <ℤ (t +ℤ pos (2 ^ b)) → bits p b t ≡ m) → bits p (suc b) t ≡ m
+      go (inl e) f g =
+          bits-more p b t (yes _ e)
+          ∙ f e (order (t ∷ m ∷ pos (2 ^ b) ∷ pos (2 ^ suc b) ∷ []) (k & power-suc b) (search solver depth 40 fits 20000) (omega arith))
+      go (inr e) f g = bits-left p b t (no _ e) ∙ g e
+
+  pub bits-all : (b : ℕ) (t : ℤ) → (t +ℤ pos (2 ^ b) -ℤ pos 1) ≤ℤ m → bits p b t ≡ t +ℤ pos (2 ^ b) -ℤ pos 1
+  unfolding bits
+  bits-all zero t h = ring (t ∷ []) (search solver depth 40 fits 20000) refl
+  bits-all (suc b) t h =
+      let s = t +ℤ pos (2 ^ b) in
+      let e : (s +ℤ pos (2 ^ b) -ℤ pos 1) ≡ (t +ℤ pos (2 ^ suc b) -ℤ pos 1) =
+      order (t ∷ pos (2 ^ b) ∷ pos (2 ^ suc b) ∷ []) (power-suc b) (search solver depth 40 fits 20000) (omega arith) in
+      bits-more p b t (yes s (order (t ∷ m ∷ pos (2 ^ b) ∷ pos (2 ^ suc b) ∷ []) (h & power-suc b & power-some b) (search solver depth 40 fits 20000) (omega arith)))
+      ∙ bits-all b s (rw e h) ∙ e

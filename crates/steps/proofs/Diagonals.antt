@@ -27,7 +27,6 @@ use Rattle.cholesky.proofs.Reduced.{ends-diagonal, ends-ext}
 use Rattle.steps.specs.Steps.{lowered}
 use Rattle.cholesky.specs.Rows.{Sized}
 use Rattle.steps.specs.Tables.{taken, stays, Lowered, Triable}
-use Rattle.steps.proofs.Rows.{ends-last}
 
 -- ---- what is taken off
 module _ (first last : ℕ) (t : ℤ) (i : ℕ) where
@@ -135,20 +134,14 @@ module _ {n first last : ℕ} {h : List ℤ} (t : Triable n first last h) (e : �
           all-of _ last (λ i k. stays-by S first e i (λ b. b ≡ true)
           (λ p. leZ-true (rw (on-is i p k) at (ends-diagonal S′ (n - first) first i q p (omega (arith, t .inside))))) (λ p. refl))
 
+  -- no row is left
+  pub trial-none : n ≤ first → endsFrom (n - first) S′ first ≡ true
+  unfolding endsFrom
+  trial-none k = let z : n - first ≡ 0 = omega arith in rw z refl
+
   module _ (f : all last (stays S first e) ≡ true) where
     left : (i : ℕ) → first ≤ i → i < last → pos 1 ≤ℤ S′ i i
     left i p q = rw (on-is i p q) (le-of (pos 1) _ (sym (stays-is S first e i p) ∙ all-at _ last f i q))
-
-    -- at most one row is left
-    pub trial-short : n ≤ first + 1 → endsFrom (n - first) S′ first ≡ true
-    unfolding endsFrom
-    trial-short k = go (decLt first n)
-      where
-        go : Dec (first < n) → endsFrom (n - first) S′ first ≡ true
-        go (yes p) =
-            let z : n - first ≡ 1 = omega arith in
-            rw z (ends-last S′ first ∙ leZ-true (left first (omega arith) (t .some p)))
-        go (no p) = let z : n - first ≡ 0 = omega arith in rw z refl
 
     module _ {s : List ℤ} (w : Lowered first last e h s) (p : pos 0 ≤ℤ e) where
       on-at : (a : ℕ) → first ≤ a → a < n → Dec (a < last) → Within (2 ^ 57) (S′ a a) × (S′ a a ≤ℤ pos (factorRange * factorRange))

@@ -1,11 +1,12 @@
 // Document 01, "Box": the steps t and t(k), which can be taken off every diagonal entry, or off entry (k,k) only, so that factoring ends.
 // A step t of the tables is 2^32 t of their matrix H: trials are made on a copy of it, of which only diagonal entries are lowered.
 ghost use mathlib.Core.Path.{_≡_};
-ghost use Prim.Native.Nat.{_-_, _≤_};
+ghost use Prim.Native.Nat.{suc, _-_, _≤_, _<_};
 ghost use lib.IntN.{pos};
 ghost use lib.Signed.{_≤ℤ_};
 ghost use lib.ListN.{length};
 ghost use Rattle.integers.specs.Numbers.{Within};
+ghost use Rattle.tables.specs.Ranges.{greatestOrder};
 ghost use Rattle.tables.specs.Matrix.{at};
 ghost use Rattle.tables.specs.Checks.{all};
 ghost use Rattle.tables.specs.Buffers.{Filled};
@@ -22,6 +23,9 @@ pub mod reducing;
 
 // A step has 20 bits: 2^19 is tried first.
 const STEP_BITS: usize = 20;
+
+// The greatest step.
+const MOST_STEP: i64 = (1 << STEP_BITS) - 1;
 
 // Whether at least 1 is left of each diagonal entry from first to last - 1 with e taken off.
 fn stays(first: usize, last: usize, e: i64, s: &[i64; 64]) -> bool
@@ -50,7 +54,7 @@ fn lower(first: usize, last: usize, e: i64, s: &mut [i64; 64])
     }
 }
 
-// Whether factoring ends in the rows from first on, with e taken off the diagonal entries first to last - 1. For one row, what is left of it tells.
+// Whether factoring ends in the rows from first on, with e taken off the diagonal entries first to last - 1.
 fn trial(n: usize, first: usize, last: usize, e: i64, h: &[i64; 64]) -> bool
     requires { ⌜ Triable n first last (now h) × (pos 0 ≤ℤ e) × Within stepRange e ⌝ }
     ensures { λ r. ⌜ r ≡ endsFrom (n - first) (lowered (taken first last e) (upper (now (h .entry)))) first ⌝ }
@@ -58,7 +62,7 @@ fn trial(n: usize, first: usize, last: usize, e: i64, h: &[i64; 64]) -> bool
     if !stays(first, last, e, h) {
         return false;
     }
-    if n <= first + 1 {
+    if n <= first {
         return true;
     }
     let mut s = *h;
@@ -66,11 +70,27 @@ fn trial(n: usize, first: usize, last: usize, e: i64, h: &[i64; 64]) -> bool
     reducing::ends_from(&mut s, n, first)
 }
 
+// The step of the last row, k: the greatest that leaves 1 of its diagonal entry.
+fn last_step(k: usize, h: &[i64; 64]) -> i64
+    requires { ⌜ k < greatestOrder ⌝ }
+    ensures { λ r. ⌜ r ≡ stepFrom (suc k) k (suc k) (upper (now (h .entry))) ⌝ }
+{
+    let rest = h[8 * k + k];
+    if rest < 1 {
+        return 0;
+    }
+    let most = integers::floor_div(rest - 1, SCALE);
+    if most < MOST_STEP { most } else { MOST_STEP }
+}
+
 // The step of the diagonal entries first to last - 1, bit by bit: 2^b is added where factoring ends with it.
 fn search(n: usize, first: usize, last: usize, h: &[i64; 64]) -> i64
     requires { ⌜ Triable n first last (now h) ⌝ }
     ensures { λ r. ⌜ r ≡ stepFrom n first last (upper (now (h .entry))) ⌝ }
 {
+    if first + 1 == n {
+        return last_step(first, h);
+    }
     let mut t: i64 = 0;
     let mut b = STEP_BITS;
     while 0 < b {

@@ -19,7 +19,7 @@ pub struct Piece<'a> {
 }
 
 // The content of what was found in the file: the empty part where no field was found.
-pub fn content_in<'a>(file: &'a [u8], found: Found) -> &'a [u8]
+fn content_in<'a>(file: &'a [u8], found: Found) -> &'a [u8]
     ensures { λ r. ⌜ ((at : ℕ) → found ≡ fieldAt (now (file .entry)) at → now r ≡ contentAt (now (file .entry)) at) ⌝ }
 {
     match found {

@@ -12,7 +12,7 @@ use mir.Val.{SFits}
 use Rattle.integers.specs.Numbers.{Within}
 use Rattle.integers.specs.Sum.{sum}
 use Rattle.integers.proofs.Machine.{within-more, within-+, within-*, within-sum, fits-within}
-use Rattle.integers.proofs.Solver.{_&_, ring, order, solver}
+use Rattle.integers.proofs.Solver.{ring, order, solver}
 use Rattle.integers.proofs.Sums.{sum-zero, sum-suc, sum-ext, sum-none, sum-*, eqb-by}
 use Rattle.tables.specs.Ranges.{entryRange}
 use Rattle.tables.specs.Matrix.{Matrix, at, nth, form}

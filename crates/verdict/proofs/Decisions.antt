@@ -1,8 +1,7 @@
 -- The verdict by its steps: a refusal, a factoring that ends, and one that stops.
-use mathlib.Core.Path.{_≡_, refl, sym, ap, ap₂, _∙_}
+use mathlib.Core.Path.{_≡_, sym, ap, _∙_}
 use mathlib.Core.Bool.{Bool, true, false}
-use mathlib.Core.List.{List, [], _∷_, _++_}
-use mathlib.Core.Option.{Option, none, some}
+use mathlib.Core.List.{List, [], _++_}
 use Prim.Native.Nat.{ℕ, _+_, _≤_, _<_}
 use native.Mathlib.Omega.{arith}
 use borrow.Author.Tests.{eqb-true}
@@ -11,7 +10,6 @@ use lib.IntN.{ℤ, pos, negsuc, natAbs}
 use lib.Signed.{_≤ℤ_}
 use lib.ListN.{length}
 use Rattle.integers.proofs.Parts.{≤-out}
-use Rattle.tables.specs.Ranges.{greatestOrder}
 use Rattle.tables.specs.Matrix.{Matrix, at, nth, table, tabulate}
 use Rattle.tables.specs.Checks.{orderOk, sizesOk, firstRefusal, tableChecks}
 use Rattle.tables.specs.declared.Refusal.{Refusal}
@@ -20,8 +18,8 @@ use Rattle.tables.proofs.Checks.{of-true, and-left, and-right, order-of, sizes-
 use Rattle.tables.proofs.Matrix.{tabulate-ext}
 use Rattle.tables.proofs.Answers.{after-refused, after-passed}
 use Rattle.cholesky.specs.Scale.{takeOff, scaled}
-use Rattle.cholesky.specs.Factoring.{Factoring, entries, factoring, columnsFrom}
-use Rattle.cholesky.specs.Store.{columnsOf, Stored}
+use Rattle.cholesky.specs.Factoring.{Factoring, entries, factoring}
+use Rattle.cholesky.specs.Store.{Stored}
 use Rattle.cholesky.specs.declared.factoring.Outcome.the-variants.{Ends, Stops}
 use Rattle.cholesky.proofs.Columns.{columns-length}
 use Rattle.cholesky.proofs.Store.{outcome-ends, outcome-stops}

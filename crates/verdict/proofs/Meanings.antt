@@ -2,15 +2,13 @@
 use mathlib.Core.Path.{_≡_, refl, sym, ap, subst, _∙_}
 use mathlib.Core.Logic.{_⊎_, inl, inr}
 use mathlib.Core.Bool.{Bool, true, false, false≢true}
-use mathlib.Core.List.{List, [], _∷_, _++_, List·Memᴰ, List·Memᴰ·head, List·Memᴰ·tail, List·Memᴰ·cases-cons, List·Memᴰ·not-nil}
+use mathlib.Core.List.{List, [], _∷_, List·Memᴰ, List·Memᴰ·head, List·Memᴰ·tail, List·Memᴰ·cases-cons, List·Memᴰ·not-nil}
 use mathlib.Core.Option.{Option, none, some}
-use Prim.Native.Nat.{ℕ, _*_, _≤_, _<_}
+use Prim.Native.Nat.{ℕ, _≤_, _<_}
 use lib.Dec.{T}
 use lib.IntN.{ℤ, natAbs}
-use lib.ListN.{length}
 use Rattle.tables.specs.Ranges.{greatestOrder}
 use Rattle.tables.specs.Matrix.{Matrix, at, nth, table}
-use Rattle.tables.specs.Members.{PositiveDefinite, Margin}
 use Rattle.tables.specs.Bounds.{Bounds}
 use Rattle.tables.specs.Checks.{firstRefusal, tableChecks}
 use Rattle.tables.specs.Answers.{after, entryChecks, verdict}
@@ -29,7 +27,7 @@ use Rattle.theorems.proofs.Theorems.{ends-shape-takeOff, ends-accepted-takeOff,
 use Rattle.vectors.specs.Least.{shows}
 use Rattle.vectors.proofs.Showing.{shows-witness, shows-not-definite}
 use Rattle.tried.specs.Tried.{first}
-use Rattle.verdict.specs.Judge.{Judgement, definite, notDefinite, undecided, refused, ours, listed, shownBy, judged, judgement, Judged, written, judgeSizes, judge, LetThrough, Meaning}
+use Rattle.verdict.specs.Judge.{Judgement, definite, refused, ours, listed, shownBy, judged, judgement, written, judge, Meaning}
 use Rattle.verdict.specs.declared.judge.Verdict.{Verdict}
 use Rattle.verdict.specs.declared.judge.Verdict.the-variants as Verdict
 use Rattle.verdict.proofs.Decisions.{judged-ends, judged-stops}

@@ -1,13 +1,11 @@
 -- The loop's invariant: the bytes of the first entries of row i, j of them, stand behind those of the rows before it.
 use mathlib.Core.Path.{_≡_, refl, sym, ap, _∙_}
-use mathlib.Core.List.{List}
-use Prim.Native.Nat.{ℕ, suc, _+_, _*_, _-_, _≤_, _<_}
+use Prim.Native.Nat.{suc, _+_, _*_, _-_, _≤_, _<_}
 use native.Mathlib.Omega.{arith}
 use lib.ListN.{length, take}
 use mir.Syntax.{w64}
 use mir.Val.{bytes}
 use Rattle.integers.proofs.Machine.{clean-result}
-use Rattle.words.specs.Numbers.{withSigned}
 use Rattle.words.proofs.Filling.{fill-front}
 use Rattle.tables.specs.Matrix.{at, table}
 use Rattle.tables.proofs.Matrix.{inside, at-most-64, at-table}

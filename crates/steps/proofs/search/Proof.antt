@@ -2,12 +2,13 @@
 use mathlib.Core.Path.{_≡_, sym, _∙_}
 use Prim.Native.Nat.{suc, _*_, _-_, _^_, _%_}
 use native.Mathlib.Omega.{arith}
+use native.Mathlib.Numerals.{add-one}
 use mir.Syntax.{w64}
 use mir.Val.{toZ}
 use lib.IntN.{pos}
-use Rattle.integers.proofs.Machine.{clean, fits, fits-within}
+use Rattle.integers.proofs.Machine.{clean, clean-result, fits, fits-within}
 use Rattle.cholesky.specs.Store.{upper}
-use Rattle.steps.proofs.Searches.{Searching, shifted, tried-within, scaled-nonneg, scaled-within, search-bit, search-start, search-tried, search-more, search-left, search-end}
+use Rattle.steps.proofs.Searches.{Searching, shifted, tried-within, scaled-nonneg, scaled-within, search-bit, search-start, search-tried, search-more, search-left, search-end, triable-last}
 use Rattle.steps.proofs.search.Statement.{statement}
 use Rattle.steps.proofs.search.Tie as tie
 
@@ -19,7 +20,7 @@ abbrev μ-loop : tie.MeasureT-loop
 
 -- before bit b - 1, and what is tried with it
 module _ (c : tie.In-loop Inv-loop μ-loop) where
-  searching : (let s = c .before .before .args in
+  searching : (let s = c .before .before .before .args in
       Searching (s .n) (s .first) (s .last) (upper (s .h .now)) (toZ w64 (c .before .loop .t)) (suc (c .before .loop .b - 1)))
   searching = search-bit (c .loop-test .taken) (c .before .loop .inv)
 
@@ -35,22 +36,27 @@ mul-trial c = rw (clean (add-next c), bit c) (fits-within (scaled-within (search
 trial-requires : tie.Need-trial-requires Inv-loop μ-loop
 trial-requires c κs =
     let h = search-tried (searching c) in
-    rw (clean (mul-trial c), clean (add-next c), bit c) (c .before .before .pre, scaled-nonneg h, scaled-within h)
+    rw (clean (mul-trial c), clean (add-next c), bit c) (c .before .before .before .pre, scaled-nonneg h, scaled-within h)
 
 loop-again : tie.Need-loop-again Inv-loop μ-loop
 loop-again c =
     let i = c .before .before in
     let r = rw (clean (mul-trial i), clean (add-next i), bit i) at (c .before .trial .ensures) in
-    rw (clean (add-next i), bit i) (search-more (searching i) (sym r ∙ c .if1 .taken))
+    rw (clean (add-next i), bit i) (search-more (searching i) (sym r ∙ c .if2 .taken))
 
 loop-again-2 : tie.Need-loop-again-2 Inv-loop μ-loop
 loop-again-2 c =
     let i = c .before .before in
     let r = rw (clean (mul-trial i), clean (add-next i), bit i) at (c .before .trial .ensures) in
-    search-left (searching i) (sym r ∙ c .if1 .left)
+    search-left (searching i) (sym r ∙ c .if2 .left)
 
 returns : tie.Need-returns Inv-loop μ-loop
 returns c =
+    let d = c .before in
+    clean-result (c .last-step) ∙ c .last-step .ensures ∙ triable-last (d .before .pre) (sym (add-one (d .before .args .first)) ∙ d .if1 .taken)
+
+returns-2 : tie.Need-returns-2 Inv-loop μ-loop
+returns-2 c =
     let l = c .before .loop in
     let e : l .b ≡ 0 = omega (arith, c .loop-test .left) in
     search-end (rw e at (l .inv))
@@ -61,6 +67,9 @@ search-spec =
     (tie.spec
     Inv-loop
     μ-loop
+    (λ c. let t = c .pre in omega (arith, t .sized .order, t .inside, t .ordered))
+    (λ c κs. let t = c .before .pre in omega (arith, t .sized .order, c .if1 .taken))
+    returns
     (λ c. search-start)
     (λ c. omega (arith, c .loop-test .taken))
     (λ c. let b = c .before .loop .inv .least in fits (omega arith))
@@ -72,4 +81,4 @@ search-spec =
     loop-again
     (λ c. omega (arith, c .before .before .loop-test .taken))
     loop-again-2
-    returns)
+    returns-2)

@@ -7,7 +7,7 @@ use Rattle.tables.proofs.Checks.{call-false, call-true}
 use Rattle.cholesky.specs.Store.{upper}
 use Rattle.cholesky.proofs.Rows.{sized-less}
 use Rattle.steps.specs.Tables.{stays}
-use Rattle.steps.proofs.Diagonals.{trial-fails, trial-short, trial-sized, trial-ends}
+use Rattle.steps.proofs.Diagonals.{trial-fails, trial-none, trial-sized, trial-ends}
 use Rattle.steps.proofs.trial.Statement.{statement}
 use Rattle.steps.proofs.trial.Tie as tie
 
@@ -30,8 +30,7 @@ trial-spec =
     (λ c.
     let s = c .before .before in
     sym (trial-fails (s .pre .0) _ (rw (clean (s .fits .e)) at (call-false (c .before .stays .ensures) (c .if1 .taken)))))
-    (λ c. let t = c .before .before .pre .0 in omega (arith, t .sized .order, t .inside, t .ordered))
-    (λ c. let e = c .before in sym (trial-short (e .before .before .pre .0) _ (kept e) (c .if2 .taken)))
+    (λ c. sym (trial-none (c .before .before .before .pre .0) _ (c .if2 .taken)))
     (λ c κs.
     let s = c .before .before .before .before .before in
     let t = s .pre .0 in

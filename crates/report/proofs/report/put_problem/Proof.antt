@@ -1,9 +1,6 @@
-use Prim.Native.Nat.{_≤_}
 use native.Mathlib.Omega.{arith}
 use borrow.Author.Needs.{needs}
-use lib.ListN.{length}
 use Rattle.integers.proofs.Machine.{clean-element}
-use Rattle.summary.specs.Problems.{LetThrough}
 use Rattle.report.specs.Lines.{boxRoom}
 use Rattle.report.specs.Report.{problemText}
 use Rattle.report.proofs.Puts.{put-within, put-then, put-room}

@@ -1,10 +1,9 @@
 -- The loop's invariant: the entries before i are 0.
-use mathlib.Core.Path.{_≡_, refl, sym, ap, _∙_}
-use mathlib.Core.Bool.{Bool, true, false, not}
+use mathlib.Core.Path.{_≡_, sym, ap}
+use mathlib.Core.Bool.{true, false, not}
 use Prim.Native.Nat.{_-_, _≤_}
 use native.Mathlib.Omega.{arith}
-use lib.IntN.{ℤ, pos}
-use Rattle.integers.proofs.Machine.{fits-literal}
+use lib.IntN.{pos}
 use Rattle.tables.specs.Matrix.{nth}
 use Rattle.tables.specs.Checks.{all, same}
 use Rattle.tables.proofs.Checks.{all-none, all-more, all-false, read-same, read-differs}

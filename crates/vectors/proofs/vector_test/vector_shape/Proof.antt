@@ -1,4 +1,4 @@
-use mathlib.Core.Path.{sym, _∙_}
+use mathlib.Core.Path.{sym}
 use borrow.Author.Needs.{needs}
 use Rattle.tables.proofs.Checks.{call-false, call-true, and-first-false}
 use Rattle.vectors.specs.VectorTest.{vectorShape}

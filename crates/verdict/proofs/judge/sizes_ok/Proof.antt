@@ -1,4 +1,3 @@
-use mathlib.Core.Path.{_≡_, sym, _∙_}
 use borrow.Author.Needs.{needs}
 use Rattle.verdict.specs.Judge.{judgeSizes}
 use Rattle.verdict.proofs.judge.sizes_ok.Statement.{statement}

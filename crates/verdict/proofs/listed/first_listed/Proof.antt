@@ -1,7 +1,5 @@
 -- The tried, then the solved ones.
-use mathlib.Core.Path.{_≡_}
 use native.Mathlib.Omega.{arith}
-use borrow.Author.Needs.{needs}
 use Rattle.verdict.proofs.Listing.{first-hit, first-miss, low-table, high-table}
 use Rattle.verdict.proofs.listed.first_listed.Statement.{statement}
 use Rattle.verdict.proofs.listed.first_listed.Tie as tie

@@ -1,5 +1,4 @@
 -- By the two tests of the definition.
-use mathlib.Core.Path.{_≡_, sym, _∙_}
 use borrow.Author.Needs.{needs}
 use Rattle.integers.proofs.Machine.{clean-result}
 use Rattle.tables.proofs.Checks.{call-true, call-false}
