@@ -7,7 +7,7 @@ use Rattle.integers.specs.Numbers.{Within}
 use Rattle.tables.specs.Ranges.{greatestOrder}
 use Rattle.tables.specs.Matrix.{nth}
 
--- numerators, and what roots are taken of
+-- numerators, and the numbers whose roots are taken, are within this range
 abbrev pub boundRange : ℕ
 boundRange = 2 ^ 58
 

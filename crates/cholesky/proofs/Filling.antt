@@ -14,11 +14,11 @@ use Rattle.integers.proofs.Machine.{within-more, within-+, within--, within-*, 
 use Rattle.integers.proofs.Sums.{only-by}
 use Rattle.tables.specs.Ranges.{greatestOrder}
 use Rattle.tables.specs.Matrix.{Matrix, rowWidth}
-use Rattle.tables.specs.Bounds.{Bounds}
+use Rattle.tables.specs.Bounds.{Bounds, CheckedTables}
 use Rattle.tables.proofs.Matrix.{inside, at-most-64}
 use Rattle.cholesky.specs.Scale.{halfScale, takeOff, scaled}
 use Rattle.cholesky.specs.Store.{upper}
-use Rattle.cholesky.specs.Scaling.{Ranged, Lent, Scaled, Checked}
+use Rattle.cholesky.specs.Scaling.{Ranged, Lent, Scaled}
 use Rattle.cholesky.specs.Rows.{Sized}
 use Rattle.cholesky.proofs.ScaledMatrix.{take-off-suffices, scaled-top}
 use Rattle.cholesky.proofs.Store.{upper-same, upper-other}
@@ -115,7 +115,7 @@ sized-scaled {n} {L} {U} {h} b o w =
     within-at i j l k = rw (w .entries i j l k) (scaled-within o (bounds-ranged b) i j (omega arith) k)
 
 -- tables that passed the checks can be scaled
-pub checked-lent : {n : ℕ} {l u : List ℤ} → Checked n l u → Lent n l u
+pub checked-lent : {n : ℕ} {l u : List ℤ} → CheckedTables n l u → Lent n l u
 checked-lent p = record { order = p .order; low-length = p .low-length; high-length = p .high-length; ranged = bounds-ranged (p .bounds) }
 
 -- ---- the walk of the code: before row i of column j

@@ -18,10 +18,19 @@ use Rattle.integers.proofs.Sums.{sum-ext}
 use Rattle.tables.specs.Matrix.{Matrix, nth}
 use Rattle.tables.proofs.Checks.{of-true, true-of, bool-ext, and-left, and-right, and-of, le-of}
 use Rattle.cholesky.specs.Factoring.{entries, nextEntry, goesOn, nextColumn, factoring}
-use Rattle.cholesky.specs.Reduced.{rowEntry, reduced, rowFrom, endsFrom, leftOf, Agree}
+use Rattle.cholesky.specs.Reduced.{rowEntry, reduced, rowFrom, endsFrom}
 use Rattle.cholesky.proofs.Lists.{length-snoc, nth-before, nth-last, entries-before, entries-last}
 use Rattle.cholesky.proofs.Loops.{Passes, passes, goes-on, rows-ind, rows-done, column-ind, columns-ind, columns-end}
 use Rattle.cholesky.proofs.Columns.{columns-length}
+
+-- what is left of H after the rows before i
+unfoldable pub leftOf : Matrix → ℕ → Matrix
+leftOf H zero = H
+leftOf H (suc i) = reduced (leftOf H i) i
+
+-- equal entries, on and above the diagonal, in the rows and columns from i to n - 1
+pub record Agree (n i : ℕ) (S S′ : Matrix) : Type 0 where
+  pub entries : (a b : ℕ) → i ≤ a → a ≤ b → b < n → S a b ≡ S′ a b
 
 -- ---- the tests of a row, and of all rows, entry by entry
 pub record RowPasses (S : Matrix) (i n : ℕ) : Type 0 where

@@ -5,6 +5,7 @@ use mathlib.Core.Bool.{Bool, true, false}
 use mathlib.Core.List.{List, [], _∷_, _++_}
 use Prim.Native.Nat.{ℕ, suc, _+_, _*_, _≤_, _<_}
 use native.Mathlib.Omega.{arith}
+use borrow.Author.Tests.{le-leb, lt-leb}
 use lib.IntN.{ℤ, pos}
 use lib.ListN.{length, set}
 use lib.Seq.{getD-set-same, getD-set-other}
@@ -13,9 +14,17 @@ use Rattle.tables.proofs.Matrix.{length-tabulate, getD-tabulate, nth-tabulate, 
 use Rattle.cholesky.specs.Factoring.{Factoring, entries}
 use Rattle.cholesky.specs.declared.factoring.Outcome.{Outcome}
 use Rattle.cholesky.specs.declared.factoring.Outcome.the-variants.{Ends, Stops}
-use Rattle.cholesky.specs.Store.{upper, columnOf, columnsOf, outcomeOf}
+use Rattle.cholesky.specs.Store.{upper, triangle, columnOf, columnsOf, outcomeOf}
 
 -- ---- what is read
+pub triangle-on : (t : List ℤ) (i j : ℕ) → i ≤ j → triangle t i j ≡ upper t i j
+unfolding triangle
+triangle-on t i j h = ap (λ (b : Bool). elim b as (λ z. ℤ) [ true ↦ upper t i j | false ↦ pos 0 ]) (le-leb i j h)
+
+pub triangle-below : (t : List ℤ) (i j : ℕ) → j < i → triangle t i j ≡ pos 0
+unfolding triangle
+triangle-below t i j h = ap (λ (b : Bool). elim b as (λ z. ℤ) [ true ↦ upper t i j | false ↦ pos 0 ]) (lt-leb i j h)
+
 pub length-columnOf : (t : List ℤ) (j m : ℕ) → length (columnOf t j m) ≡ m
 unfolding columnOf
 length-columnOf t j m = length-tabulate m _

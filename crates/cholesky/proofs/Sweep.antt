@@ -14,10 +14,10 @@ use Rattle.tables.proofs.Checks.{true-of}
 use Rattle.cholesky.specs.declared.factoring.Outcome.the-variants.{Ends, Stops}
 use Rattle.cholesky.specs.Factoring.{Column, nextEntry, goesOn, rows, nextColumn, columnsFrom, factoring}
 use Rattle.cholesky.specs.Store.{upper, columnOf, columnsOf, outcomeOf, Stored}
-use Rattle.cholesky.specs.Reduced.{rowEntry, reduced, leftOf}
+use Rattle.cholesky.specs.Reduced.{rowEntry, reduced}
 use Rattle.cholesky.proofs.Loops.{goes-on, rows-on, rows-stop, column-on, column-none, columns-on, columns-stop}
 use Rattle.cholesky.proofs.Store.{length-columnOf, length-columnsOf, columnOf-suc, columnsOf-suc, entries-columnsOf, nth-columnOf}
-use Rattle.cholesky.proofs.Reduced.{left-is}
+use Rattle.cholesky.proofs.Reduced.{leftOf, left-is}
 use Rattle.cholesky.proofs.Walked.{Rows, Stop}
 
 no-rows : (t : List ℤ) (j : ℕ) → columnOf t j 0 ≡ []

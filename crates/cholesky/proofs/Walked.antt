@@ -12,10 +12,10 @@ use Rattle.tables.specs.Matrix.{Matrix}
 use Rattle.tables.proofs.Checks.{of-true, true-of}
 use Rattle.cholesky.specs.Factoring.{goesOn}
 use Rattle.cholesky.specs.Store.{upper}
-use Rattle.cholesky.specs.Reduced.{rowEntry, reduced, leftOf, Agree}
+use Rattle.cholesky.specs.Reduced.{rowEntry, reduced}
 use Rattle.cholesky.specs.Rows.{Sized, RowDone, ColumnsTaken, RowTaken, Started}
 use Rattle.cholesky.proofs.Loops.{passes, goes-on}
-use Rattle.cholesky.proofs.Reduced.{RowPasses, entry-ext, reduced-ext}
+use Rattle.cholesky.proofs.Reduced.{leftOf, Agree, RowPasses, entry-ext, reduced-ext}
 use Rattle.cholesky.proofs.Rows.{left-sized, sized-less}
 
 -- the rows before i pass in the columns before e, and what is left of H after them stands in the table

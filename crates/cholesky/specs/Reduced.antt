@@ -1,7 +1,6 @@
 -- Factoring row by row, by Schur complements in whole numbers: a matrix S of which only rows and columns from i on are left, S(i,j) with i ≤ j alone.
-use mathlib.Core.Path.{_≡_}
 use mathlib.Core.Bool.{Bool, true, _&&_}
-use Prim.Native.Nat.{ℕ, zero, suc, _≤_, _<_}
+use Prim.Native.Nat.{ℕ, zero, suc}
 use lib.IntN.{ℤ, pos, _-ℤ_, _*ℤ_}
 use lib.Signed.{leZ}
 use Rattle.integers.specs.Division.{floorDiv}
@@ -26,12 +25,3 @@ rowFrom S i j (suc m) = goesOn (rowEntry S i j) (reduced S i j j) && rowFrom S i
 unfoldable pub endsFrom : ℕ → Matrix → ℕ → Bool
 endsFrom zero S i = true
 endsFrom (suc m) S i = leZ (pos 1) (S i i) && (rowFrom S i (suc i) m && endsFrom m (reduced S i) (suc i))
-
--- what is left of H after the rows before i
-unfoldable pub leftOf : Matrix → ℕ → Matrix
-leftOf H zero = H
-leftOf H (suc i) = reduced (leftOf H i) i
-
--- equal entries, on and above the diagonal, in the rows and columns from i to n - 1
-pub record Agree (n i : ℕ) (S S′ : Matrix) : Type 0 where
-  pub entries : (a b : ℕ) → i ≤ a → a ≤ b → b < n → S a b ≡ S′ a b

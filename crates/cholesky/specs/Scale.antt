@@ -11,7 +11,7 @@ scale = pos (2 ^ 32)
 abbrev pub halfScale : ℤ
 halfScale = pos (2 ^ 31)
 
--- what is taken off each diagonal entry
+-- what is taken off each diagonal entry, besides the width of its row
 abbrev pub takeOff : ℤ
 takeOff = pos (2 ^ 29)
 

@@ -6,7 +6,6 @@ use lib.IntN.{ℤ}
 use lib.ListN.{length}
 use Rattle.integers.specs.Numbers.{Within}
 use Rattle.tables.specs.Ranges.{greatestOrder, entryRange}
-use Rattle.tables.specs.Bounds.{Bounds}
 use Rattle.tables.specs.Matrix.{Matrix, at}
 use Rattle.cholesky.specs.Scale.{takeOff, scaled}
 use Rattle.cholesky.specs.Store.{upper}
@@ -27,10 +26,3 @@ pub record Lent (n : ℕ) (l u : List ℤ) : Type 0 where
 pub record Scaled (n : ℕ) (L U : Matrix) (h : List ℤ) (m : ℕ) : Type 0 where
   pub size : length h ≡ 64
   pub entries : (i j : ℕ) → i ≤ j → j < m → upper h i j ≡ scaled takeOff n L U i j
-
--- tables of order n that passed the checks 3 to 5: the first n² numbers of each
-pub record Checked (n : ℕ) (l u : List ℤ) : Type 0 where
-  pub order : n ≤ greatestOrder
-  pub low-length : n * n ≤ length l
-  pub high-length : n * n ≤ length u
-  pub bounds : Bounds n (at n l) (at n u)

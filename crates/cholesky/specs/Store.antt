@@ -3,7 +3,8 @@ use mathlib.Core.Bool.{true, false}
 use mathlib.Core.Path.{_≡_}
 use mathlib.Core.List.{List}
 use Prim.Native.Nat.{ℕ, suc, _+_, _*_, _<_}
-use lib.IntN.{ℤ}
+use lib.Dec.{leb}
+use lib.IntN.{ℤ, pos}
 use lib.ListN.{length}
 use Rattle.integers.specs.Numbers.{Within}
 use Rattle.tables.specs.Ranges.{factorRange}
@@ -14,6 +15,10 @@ use Rattle.cholesky.specs.declared.factoring.Outcome.the-variants.{Ends,
 
 unfoldable pub upper : List ℤ → Matrix
 upper t i j = nth t (8 * j + i)
+
+-- the upper triangular matrix: 0 below the diagonal
+unfoldable pub triangle : List ℤ → Matrix
+triangle t i j = elim (leb i j) [ true ↦ upper t i j | false ↦ pos 0 ]
 
 -- the first m entries of column j
 unfoldable pub columnOf : List ℤ → ℕ → ℕ → List ℤ

@@ -5,14 +5,14 @@ ghost use Rattle.tables.specs.Matrix.{at};
 ghost use Rattle.cholesky.specs.Scale.{takeOff, scaled};
 ghost use Rattle.cholesky.specs.Factoring.{factoring};
 ghost use Rattle.cholesky.specs.Store.{Stored};
-ghost use Rattle.cholesky.specs.Scaling.{Checked};
+ghost use Rattle.tables.specs.Bounds.{CheckedTables};
 use crate::factoring::Outcome;
 use crate::factoring::factor;
 use crate::scaling::scale;
 
 // Factors H of the tables of L and U, of order n, into the columns of t.
 pub fn factor_tables(n: usize, low: &[i64], high: &[i64], t: &mut [i64; 64]) -> Outcome
-    requires { ⌜ Checked n (now low) (now high) × (length (now t) ≡ 64) ⌝ }
+    requires { ⌜ CheckedTables n (now low) (now high) × (length (now t) ≡ 64) ⌝ }
     ensures { λ r. ⌜ Stored (factoring n (scaled takeOff n (at n (now (low .entry))) (at n (now (high .entry))))) r (now (t .exit)) ⌝ }
 {
     scale(n, low, high, t);
@@ -21,7 +21,7 @@ pub fn factor_tables(n: usize, low: &[i64], high: &[i64], t: &mut [i64; 64]) -> 
 
 // Whether factoring the tables of L and U, of order n, ends.
 pub fn ends(n: usize, low: &[i64], high: &[i64]) -> bool
-    requires { ⌜ Checked n (now low) (now high) ⌝ }
+    requires { ⌜ CheckedTables n (now low) (now high) ⌝ }
     ensures { λ r. ⌜ r ≡ factoring n (scaled takeOff n (at n (now (low .entry))) (at n (now (high .entry)))) .ends ⌝ }
 {
     let mut t = [0i64; 64];

@@ -12,7 +12,7 @@ ghost use Rattle.tables.specs.Members.{PositiveDefinite};
 ghost use Rattle.residual.specs.FactorTest.{factorAnswer};
 ghost use Rattle.vectors.specs.VectorTest.{vectorAnswer};
 ghost use Rattle.verdict.specs.Judge.{Judged, verdictCode, judgement};
-ghost use Rattle.residual.specs.Slack.{triangle};
+ghost use Rattle.cholesky.specs.Store.{triangle};
 ghost use Rattle.words.specs.Numbers.{bytesOf};
 ghost use Rattle.hankboulder.specs.Entries.{tableOf, testFactorEntry, vectorOf, testVectorEntry, VectorMeaning, Front, stored, JudgeAnswer, judgeEntry, JudgeMeaning, storedSides, BoxEntry, boxEntry, BoxMeaning};
 ghost use Rattle.enclosure.specs.Box.{boxAnswer};

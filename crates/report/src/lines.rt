@@ -4,7 +4,7 @@ ghost use Prim.Native.Nat.{_+_, _*_, _≤_, _<_};
 ghost use lib.ListN.{length};
 ghost use Rattle.tables.specs.Ranges.{greatestOrder};
 ghost use Rattle.tables.specs.Matrix.{nth, table, tabulate};
-ghost use Rattle.residual.specs.Slack.{triangle};
+ghost use Rattle.cholesky.specs.Store.{triangle};
 ghost use Rattle.verdict.specs.Judge.{definite, notDefinite, judgement};
 ghost use Rattle.enclosure.specs.Box.{boxAnswer};
 ghost use Rattle.report.specs.Putting.{Put};

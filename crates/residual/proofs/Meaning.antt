@@ -13,7 +13,7 @@ use Rattle.tables.specs.Members.{PositiveDefinite}
 use Rattle.tables.specs.Checks.{within, same, tableChecks}
 use Rattle.tables.specs.declared.Answer.the-variants as Answer
 use Rattle.tables.proofs.Checks.{true-of, of-true, and-left, all-at, le-of, same-of}
-use Rattle.tables.proofs.Answers.{last-passed, after-yes, verdict-yes}
+use Rattle.tables.proofs.Answers.{last-passed, after-yes, yes-true}
 use Rattle.tables.proofs.Triangular.{UpperTriangular}
 use Rattle.residual.specs.Residual.{accepts}
 use Rattle.residual.specs.FactorTest.{factorEntry, factorShape, factorAnswer, factorTest}
@@ -65,7 +65,7 @@ module _ (l u f : List ℤ) where
   unfolding factorAnswer
   answer-definite n e =
       let p = after-yes _ _ e in
-      offered-definite n (at n f) (at n l) (at n u) (of-true (last-passed (tableChecks n l u) _ (p .0))) (of-true (verdict-yes (accepts n (at n f) (at n l) (at n u)) (p .1)))
+      offered-definite n (at n f) (at n l) (at n u) (of-true (last-passed (tableChecks n l u) _ (p .0))) (of-true (yes-true (accepts n (at n f) (at n l) (at n u)) (p .1)))
 
   pub test-definite : (n : ℤ) → factorTest n l u f ≡ Answer.Yes → PositiveDefinite (natAbs n) (at (natAbs n) l) (at (natAbs n) u)
   unfolding factorTest

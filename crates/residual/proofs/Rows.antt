@@ -5,7 +5,6 @@ use mathlib.Core.List.{List, [], _∷_}
 use Prim.Native.Nat.{ℕ, suc, _+_, _*_, _^_, _≤_, _<_}
 use native.Mathlib.Omega.{arith}
 use native.Mathlib.Decide.{decLt}
-use borrow.Author.Tests.{le-leb, lt-leb}
 use lib.IntN.{ℤ, pos, _+ℤ_, _-ℤ_, _*ℤ_, *ℤ-comm, zero-*ℤ}
 use lib.Signed.{leZ}
 use lib.ListN.{length}
@@ -18,21 +17,11 @@ use Rattle.integers.proofs.Machine.{within-more, within--, within-sum}
 use Rattle.tables.specs.Matrix.{Matrix, nth, at, gram}
 use Rattle.tables.specs.Checks.{all}
 use Rattle.tables.proofs.Checks.{bool-ext, le-of, all-ext}
-use Rattle.cholesky.specs.Store.{upper}
 use Rattle.residual.specs.Residual.{residual, radius, rowPasses, accepts}
 use Rattle.residual.specs.FactorTest.{Offer}
-use Rattle.residual.specs.Slack.{triangle, gramAt, spread, radiusAt, Room, Charged}
+use Rattle.residual.specs.Slack.{gramAt, spread, radiusAt, Room, Charged}
 use Rattle.residual.proofs.OfferedFactor.{factor-below}
 use Rattle.residual.proofs.Slack.{radius-within, diagonal-within}
-
--- ---- the triangle's entries
-pub triangle-on : (c : List ℤ) (i j : ℕ) → i ≤ j → triangle c i j ≡ upper c i j
-unfolding triangle
-triangle-on c i j h = ap (λ (b : Bool). elim b as (λ z. ℤ) [ true ↦ upper c i j | false ↦ pos 0 ]) (le-leb i j h)
-
-pub triangle-below : (c : List ℤ) (i j : ℕ) → j < i → triangle c i j ≡ pos 0
-unfolding triangle
-triangle-below c i j h = ap (λ (b : Bool). elim b as (λ z. ℤ) [ true ↦ upper c i j | false ↦ pos 0 ]) (lt-leb i j h)
 
 -- what row i has over, of the columns before j
 abbrev pub over : ℕ → List ℤ → List ℤ → List ℤ → ℕ → ℕ → ℤ

@@ -10,7 +10,7 @@ use Rattle.tables.specs.Ranges.{greatestOrder, factorRange}
 use Rattle.tables.specs.Matrix.{Matrix, at}
 use Rattle.tables.specs.Bounds.{Bounds}
 use Rattle.tables.specs.Checks.{all, within, same, firstRefusal, sizesOk, tableChecks}
-use Rattle.tables.specs.Answers.{after, entryChecks, verdict}
+use Rattle.tables.specs.Answers.{after, entryChecks, yesOrNo}
 use Rattle.tables.specs.declared.Refusal.the-variants.{Factor}
 use Rattle.tables.specs.declared.Answer.{Answer}
 use Rattle.tables.specs.declared.Answer.the-variants as Answer
@@ -32,7 +32,7 @@ factorShape n R = all n (λ i. all n (λ j. factorEntry i j (R i j)))
 unfoldable pub factorAnswer : ℕ → List ℤ → List ℤ → List ℤ → Answer
 factorAnswer n l u f =
     after Answer.Refused (firstRefusal (tableChecks n l u ++ (record { passes = factorShape n (at n f); otherwise = Factor } ∷ [])))
-    (verdict (accepts n (at n f) (at n l) (at n u)))
+    (yesOrNo (accepts n (at n f) (at n l) (at n u)))
 
 -- 2: each lent table has the size that n calls for
 abbrev pub factorSizes : ℕ → ℕ → ℕ → ℕ → Bool

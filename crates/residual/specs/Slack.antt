@@ -1,20 +1,13 @@
 -- How the code works out the residual test: column by column, each pair (i, j) once, and for each row what its left side has over its right side.
 use mathlib.Core.Path.{_≡_}
-use mathlib.Core.Bool.{true, false}
 use mathlib.Core.List.{List}
 use Prim.Native.Nat.{ℕ, suc, _*_, _^_, _<_}
-use lib.Dec.{leb}
-use lib.IntN.{ℤ, pos, _-ℤ_, _*ℤ_}
+use lib.IntN.{ℤ, _-ℤ_, _*ℤ_}
 use lib.ListN.{length}
 use Rattle.integers.specs.Numbers.{Within, absℤ, maxℤ}
 use Rattle.integers.specs.Sum.{sum}
 use Rattle.tables.specs.Matrix.{Matrix, nth, at}
 use Rattle.cholesky.specs.Scale.{scale}
-use Rattle.cholesky.specs.Store.{upper}
-
--- the upper triangular matrix whose columns stand in the table c
-unfoldable pub triangle : List ℤ → Matrix
-triangle c i j = elim (leb i j) [ true ↦ upper c i j | false ↦ pos 0 ]
 
 -- P(i,j), for i ≤ j: entries below the diagonal are 0
 unfoldable pub gramAt : Matrix → Matrix

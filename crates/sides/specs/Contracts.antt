@@ -9,13 +9,13 @@ use lib.ListN.{length}
 use Rattle.integers.specs.Numbers.{Within}
 use Rattle.tables.specs.Ranges.{greatestOrder, entryRange, linearRange, centreRange}
 use Rattle.tables.specs.Matrix.{at, nth, tabulate}
-use Rattle.cholesky.specs.Scaling.{Checked}
+use Rattle.tables.specs.Bounds.{CheckedTables}
 use Rattle.arithmetic.specs.Contracts.{boundRange}
 use Rattle.sides.specs.Sides.{gradientRange, Box, sides, empty}
 
 -- tables that passed the checks 3 to 5, with linear terms and a centre in their ranges
 pub record Centred (n : ℕ) (l u a c : List ℤ) : Type 0 where
-  pub tables : Checked n l u
+  pub tables : CheckedTables n l u
   pub linear-length : n ≤ length a
   pub centre-length : n ≤ length c
   pub linear : (k : ℕ) → k < n → Within linearRange (nth a k)

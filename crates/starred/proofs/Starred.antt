@@ -4,14 +4,20 @@ use mathlib.Core.List.{List, [], _∷_, map}
 use Prim.Native.Nat.{ℕ}
 use lib.IntN.{ℤ, pos, negsuc}
 use Rattle.integers.specs.Numbers.{absℤ, minℤ, maxℤ}
-use Rattle.integers.specs.Sum.{sum, only}
+use Rattle.integers.specs.Sum.{sum, only, except}
 use Rattle.integers.specs.Division.{floorDiv, ceilDiv}
 use Rattle.integers.specs.Root.{wholeRoot, rootWithin, rootAbove, leastRoot}
-use Rattle.tables.specs.Matrix.{at, nth, table, tabulate, form, rowWidth}
+use Rattle.tables.specs.Matrix.{at, nth, table, tabulate, form, gram, rowWidth}
 use Rattle.tables.specs.Checks.{problemChecks, all, firstRefusal, within, allWithin, nowhereCrossed, same, symmetric, tableChecks}
-use Rattle.tables.specs.Answers.{after}
+use Rattle.tables.specs.Answers.{after, yesOrNo}
+use Rattle.tables.specs.Members.{PositiveDefinite}
+use Rattle.tables.specs.declared.Answer.{Answer as TestAnswer}
+use Rattle.tables.specs.declared.Answer.the-variants.{Yes}
 use Rattle.cholesky.specs.Scale.{scaled}
 use Rattle.cholesky.specs.Factoring.{factoring, columnsFrom, nextColumn, rows, goesOn, nextEntry, entries}
+use Rattle.residual.specs.Residual.{residual, radius, rowPasses, accepts}
+use Rattle.residual.specs.FactorTest.{factorEntry, factorShape, factorAnswer}
+use Rattle.residual.proofs.Meaning.{answer-definite}
 use Rattle.vectors.specs.Least.{leastMember, leastValue, nonzero, shows}
 use Rattle.tried.specs.Tried.{tried, first}
 use Rattle.solved.specs.Solved.{stoppedFactor, solvedEntry, solvedRows, solved}
@@ -22,6 +28,7 @@ use Rattle.enclosure.specs.Box.{Box, sides, empty, boxed, boxAnswer}
 
 data Answer : Type 0 where
   verdict : Judgement → Answer
+  test : TestAnswer → Answer
   value : ℤ → Answer
   box : Box → Answer
 
@@ -36,6 +43,10 @@ bounded n l u j = record { rules = verdict (judgement n l u); document = verdict
 abbrev thin : ℕ → List ℤ → Judgement → Line
 thin n t j = bounded n t t j
 
+-- the factor test's answer to a factor that is offered for a thin table
+abbrev offered : ℕ → List ℤ → List ℤ → TestAnswer → Line
+offered n t f a = record { rules = test (factorAnswer n t t f); document = test a }
+
 -- the least value of x over the one member of a thin table
 abbrev least : ℕ → List ℤ → List ℤ → ℤ → Line
 least n t x v = record { rules = value (leastValue n (at n t) (at n t) (nth x)); document = value v }
@@ -43,6 +54,13 @@ least n t x v = record { rules = value (leastValue n (at n t) (at n t) (nth x));
 -- the box of order 1: M = [m], a, α, c
 abbrev boxed-one : ℤ → ℤ → ℤ → ℤ → Box → Line
 boxed-one m a α c b = record { rules = box (boxAnswer 1 (m ∷ []) (m ∷ []) (a ∷ []) α (c ∷ [])); document = box b }
+
+-- [1 3; 3 10], and 2^16 times its exact Cholesky factor
+abbrev narrow : List ℤ
+narrow = pos 1 ∷ pos 3 ∷ pos 3 ∷ pos 10 ∷ []
+
+abbrev exactFactor : List ℤ
+exactFactor = pos 65536 ∷ pos 196608 ∷ pos 0 ∷ pos 65536 ∷ []
 
 abbrev lines : List Line
 lines =
@@ -56,7 +74,9 @@ lines =
     ∷ thin 2 (pos 1 ∷ pos 1 ∷ pos 1 ∷ pos 1 ∷ []) (notDefinite (pos 1 ∷ negsuc 0 ∷ []))
     ∷ thin 2 (pos 1 ∷ pos 1000 ∷ pos 1000 ∷ pos 10000 ∷ []) (notDefinite (negsuc 1142 ∷ pos 1 ∷ []))
     ∷ least 2 (pos 1 ∷ pos 1000 ∷ pos 1000 ∷ pos 10000 ∷ []) (negsuc 1142 ∷ pos 1 ∷ []) (negsuc 969550)
-    ∷ thin 2 (pos 1 ∷ pos 3 ∷ pos 3 ∷ pos 10 ∷ []) undecided
+    ∷ thin 2 narrow undecided
+    -- "though it is definite": the exact factor is accepted
+    ∷ offered 2 narrow exactFactor Yes
     ∷ boxed-one (pos 4) (pos 0) (negsuc 0) (pos 0) empty
     ∷ boxed-one (pos 4) (pos 0) (pos 0) (pos 0) (sides (pos 0 ∷ pos 0 ∷ []))
     -- case P
@@ -64,5 +84,10 @@ lines =
     ∷ []
 
 as-printed : map (λ (l : Line). l .rules) lines ≡ map (λ (l : Line). l .document) lines
-unfolding judgement judged listed after firstRefusal tableChecks allWithin nowhereCrossed symmetric same all within factoring columnsFrom nextColumn rows goesOn nextEntry entries scaled at table tabulate form rowWidth leastMember leastValue nonzero shows tried first stoppedFactor solvedEntry solvedRows solved sum only floorDiv wholeRoot rootWithin boxAnswer problemChecks boxed boxOf sidesFrom halfSide smallerHalf secondBound firstHalf bound atCentre gradient highGradient lowGradient step stepAt bits trial lowered absℤ minℤ maxℤ ceilDiv rootAbove leastRoot
+unfolding judgement judged listed factorAnswer factorShape factorEntry accepts rowPasses radius residual gram except after firstRefusal tableChecks allWithin nowhereCrossed symmetric same all within factoring columnsFrom nextColumn rows goesOn nextEntry entries scaled at table tabulate form rowWidth leastMember leastValue nonzero shows tried first stoppedFactor solvedEntry solvedRows solved sum only floorDiv wholeRoot rootWithin boxAnswer problemChecks boxed boxOf sidesFrom halfSide smallerHalf secondBound firstHalf bound atCentre gradient highGradient lowGradient step stepAt bits trial lowered absℤ minℤ maxℤ ceilDiv rootAbove leastRoot
 as-printed = refl
+
+-- so every member of [1 3; 3 10], on which the judge is undecided, is positive definite
+undecided-definite : PositiveDefinite 2 (at 2 narrow) (at 2 narrow)
+unfolding factorAnswer factorShape factorEntry accepts rowPasses radius residual gram except after firstRefusal tableChecks allWithin nowhereCrossed symmetric same all within at sum absℤ maxℤ
+undecided-definite = answer-definite narrow narrow exactFactor 2 refl

@@ -21,9 +21,9 @@ use Rattle.cholesky.specs.Scale.{scale, takeOff, scaled}
 use Rattle.cholesky.specs.Scaling.{Scaled}
 use Rattle.cholesky.specs.Factoring.{factoring}
 use Rattle.cholesky.specs.Store.{upper}
-use Rattle.cholesky.specs.Reduced.{rowEntry, reduced, endsFrom, leftOf}
+use Rattle.cholesky.specs.Reduced.{rowEntry, reduced, endsFrom}
 use Rattle.cholesky.proofs.Filling.{sized-scaled}
-use Rattle.cholesky.proofs.Reduced.{RowPasses, ends-passes, ends-of, ends-ext, tests-pass, pass-tests, tests-ext, left-falls, ends-rows, rows-end, factoring-by-rows}
+use Rattle.cholesky.proofs.Reduced.{leftOf, RowPasses, ends-passes, ends-of, ends-ext, tests-pass, pass-tests, tests-ext, left-falls, ends-rows, rows-end, factoring-by-rows}
 use Rattle.cholesky.proofs.Walked.{Walked, walked-row}
 use Rattle.steps.specs.Steps.{lowered, stepBits, trial, step, stepAt}
 use Rattle.steps.specs.Tables.{taken, RowPassed, Triable, stepFrom}

@@ -10,7 +10,7 @@ ghost use Rattle.tables.specs.Ranges.{greatestOrder};
 ghost use Rattle.tables.specs.Matrix.{at};
 ghost use Rattle.tables.specs.Checks.{all};
 ghost use Rattle.tables.specs.Buffers.{Filled};
-ghost use Rattle.cholesky.specs.Scaling.{Checked};
+ghost use Rattle.tables.specs.Bounds.{CheckedTables};
 ghost use Rattle.cholesky.specs.Store.{upper};
 ghost use Rattle.cholesky.specs.Reduced.{endsFrom};
 ghost use Rattle.steps.specs.Steps.{lowered, step, stepAt};
@@ -105,7 +105,7 @@ fn search(n: usize, first: usize, last: usize, h: &[i64; 64]) -> i64
 
 // t: the step of every diagonal entry.
 pub fn step(n: usize, low: &[i64], high: &[i64]) -> i64
-    requires { ⌜ Checked n (now low) (now high) ⌝ }
+    requires { ⌜ CheckedTables n (now low) (now high) ⌝ }
     ensures { λ r. ⌜ r ≡ step n (at n (now (low .entry))) (at n (now (high .entry))) ⌝ }
 {
     let mut h = [0i64; 64];
@@ -115,7 +115,7 @@ pub fn step(n: usize, low: &[i64], high: &[i64]) -> i64
 
 // t(k), of diagonal entry k only, for each k: on what is left after the rows before k. Where factoring stops in one of these, t(k) is 0.
 pub fn steps_at(n: usize, low: &[i64], high: &[i64], t: &mut [i64; 8])
-    requires { ⌜ Checked n (now low) (now high) × (length (now t) ≡ 8) ⌝ }
+    requires { ⌜ CheckedTables n (now low) (now high) × (length (now t) ≡ 8) ⌝ }
     ensures { λ r. ⌜ Filled 8 n (stepAt n (at n (now (low .entry))) (at n (now (high .entry)))) (now (t .exit)) ⌝ }
 {
     let mut h = [0i64; 64];

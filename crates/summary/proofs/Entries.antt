@@ -10,8 +10,8 @@ use native.Mathlib.Omega.{arith}
 use borrow.Author.Tests.{eq-eqb, ne-eqb, ltb-false}
 use lib.ListN.{length, getD, take, drop, length-append, length-drop, take-append-drop, drop-of-length-le}
 use lib.Seq.{length-take-le, take-at, drop-at, drop-cons, drop-drop, getD-drop}
-use Rattle.words.specs.Numbers.{toLeBytes, fromLeBytes, unsignedAt, withUnsigned, AllBytes}
-use Rattle.words.proofs.Laws.{length-toLeBytes, fromLeBytes-toLeBytes, unsignedAt-below, withUnsigned-same}
+use Rattle.words.specs.Numbers.{toLeBytes, fromLeBytes, unsignedAt, withUnsigned}
+use Rattle.words.proofs.Laws.{AllBytes, length-toLeBytes, fromLeBytes-toLeBytes, unsignedAt-below, withUnsigned-same}
 use Rattle.tables.specs.declared.Checked.the-variants as Checked
 use Rattle.summary.specs.declared.field.Kind.{Kind}
 use Rattle.summary.specs.declared.field.Tagged.the-variants as Tagged

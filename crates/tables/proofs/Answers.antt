@@ -7,7 +7,7 @@ use native.Mathlib.Omega.{arith}
 use lib.IntN.{ℤ, pos, negsuc, natAbs}
 use Rattle.tables.specs.Refusals.{refusalNumber}
 use Rattle.tables.specs.Checks.{Check, firstRefusal, orderOk}
-use Rattle.tables.specs.Answers.{after, entryChecks, verdict, answerCode}
+use Rattle.tables.specs.Answers.{after, entryChecks, yesOrNo, answerCode}
 use Rattle.tables.specs.declared.Refusal.{Refusal}
 use Rattle.tables.specs.declared.Refusal.the-variants.{Order, Length, Range, Crossed, Lopsided, Factor, Vector, Flat, Far, Cut, Tag, Again, Absent, Size, Long}
 use Rattle.tables.specs.declared.Checked.{Checked}
@@ -75,13 +75,13 @@ after-yes k a = after-is Answer.Refused k a Answer.Yes (λ r e. false≢true cc)
 pub after-no : (k : Checked) (a : Answer) → after Answer.Refused k a ≡ Answer.No → (k ≡ Passed) × (a ≡ Answer.No)
 after-no k a = after-is Answer.Refused k a Answer.No (λ r e. false≢true cc)
 
-pub verdict-yes : (b : Bool) → verdict b ≡ Answer.Yes → b ≡ true
-verdict-yes true e = refl
-verdict-yes false e = cc
+pub yes-true : (b : Bool) → yesOrNo b ≡ Answer.Yes → b ≡ true
+yes-true true e = refl
+yes-true false e = cc
 
-pub verdict-no : (b : Bool) → verdict b ≡ Answer.No → b ≡ false
-verdict-no true e = cc
-verdict-no false e = refl
+pub no-false : (b : Bool) → yesOrNo b ≡ Answer.No → b ≡ false
+no-false true e = cc
+no-false false e = refl
 
 -- ---- the numbers at the C entries
 -- a refusal's number is none of an answer's

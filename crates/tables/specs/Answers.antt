@@ -21,8 +21,8 @@ unfoldable pub entryChecks : ℤ → Bool → List Check
 entryChecks n sized = record { passes = orderOk n; otherwise = Order } ∷ record { passes = sized; otherwise = Length } ∷ []
 
 -- 'accepted' or 'yes', and 'not accepted' or 'no'
-abbrev pub verdict : Bool → Answer
-verdict b = elim b [ true ↦ Answer.Yes | false ↦ Answer.No ]
+abbrev pub yesOrNo : Bool → Answer
+yesOrNo b = elim b [ true ↦ Answer.Yes | false ↦ Answer.No ]
 
 -- the number at the C entry: 0, -1, or the refusal's
 unfoldable pub answerCode : Answer → ℤ

@@ -3,7 +3,7 @@ use mathlib.Core.Bool.{Bool, true, false, _&&_}
 use mathlib.Core.List.{List, [], _∷_}
 use Prim.Native.Nat.{ℕ, zero, suc, _*_}
 use lib.Dec.{leb, eqb}
-use lib.IntN.{ℤ, pos, negℤ, natAbs}
+use lib.IntN.{ℤ, pos, natAbs}
 use lib.Signed.{leZ}
 use Rattle.tables.specs.Ranges.{greatestOrder, entryRange, linearRange, limitRange, centreRange}
 use Rattle.tables.specs.Matrix.{nth, at}
@@ -63,18 +63,6 @@ tableChecks n l u =
     ∷ record { passes = nowhereCrossed (n * n) l u; otherwise = Crossed }
     ∷ record { passes = symmetric n l && symmetric n u; otherwise = Lopsided }
     ∷ []
-
--- 3, 4 and 5 at once, of bounds l and u at (i, j), and lt and ut at (j, i)
-unfoldable pub pairBounded : ℤ → ℤ → ℤ → ℤ → Bool
-pairBounded l lt u ut = leZ (negℤ (pos entryRange)) l && (leZ u (pos entryRange) && (leZ l u && (same l lt && same u ut)))
-
--- of row i up to the diagonal, and column i
-abbrev pub rowBounded : ℕ → List ℤ → List ℤ → ℕ → Bool
-rowBounded n l u i = all (suc i) (λ j. pairBounded (at n l i j) (at n l j i) (at n u i j) (at n u j i))
-
--- of the tables l and u of order n
-unfoldable pub tablesBounded : ℕ → List ℤ → List ℤ → Bool
-tablesBounded n l u = all n (rowBounded n l u)
 
 -- 3, 4 and 5 of a whole problem, with its linear terms a, limit α and centre c: these are within their ranges, and then as for the tables
 unfoldable pub problemChecks : ℕ → List ℤ → List ℤ → List ℤ → ℤ → List ℤ → List Check

@@ -4,5 +4,6 @@ pub mod Members
 pub mod Buffers
 pub mod Refusals
 pub mod Checks
+pub mod Pairs
 pub mod Answers
 pub mod Bounds

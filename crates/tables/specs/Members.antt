@@ -21,7 +21,7 @@ pub record Nonzero (n : ℕ) (x : ℕ → ℤ) : Type 0 where
   pub inside : index < n
   pub differs : x index ≢ pos 0
 
--- demand 3: x'Mx > 0 for every member M and every nonzero x
+-- demand 3: x'Mx > 0 for every member M and every nonzero x. A vector of fractions is X over p, and the common factor p² drops out of the sign: so X stands for it.
 pub record PositiveDefinite (n : ℕ) (L U : Matrix) : Type 0 where
   pub positive : (N : Matrix) (q : ℤ) → Member n L U N q → (x : ℕ → ℤ) → Nonzero n x → pos 0 <ℤ form n N x
 

@@ -4,27 +4,27 @@ use Prim.Native.String.{String}
 use Rattle.tables.specs.declared.Refusal.{Refusal}
 use Rattle.tables.specs.declared.Refusal.the-variants.{Order, Length, Range, Crossed, Lopsided, Factor, Vector, Flat, Far, Cut, Tag, Again, Absent, Size, Long}
 
--- the word is the document's; no contract cites it
-pub record Listed : Type 0 where
+-- a line of the document's table; no contract cites the word
+pub record RefusalLine : Type 0 where
   pub number : ℕ
   pub word : String
 
-abbrev pub listed : Refusal → Listed
-listed Order = record { number = 1; word = "order" }
-listed Length = record { number = 2; word = "length" }
-listed Range = record { number = 3; word = "range" }
-listed Crossed = record { number = 4; word = "crossed" }
-listed Lopsided = record { number = 5; word = "lopsided" }
-listed Factor = record { number = 6; word = "factor" }
-listed Vector = record { number = 7; word = "vector" }
-listed Flat = record { number = 8; word = "flat" }
-listed Far = record { number = 9; word = "far" }
-listed Cut = record { number = 10; word = "cut" }
-listed Tag = record { number = 11; word = "tag" }
-listed Again = record { number = 12; word = "again" }
-listed Absent = record { number = 13; word = "absent" }
-listed Size = record { number = 14; word = "size" }
-listed Long = record { number = 15; word = "long" }
+abbrev pub refusalLine : Refusal → RefusalLine
+refusalLine Order = record { number = 1; word = "order" }
+refusalLine Length = record { number = 2; word = "length" }
+refusalLine Range = record { number = 3; word = "range" }
+refusalLine Crossed = record { number = 4; word = "crossed" }
+refusalLine Lopsided = record { number = 5; word = "lopsided" }
+refusalLine Factor = record { number = 6; word = "factor" }
+refusalLine Vector = record { number = 7; word = "vector" }
+refusalLine Flat = record { number = 8; word = "flat" }
+refusalLine Far = record { number = 9; word = "far" }
+refusalLine Cut = record { number = 10; word = "cut" }
+refusalLine Tag = record { number = 11; word = "tag" }
+refusalLine Again = record { number = 12; word = "again" }
+refusalLine Absent = record { number = 13; word = "absent" }
+refusalLine Size = record { number = 14; word = "size" }
+refusalLine Long = record { number = 15; word = "long" }
 
 abbrev pub refusalNumber : Refusal → ℕ
-refusalNumber r = listed r .number
+refusalNumber r = refusalLine r .number

@@ -10,7 +10,8 @@ ghost use Rattle.tables.specs.Buffers.{Filled};
 ghost use Rattle.tables.specs.Ranges.{greatestOrder, linearRange, limitRange, centreRange};
 ghost use Rattle.tables.specs.Refusals.{refusalNumber};
 ghost use Rattle.tables.specs.Answers.{answerCode};
-ghost use Rattle.tables.specs.Checks.{orderOk, sizesOk, within, allWithin, nowhereCrossed, rowSymmetric, symmetric, tableChecks, pairBounded, rowBounded, tablesBounded, problemChecks, firstRefusal};
+ghost use Rattle.tables.specs.Checks.{orderOk, sizesOk, within, allWithin, nowhereCrossed, rowSymmetric, symmetric, tableChecks, problemChecks, firstRefusal};
+ghost use Rattle.tables.specs.Pairs.{pairBounded, rowBounded, tablesBounded};
 
 // Orders are 1 to 8.
 pub const GREATEST_ORDER: i64 = 8;

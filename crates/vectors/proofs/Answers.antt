@@ -9,13 +9,13 @@ use lib.ListN.{length}
 use Rattle.tables.specs.Ranges.{greatestOrder, vectorRange}
 use Rattle.tables.specs.Matrix.{at, nth}
 use Rattle.tables.specs.Checks.{allWithin, firstRefusal, tableChecks}
-use Rattle.tables.specs.Answers.{after, verdict}
+use Rattle.tables.specs.Answers.{after, yesOrNo}
 use Rattle.tables.specs.declared.Checked.{Checked}
 use Rattle.tables.specs.declared.Checked.the-variants.{Passed}
 use Rattle.tables.specs.declared.Answer.{Answer}
 use Rattle.tables.specs.declared.Answer.the-variants as Answer
 use Rattle.tables.proofs.Checks.{and-left, and-right, all-at, within-of, passed-bounds}
-use Rattle.tables.proofs.Answers.{prefix-passed, offer-passed, after-yes, after-no, verdict-yes, verdict-no}
+use Rattle.tables.proofs.Answers.{prefix-passed, offer-passed, after-yes, after-no, yes-true, no-false}
 use Rattle.vectors.specs.Least.{leastValue, nonzero, shows}
 use Rattle.vectors.specs.VectorTest.{vectorShape, vectorAnswer, Asked, Meaning}
 use Rattle.vectors.proofs.Showing.{shows-witness, witness-shows}
@@ -23,12 +23,12 @@ use Rattle.vectors.proofs.Showing.{shows-witness, witness-shows}
 -- ---- tables that passed checks 3, 4 and 5, and a vector that passed check 7
 module _ (n : ℕ) (l u v : List ℤ) (p : firstRefusal (tableChecks n l u) ≡ Passed) (e : vectorShape n v ≡ true) where
   -- the vector is not zero, so the least value alone decides
-  pub answer-shows : (b : Bool) → leZ (leastValue n (at n l) (at n u) (nth v)) (pos 0) ≡ b → verdict b ≡ vectorAnswer n l u v
+  pub answer-shows : (b : Bool) → leZ (leastValue n (at n l) (at n u) (nth v)) (pos 0) ≡ b → yesOrNo b ≡ vectorAnswer n l u v
   unfolding vectorAnswer vectorShape shows
   answer-shows b k =
       let z = and-left (nonzero n (nth v)) (allWithin vectorRange n v) e in
       let s : (nonzero n (nth v) && leZ (leastValue n (at n l) (at n u) (nth v)) (pos 0)) ≡ b = rw (z, k) in
-      ap verdict (sym s) ∙ offer-passed Answer.Refused _ _ _ p e
+      ap yesOrNo (sym s) ∙ offer-passed Answer.Refused _ _ _ p e
 
   pub asked : n ≤ greatestOrder → n * n ≤ length l → n * n ≤ length u → n ≤ length v → Asked n l u v
   unfolding vectorShape allWithin
@@ -49,8 +49,8 @@ answer-means n l u v =
     record {
       yes = λ e.
           let a = after-yes _ _ e in
-          shows-witness (passed-bounds _ l u (prefix-passed _ _ (a .0))) (verdict-yes _ (a .1));
-      no = λ e f. false≢true (sym (verdict-no _ (after-no _ _ e .1)) ∙ witness-shows f);
+          shows-witness (passed-bounds _ l u (prefix-passed _ _ (a .0))) (yes-true _ (a .1));
+      no = λ e f. false≢true (sym (no-false _ (after-no _ _ e .1)) ∙ witness-shows f);
     }
 
 -- checks that are made first change nothing of it

@@ -12,7 +12,7 @@ use Rattle.tables.specs.Ranges.{greatestOrder, vectorRange}
 use Rattle.tables.specs.Matrix.{at, nth}
 use Rattle.tables.specs.Bounds.{Bounds}
 use Rattle.tables.specs.Checks.{allWithin, firstRefusal, sizesOk, tableChecks}
-use Rattle.tables.specs.Answers.{after, entryChecks, verdict}
+use Rattle.tables.specs.Answers.{after, entryChecks, yesOrNo}
 use Rattle.tables.specs.declared.Refusal.the-variants.{Vector}
 use Rattle.tables.specs.declared.Answer.{Answer}
 use Rattle.tables.specs.declared.Answer.the-variants as Answer
@@ -26,7 +26,7 @@ vectorShape n v = nonzero n (nth v) && allWithin vectorRange n v
 unfoldable pub vectorAnswer : ℕ → List ℤ → List ℤ → List ℤ → Answer
 vectorAnswer n l u v =
     after Answer.Refused (firstRefusal (tableChecks n l u ++ (record { passes = vectorShape n v; otherwise = Vector } ∷ [])))
-    (verdict (shows n (at n l) (at n u) (nth v)))
+    (yesOrNo (shows n (at n l) (at n u) (nth v)))
 
 -- 2: each lent buffer has the size that n calls for
 abbrev pub vectorSizes : ℕ → ℕ → ℕ → ℕ → Bool
@@ -38,7 +38,7 @@ vectorTest n l u v =
     after Answer.Refused (firstRefusal (entryChecks n (vectorSizes (natAbs n) (length l) (length u) (length v))))
     (vectorAnswer (natAbs n) l u v)
 
--- what an answer means: 'yes' exactly if some member M has x'Mx ≤ 0, for this x, which is nonzero; 'no' if none has
+-- what an answer means: 'yes' that some member M has x'Mx ≤ 0, for this x, which is nonzero; 'no' that none has
 pub record Meaning (r : Answer) (n : ℕ) (l u v : List ℤ) : Type 0 where
   pub yes : r ≡ Answer.Yes → Witness n (at n l) (at n u) (nth v)
   pub no : r ≡ Answer.No → Witness n (at n l) (at n u) (nth v) → ⊥

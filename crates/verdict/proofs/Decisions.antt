@@ -23,7 +23,7 @@ use Rattle.cholesky.specs.Store.{Stored}
 use Rattle.cholesky.specs.declared.factoring.Outcome.the-variants.{Ends, Stops}
 use Rattle.cholesky.proofs.Columns.{columns-length}
 use Rattle.cholesky.proofs.Store.{outcome-ends, outcome-stops}
-use Rattle.residual.specs.Slack.{triangle}
+use Rattle.cholesky.specs.Store.{triangle}
 use Rattle.vectors.specs.Least.{shows}
 use Rattle.tried.specs.Tried.{tried, first}
 use Rattle.tried.specs.Search.{found, Searched}

@@ -14,7 +14,7 @@ use Rattle.integers.proofs.Sums.{sum-ext}
 use Rattle.tables.specs.Matrix.{Matrix, nth, form, tabulate}
 use Rattle.tables.specs.Checks.{all, same}
 use Rattle.tables.proofs.Matrix.{nth-tabulate, tabulate-ext}
-use Rattle.cholesky.specs.Scaling.{Checked}
+use Rattle.tables.specs.Bounds.{CheckedTables}
 use Rattle.vectors.specs.Least.{leastMember, leastValue, nonzero, shows}
 use Rattle.vectors.specs.VectorTest.{Asked}
 use Rattle.tried.specs.Tried.{first}
@@ -79,7 +79,7 @@ module _ (p : List ℤ → Bool) {o : List (List ℤ)} {n : ℕ} {x : List ℤ} 
   }
 
 -- ---- what passed the checks
-module _ {n : ℕ} {l u : List ℤ} (c : Checked n l u) where
+module _ {n : ℕ} {l u : List ℤ} (c : CheckedTables n l u) where
   pub low-table : Table n l
   low-table = record { order = c .order; size = c .low-length; range = λ i j h k. record { size = c .bounds .low-range i j h k } }
 

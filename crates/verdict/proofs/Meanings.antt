@@ -11,7 +11,7 @@ use Rattle.tables.specs.Ranges.{greatestOrder}
 use Rattle.tables.specs.Matrix.{Matrix, at, nth, table}
 use Rattle.tables.specs.Bounds.{Bounds}
 use Rattle.tables.specs.Checks.{firstRefusal, tableChecks}
-use Rattle.tables.specs.Answers.{after, entryChecks, verdict}
+use Rattle.tables.specs.Answers.{after, entryChecks, yesOrNo}
 use Rattle.tables.specs.declared.Refusal.{Refusal}
 use Rattle.tables.specs.declared.Checked.{Checked}
 use Rattle.tables.specs.declared.Checked.the-variants.{Passed, Refused}
@@ -79,7 +79,7 @@ module _ (n : ℕ) (o : n ≤ greatestOrder) (l u : List ℤ) (p : firstRefusal 
       let R = entries (ours n L U .columns) in
       let same = at-table n R in
       sym (offer-passed Answer.Refused (tableChecks n l u) _ _ p (shape-ext n (at n (table n R)) R same ∙ true-of _ (ends-shape-takeOff n o L U bounds t)))
-      ∙ ap verdict (accepts-ext n (at n (table n R)) R L U same ∙ true-of _ (ends-accepted-takeOff n o L U bounds t))
+      ∙ ap yesOrNo (accepts-ext n (at n (table n R)) R L U same ∙ true-of _ (ends-accepted-takeOff n o L U bounds t))
 
   abbrev Means : Judgement → List ℤ → List ℤ → Type 0
   Means g f v = Meaning (written g f v .verdict) n l u (written g f v .factor) (written g f v .vector)

@@ -13,8 +13,8 @@ use Rattle.cholesky.specs.Factoring.{entries}
 use Rattle.cholesky.specs.Store.{columnOf, columnsOf}
 use Rattle.cholesky.proofs.Lists.{nth-past}
 use Rattle.cholesky.proofs.Store.{length-columnOf, entries-columnsOf}
-use Rattle.residual.specs.Slack.{triangle}
-use Rattle.residual.proofs.Rows.{triangle-on, triangle-below}
+use Rattle.cholesky.specs.Store.{triangle}
+use Rattle.cholesky.proofs.Store.{triangle-on, triangle-below}
 use Rattle.verdict.specs.FactorTable.{Written}
 
 -- ---- the factor's entries

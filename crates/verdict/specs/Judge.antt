@@ -34,7 +34,8 @@ pub data Judgement : Type 0 where
 abbrev pub ours : ℕ → Matrix → Matrix → Factoring
 ours n L U = factoring n (scaled takeOff n L U)
 
--- "the tried, then the solved vectors", "for s = 1 then s = 64"
+-- "the tried, then the solved vectors", "for s = 1 then s = 64". Where factoring ends there is no stopping column: both solved vectors are then zero, and
+-- show nothing.
 unfoldable pub listed : ℕ → Matrix → Matrix → List (List ℤ)
 listed n L U = tried n ++ (solved n (ours n L U) (pos 1) ++ solved n (ours n L U) (pos 64))
 
@@ -92,8 +93,8 @@ verdictCode (Verdict.Refused r) = pos (refusalNumber r)
 
 -- ---- what a verdict means
 -- the call is not refused
-abbrev pub LetThrough : Verdict → Type 0
-LetThrough r = (k : Refusal) → r ≡ Verdict.Refused k → ⊥
+abbrev pub NotRefused : Verdict → Type 0
+NotRefused r = (k : Refusal) → r ≡ Verdict.Refused k → ⊥
 
 -- f and v: the buffers as they are left
 pub record Meaning (r : Verdict) (n : ℕ) (l u f v : List ℤ) : Type 0 where
@@ -104,6 +105,6 @@ pub record Meaning (r : Verdict) (n : ℕ) (l u f v : List ℤ) : Type 0 where
   pub shown : r ≡ Verdict.NotDefinite → Witness n (at n l) (at n u) (nth v)
   pub from-list : r ≡ Verdict.NotDefinite → List·Memᴰ v (listed n (at n l) (at n u))
   -- 'not definite' wherever a listed vector shows it
-  pub exactly : LetThrough r → (x : List ℤ) → List·Memᴰ x (listed n (at n l) (at n u)) → shows n (at n l) (at n u) (nth x) ≡ true → r ≡ Verdict.NotDefinite
+  pub exactly : NotRefused r → (x : List ℤ) → List·Memᴰ x (listed n (at n l) (at n u)) → shows n (at n l) (at n u) (nth x) ≡ true → r ≡ Verdict.NotDefinite
   -- the margin: 'definite'
-  pub margin : LetThrough r → Margin n (at n l) (at n u) → r ≡ Verdict.Definite
+  pub margin : NotRefused r → Margin n (at n l) (at n u) → r ≡ Verdict.Definite

@@ -3,7 +3,7 @@ ghost use mathlib.Core.Path.{_≡_};
 ghost use Prim.Native.Nat.{suc, _*_, _≤_, _<_};
 ghost use lib.ListN.{length};
 ghost use Rattle.tables.specs.Ranges.{greatestOrder};
-ghost use Rattle.residual.specs.Slack.{triangle};
+ghost use Rattle.cholesky.specs.Store.{triangle};
 ghost use Rattle.verdict.specs.FactorTable.{Written};
 
 // Entry (i, j) of the factor: 0 below the diagonal.

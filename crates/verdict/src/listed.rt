@@ -6,7 +6,7 @@ ghost use lib.IntN.{pos};
 ghost use lib.ListN.{length};
 ghost use Rattle.integers.specs.Numbers.{Within};
 ghost use Rattle.tables.specs.Matrix.{at, nth};
-ghost use Rattle.cholesky.specs.Scaling.{Checked};
+ghost use Rattle.tables.specs.Bounds.{CheckedTables};
 ghost use Rattle.vectors.specs.Least.{shows};
 ghost use Rattle.vectors.specs.VectorTest.{Asked};
 ghost use Rattle.tried.specs.Tried.{tried, first};
@@ -36,7 +36,7 @@ fn solved_shows(
     s: i64,
     x: &mut [i64; 8],
 ) -> bool
-    requires { ⌜ Checked n (now low) (now high) × Stopped n (now t) j m × Within startRange s × (length (now x) ≡ 8) ⌝ }
+    requires { ⌜ CheckedTables n (now low) (now high) × Stopped n (now t) j m × Within startRange s × (length (now x) ≡ 8) ⌝ }
     ensures { λ r. ⌜ Searched (first (λ v. shows n (at n (now (low .entry))) (at n (now (high .entry))) (nth v)) (solved n (stoppedAt (now (t .entry)) j m) s)) r 0 n (now (x .exit)) ⌝ }
 {
     if !solved::solve(n, t, j, m, s, x) {
@@ -55,7 +55,7 @@ pub fn first_listed(
     m: usize,
     x: &mut [i64; 8],
 ) -> bool
-    requires { ⌜ Checked n (now low) (now high) × Stopped n (now t) j m × (0 < n) × (length (now x) ≡ 8) ⌝ }
+    requires { ⌜ CheckedTables n (now low) (now high) × Stopped n (now t) j m × (0 < n) × (length (now x) ≡ 8) ⌝ }
     ensures { λ r. ⌜ Searched (first (λ v. shows n (at n (now (low .entry))) (at n (now (high .entry))) (nth v)) (tried n ++ (solved n (stoppedAt (now (t .entry)) j m) (pos 1) ++ solved n (stoppedAt (now (t .entry)) j m) (pos 64)))) r 0 n (now (x .exit)) ⌝ }
 {
     if tried::first_tried(n, low, high, x) {

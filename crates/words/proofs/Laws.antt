@@ -14,8 +14,16 @@ use mir.Syntax.{Width, w8, w16, w32, w64, w128}
 use mir.Val.{bits, bytes, toZ, ofZ, SFits, Fits}
 use mir.Facts.{toZ-ofZ, ofZ-toZ, fits-ofZ, sfits-toZ, clash}
 use Rattle.words.specs.Numbers.{fromLeBytes, toLeBytes, unsignedAt, signedAt, withUnsigned, withSigned}
-use Rattle.words.specs.Numbers.{numbersOf, paddedNumbersOf, bytesOf, AllBytes, AllFit}
+use Rattle.words.specs.Numbers.{numbersOf, paddedNumbersOf, bytesOf}
 use Rattle.words.proofs.Lists.{drop-past}
+
+-- every element is a byte (past the end `getD` reads 0)
+pub record AllBytes (s : List ℕ) : Type 0 where
+  pub each : (i : ℕ) → getD s i 0 < 256
+
+-- every element is a signed number of width w
+pub record AllFit (w : Width) (a : List ℤ) : Type 0 where
+  pub each : (i : ℕ) → SFits w (getD a i (pos 0))
 
 -- parts of a list of bytes
 tail-bytes : {b : ℕ} {s : List ℕ} → AllBytes (b ∷ s) → AllBytes s

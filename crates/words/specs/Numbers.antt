@@ -1,12 +1,12 @@
 -- Numbers in lists of bytes: low byte first, signed numbers in two's complement. A number of width w takes `bytes w` bytes.
-use Prim.Native.Nat.{ℕ, zero, suc, _+_, _-_, _*_, _/_, _%_, _<_}
+use Prim.Native.Nat.{ℕ, zero, suc, _+_, _-_, _*_, _/_, _%_}
 use mathlib.Core.Bool.{cond}
 use mathlib.Core.List.{List, [], _∷_, _++_}
 use lib.Dec.{eqb}
 use lib.ListN.{take, drop, getD, replicate}
 use lib.IntN.{ℤ, pos}
 use mir.Syntax.{Width, w32, w64}
-use mir.Val.{bytes, toZ, ofZ, SFits}
+use mir.Val.{bytes, toZ, ofZ}
 
 -- the width of a number of `size` bytes; `size ≡ bytes (widthOf size)` says that they are 4 or 8
 abbrev pub widthOf : ℕ → Width
@@ -51,11 +51,3 @@ paddedNumbersOf w n s k = numbersOf w s k ++ replicate (n - k) (pos 0)
 unfoldable pub bytesOf : Width → List ℤ → ℕ → List ℕ
 bytesOf w a zero = []
 bytesOf w a (suc k) = bytesOf w a k ++ toLeBytes (bytes w) (ofZ w (getD a k (pos 0)))
-
--- every element is a byte (past the end `getD` reads 0)
-pub record AllBytes (s : List ℕ) : Type 0 where
-  pub each : (i : ℕ) → getD s i 0 < 256
-
--- every element is a signed number of width w
-pub record AllFit (w : Width) (a : List ℤ) : Type 0 where
-  pub each : (i : ℕ) → SFits w (getD a i (pos 0))

@@ -9,7 +9,7 @@ use lib.Seq.{take-all}
 use mir.Syntax.{w64}
 use mir.Val.{bytes}
 use Rattle.words.specs.Numbers.{bytesOf}
-use Rattle.residual.specs.Slack.{triangle}
+use Rattle.cholesky.specs.Store.{triangle}
 use Rattle.hankboulder.specs.Entries.{Front}
 use Rattle.hankboulder.proofs.store_factor.Statement.{statement}
 use Rattle.hankboulder.proofs.store_factor.Tie as tie

@@ -9,7 +9,7 @@ use Rattle.integers.proofs.Machine.{clean-result}
 use Rattle.words.proofs.Filling.{fill-front}
 use Rattle.tables.specs.Matrix.{at, table}
 use Rattle.tables.proofs.Matrix.{inside, at-most-64, at-table}
-use Rattle.residual.specs.Slack.{triangle}
+use Rattle.cholesky.specs.Store.{triangle}
 use Rattle.hankboulder.specs.Entries.{Front}
 use Rattle.hankboulder.proofs.store_row.Statement.{statement}
 use Rattle.hankboulder.proofs.store_row.Tie as tie

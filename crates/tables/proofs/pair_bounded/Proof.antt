@@ -7,7 +7,7 @@ use lib.Signed.{leZ}
 use Rattle.integers.proofs.Parts.{leZ-true, leZ-false}
 use Rattle.integers.proofs.Machine.{fits-literal, lt-yes, lt-no}
 use Rattle.tables.specs.Ranges.{entryRange}
-use Rattle.tables.specs.Checks.{pairBounded}
+use Rattle.tables.specs.Pairs.{pairBounded}
 use Rattle.tables.proofs.Checks.{same-read}
 use Rattle.tables.proofs.pair_bounded.Statement.{statement}
 use Rattle.tables.proofs.pair_bounded.Tie as tie

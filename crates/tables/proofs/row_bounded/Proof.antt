@@ -5,7 +5,8 @@ use Prim.Native.Nat.{suc, _-_, _≤_}
 use native.Mathlib.Omega.{arith}
 use borrow.Author.Needs.{needs}
 use Rattle.tables.specs.Matrix.{at}
-use Rattle.tables.specs.Checks.{all, pairBounded}
+use Rattle.tables.specs.Checks.{all}
+use Rattle.tables.specs.Pairs.{pairBounded}
 use Rattle.integers.proofs.Machine.{clean-result}
 use Rattle.tables.proofs.Checks.{all-none, all-more, all-false, call-false, call-true}
 use Rattle.tables.proofs.row_bounded.Statement.{statement}

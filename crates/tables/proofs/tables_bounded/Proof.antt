@@ -3,7 +3,8 @@ use mathlib.Core.Path.{_≡_, sym}
 use mathlib.Core.Bool.{true}
 use Prim.Native.Nat.{_-_, _≤_}
 use native.Mathlib.Omega.{arith}
-use Rattle.tables.specs.Checks.{all, rowBounded, tablesBounded}
+use Rattle.tables.specs.Checks.{all}
+use Rattle.tables.specs.Pairs.{rowBounded, tablesBounded}
 use Rattle.tables.proofs.Checks.{all-none, all-more, all-false, call-false, call-true}
 use Rattle.tables.proofs.tables_bounded.Statement.{statement}
 use Rattle.tables.proofs.tables_bounded.Tie as tie

@@ -4,7 +4,7 @@ use borrow.Author.Needs.{needs}
 use Rattle.tables.specs.Matrix.{at}
 use Rattle.tables.specs.Checks.{firstRefusal, tableChecks}
 use Rattle.tables.specs.declared.Checked.the-variants.{Passed}
-use Rattle.tables.specs.Answers.{verdict}
+use Rattle.tables.specs.Answers.{yesOrNo}
 use Rattle.tables.specs.declared.Answer.the-variants as Answer
 use Rattle.tables.proofs.Checks.{call-false, call-true, passed-bounds}
 use Rattle.tables.proofs.Answers.{tables-refused, offer-refused, offer-passed}
@@ -39,5 +39,5 @@ answer-spec =
       high-size = p .2;
       bounds = passed-bounds _ _ _ (passed (c .before .before));
     })
-    (λ c. let e = c .before .before in ap verdict (sym (c .if2 .taken) ∙ c .before .accepted .ensures) ∙ offer-passed Answer.Refused _ _ _ (passed (e .before .before)) (shaped e))
-    (λ c. let e = c .before .before in ap verdict (sym (c .if2 .left) ∙ c .before .accepted .ensures) ∙ offer-passed Answer.Refused _ _ _ (passed (e .before .before)) (shaped e)))
+    (λ c. let e = c .before .before in ap yesOrNo (sym (c .if2 .taken) ∙ c .before .accepted .ensures) ∙ offer-passed Answer.Refused _ _ _ (passed (e .before .before)) (shaped e))
+    (λ c. let e = c .before .before in ap yesOrNo (sym (c .if2 .left) ∙ c .before .accepted .ensures) ∙ offer-passed Answer.Refused _ _ _ (passed (e .before .before)) (shaped e)))

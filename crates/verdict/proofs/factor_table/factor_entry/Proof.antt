@@ -4,7 +4,7 @@ use native.Mathlib.Omega.{arith}
 use borrow.Author.Needs.{needs}
 use Rattle.integers.proofs.Machine.{clean-element}
 use Rattle.cholesky.specs.Store.{upper}
-use Rattle.residual.proofs.Rows.{triangle-on, triangle-below}
+use Rattle.cholesky.proofs.Store.{triangle-on, triangle-below}
 use Rattle.verdict.proofs.factor_table.factor_entry.Statement.{statement}
 use Rattle.verdict.proofs.factor_table.factor_entry.Tie as tie
 

@@ -4,7 +4,7 @@ use Prim.Native.Nat.{_*_, _-_, _≤_}
 use native.Mathlib.Omega.{arith}
 use native.Mathlib.Numerals.{add-one}
 use lib.ListN.{length}
-use Rattle.residual.specs.Slack.{triangle}
+use Rattle.cholesky.specs.Store.{triangle}
 use Rattle.verdict.specs.FactorTable.{Written}
 use Rattle.verdict.proofs.Writing.{written-none}
 use Rattle.verdict.proofs.factor_table.write_factor.Statement.{statement}

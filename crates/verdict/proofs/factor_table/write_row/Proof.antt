@@ -5,7 +5,7 @@ use native.Mathlib.Omega.{arith}
 use lib.ListN.{length, length-set}
 use Rattle.integers.proofs.Machine.{clean-result}
 use Rattle.tables.proofs.Matrix.{inside, at-most-64}
-use Rattle.residual.specs.Slack.{triangle}
+use Rattle.cholesky.specs.Store.{triangle}
 use Rattle.verdict.specs.FactorTable.{Written}
 use Rattle.verdict.proofs.Writing.{written-more}
 use Rattle.verdict.proofs.factor_table.write_row.Statement.{statement}

@@ -4,7 +4,7 @@ use borrow.Author.Needs.{needs}
 use Rattle.tables.specs.Checks.{firstRefusal, tableChecks}
 use Rattle.tables.specs.declared.Checked.the-variants.{Passed}
 use Rattle.tables.proofs.Checks.{passed-bounds}
-use Rattle.cholesky.specs.Scaling.{Checked}
+use Rattle.tables.specs.Bounds.{CheckedTables}
 use Rattle.solved.proofs.Stops.{stopped-ready}
 use Rattle.verdict.proofs.Decisions.{decided-refused, decided-definite, decided-shown}
 use Rattle.verdict.proofs.judge.decide.Statement.{statement}
@@ -14,7 +14,7 @@ use Rattle.verdict.proofs.judge.decide.Tie as tie
 passed : (c : tie.After-enum-told) → let a = c .before .before .before .args in firstRefusal (tableChecks (a .n) (a .low .now) (a .high .now)) ≡ Passed
 passed c = sym (c .before .before .check-tables .ensures) ∙ c .enum-told .given .1
 
-checked : (c : tie.After-enum-told) → let a = c .before .before .before .args in Checked (a .n) (a .low .now) (a .high .now)
+checked : (c : tie.After-enum-told) → let a = c .before .before .before .args in CheckedTables (a .n) (a .low .now) (a .high .now)
 checked c =
     let p = c .before .before .before .pre in
     record { order = p .0; low-length = p .2; high-length = p .3; bounds = passed-bounds _ _ _ (passed c) }
