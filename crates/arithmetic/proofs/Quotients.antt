@@ -1,5 +1,6 @@
 -- Quotients and roots that are rounded up: their sizes, and the cases of the root.
 use mathlib.Core.Path.{_≡_, refl, ap}
+use mathlib.Core.List.{[], _∷_}
 use Prim.Native.Nat.{ℕ, zero, suc, _^_, _<_}
 use native.Mathlib.Omega.{arith}
 use native.Mathlib.Numerals.{add-one}
@@ -10,9 +11,11 @@ use mir.Val.{SFits}
 use Rattle.integers.specs.Numbers.{Within}
 use Rattle.integers.specs.Division.{ceilDiv}
 use Rattle.integers.specs.Root.{wholeRoot, rootWithin, rootAbove, leastRoot}
-use Rattle.integers.proofs.Parts.{≤-out, <-out, ≤-in, ≡-in, minus-diff, pos-nonneg}
-use Rattle.integers.proofs.Machine.{within-neg, within-floor, within--, within-high, fits-within}
-use Rattle.integers.proofs.Roots.{rootAbove-nonneg, rootAbove-least}
+use Rattle.integers.proofs.Parts.{≤-out, <-out, ≡-in, minus-diff, pos-nonneg, *ℤ-nonneg, gap-nonneg}
+use Rattle.integers.proofs.Order.{≤-unless}
+use Rattle.integers.proofs.Solver.{_&_, order, solver}
+use Rattle.integers.proofs.Machine.{within-neg, within-floor, within-high, fits-within}
+use Rattle.integers.proofs.Roots.{root-law, rootAbove-nonneg, rootAbove-least}
 use Rattle.arithmetic.specs.Contracts.{boundRange}
 
 -- ---- sizes
@@ -28,12 +31,17 @@ nonneg-within {x = negsuc a} h k = absurd (h .le)
 pub fits-minus : {m : ℕ} {x : ℤ} → m < 2 ^ 63 → Within m x → SFits w64 (pos 0 -ℤ x)
 fits-minus h w = rw +ℤ-idl (fits-within (within-neg w) h)
 
-one-within : Within 1 (pos 1)
-one-within = record { size = omega arith }
+pub fits-bound : {x : ℤ} → Within boundRange x → SFits w64 x
+fits-bound w = fits-within w (omega arith)
 
--- one less than a quotient
-pub less-fits : {q : ℤ} → Within boundRange q → SFits w64 (q -ℤ pos 1)
-less-fits w = fits-within (within-- w one-within) (omega arith)
+-- a root is not above its number
+pub within-whole-root : {m : ℕ} {x : ℤ} → pos 0 ≤ℤ x → Within m x → Within m (wholeRoot x)
+within-whole-root {m} {x} h w =
+    let r = wholeRoot x in
+    let l = root-law x h in
+    nonneg-within (l .nonneg) (≤-unless (λ e.
+    let one : pos 1 ≤ℤ r = order (r ∷ pos m ∷ []) (e & pos-nonneg m) (search solver depth 40 fits 20000) (omega arith) in
+    order (x ∷ r ∷ pos m ∷ []) (l .low & within-high w & *ℤ-nonneg (l .nonneg) (gap-nonneg one)) (search solver depth 40 fits 20000) (omega arith)))
 
 -- the least root of a number within 2^58 is within 2^29
 pub within-root : (t b : ℤ) → Within boundRange b → Within (2 ^ 29) (leastRoot t b)
@@ -65,6 +73,3 @@ module _ (t b : ℤ) where
   pub root-some : pos 0 <ℤ ceilDiv b t → wholeRoot (ceilDiv b t -ℤ pos 1) +ℤ pos 1 ≡ leastRoot t b
   unfolding leastRoot
   root-some h = some-above (ceilDiv b t) h
-
-pub less-nonneg : {q : ℤ} → pos 0 <ℤ q → pos 0 ≤ℤ (q -ℤ pos 1)
-less-nonneg {q} h = ≤-in (omega (arith, <-out h, minus-diff (pos 1) q .is))

@@ -18,8 +18,7 @@ use Rattle.tables.specs.Matrix.{Matrix, nth, at, gram}
 use Rattle.tables.specs.Checks.{all}
 use Rattle.tables.proofs.Checks.{bool-ext, le-of, all-ext}
 use Rattle.residual.specs.Residual.{residual, radius, rowPasses, accepts}
-use Rattle.residual.specs.FactorTest.{Offer}
-use Rattle.residual.specs.Slack.{gramAt, spread, radiusAt, Room, Charged}
+use Rattle.residual.specs.Slack.{Offer, gramAt, spread, radiusAt, Room, Charged}
 use Rattle.residual.proofs.OfferedFactor.{factor-below}
 use Rattle.residual.proofs.Slack.{radius-within, diagonal-within}
 
@@ -54,7 +53,7 @@ module _ {n : ℕ} {f l u : List ℤ} (s : Offer n l u f) where
   unfolding radius residual gram
   radius-symmetric i j h k =
       let g : sum n (λ k. R k i *ℤ R k j) ≡ sum n (λ k. R k j *ℤ R k i) = sum-ext n _ _ (λ k m. *ℤ-comm (R k i) (R k j)) in
-      rw (s .bounds .low-symmetric i j h k, s .bounds .high-symmetric i j h k, g)
+      rw (s .tables .bounds .low-symmetric i j h k, s .tables .bounds .high-symmetric i j h k, g)
 
   module _ {j : ℕ} (hj : j < n) {o o′ : List ℤ} (w : Rows n f l u o j) (x : Charged n f l u j o o′) where
     -- a row before j

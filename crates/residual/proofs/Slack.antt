@@ -19,9 +19,9 @@ use Rattle.integers.proofs.Order.{abs-nonneg, ≤-abs, neg-≤-abs, abs-≤, ma
 use Rattle.integers.proofs.Machine.{within-more, within-neg, within-+, within--, within-*, within-sum, within-in, within-high, fits-within}
 use Rattle.tables.specs.Ranges.{entryRange}
 use Rattle.tables.specs.Matrix.{nth, at}
+use Rattle.tables.proofs.CheckedTables.{low-within, high-within}
 use Rattle.cholesky.specs.Scale.{scale}
-use Rattle.residual.specs.FactorTest.{Shaped, Offer}
-use Rattle.residual.specs.Slack.{gramAt, spread, radiusAt, Room, Charged}
+use Rattle.residual.specs.Slack.{Shaped, Offer, gramAt, spread, radiusAt, Room, Charged}
 use Rattle.residual.proofs.OfferedFactor.{factor-within}
 
 -- ---- sizes
@@ -94,19 +94,13 @@ module _ {n : ℕ} {f : List ℤ} (s : Shaped n f) where
 
 -- ---- with the tables
 module _ {n : ℕ} {f l u : List ℤ} (s : Offer n l u f) where
-  pub low-within : {i j : ℕ} → i < n → j < n → Within entryRange (at n l i j)
-  low-within h k = record { size = s .bounds .low-range _ _ h k }
-
-  pub high-within : {i j : ℕ} → i < n → j < n → Within entryRange (at n u i j)
-  high-within h k = record { size = s .bounds .high-range _ _ h k }
-
   pub radius-within : {i j : ℕ} → i < j → j < n → Within (2 ^ 56) (radiusAt n f l u i j)
   unfolding radiusAt
   radius-within {i} {j} h k =
-      spread-within (s .bounds .ordered i j (omega arith) k) (low-within (omega arith) k) (high-within (omega arith) k) (gram-within (s .factor) (omega arith) k)
+      spread-within (s .tables .bounds .ordered i j (omega arith) k) (low-within (s .tables) (omega arith) k) (high-within (s .tables) (omega arith) k) (gram-within (s .factor) (omega arith) k)
 
   pub diagonal-within : {j : ℕ} → j < n → Within (2 ^ 56) (scale *ℤ at n l j j -ℤ gramAt (at n f) j j)
-  diagonal-within k = residual-within (low-within k k) (gram-within (s .factor) (omega arith) k)
+  diagonal-within k = residual-within (low-within (s .tables) k k) (gram-within (s .factor) (omega arith) k)
 
 -- ---- column j is being charged: rows before i have lost their radius, rows from i on have not, and own is what is left of row j
 pub record Charging (n : ℕ) (f l u : List ℤ) (j : ℕ) (o₀ o : List ℤ) (own : ℤ) (i : ℕ) : Type 0 where

@@ -1,14 +1,12 @@
 -- The factor test: document 01, "Refused calls" 1 to 6 and "Residual test".
-use mathlib.Core.Path.{_≡_}
-use mathlib.Core.Bool.{Bool, true, _&&_}
+use mathlib.Core.Bool.{Bool, _&&_}
 use mathlib.Core.List.{List, [], _∷_, _++_}
-use Prim.Native.Nat.{ℕ, _*_, _≤_, compare, Ordering·lt, Ordering·eq, Ordering·gt}
+use Prim.Native.Nat.{ℕ, _*_, compare, Ordering·lt, Ordering·eq, Ordering·gt}
 use lib.IntN.{ℤ, pos, natAbs}
 use lib.Signed.{leZ}
 use lib.ListN.{length}
-use Rattle.tables.specs.Ranges.{greatestOrder, factorRange}
+use Rattle.tables.specs.Ranges.{factorRange}
 use Rattle.tables.specs.Matrix.{Matrix, at}
-use Rattle.tables.specs.Bounds.{Bounds}
 use Rattle.tables.specs.Checks.{all, within, same, firstRefusal, sizesOk, tableChecks}
 use Rattle.tables.specs.Answers.{after, entryChecks, yesOrNo}
 use Rattle.tables.specs.declared.Refusal.the-variants.{Factor}
@@ -43,16 +41,3 @@ unfoldable pub factorTest : ℤ → List ℤ → List ℤ → List ℤ → Answe
 factorTest n l u f =
     after Answer.Refused (firstRefusal (entryChecks n (factorSizes (natAbs n) (length l) (length u) (length f))))
     (factorAnswer (natAbs n) l u f)
-
--- a factor of order n that passed check 6
-pub record Shaped (n : ℕ) (f : List ℤ) : Type 0 where
-  pub order : n ≤ greatestOrder
-  pub size : n * n ≤ length f
-  pub shape : factorShape n (at n f) ≡ true
-
--- and tables that passed checks 3 to 5
-pub record Offer (n : ℕ) (l u f : List ℤ) : Type 0 where
-  pub factor : Shaped n f
-  pub low-size : n * n ≤ length l
-  pub high-size : n * n ≤ length u
-  pub bounds : Bounds n (at n l) (at n u)

@@ -1,3 +1,3 @@
 pub mod Residual
-pub mod Slack
 pub mod FactorTest
+pub mod Slack

@@ -1,13 +1,28 @@
 -- How the code works out the residual test: column by column, each pair (i, j) once, and for each row what its left side has over its right side.
 use mathlib.Core.Path.{_≡_}
+use mathlib.Core.Bool.{true}
 use mathlib.Core.List.{List}
-use Prim.Native.Nat.{ℕ, suc, _*_, _^_, _<_}
+use Prim.Native.Nat.{ℕ, suc, _*_, _^_, _≤_, _<_}
 use lib.IntN.{ℤ, _-ℤ_, _*ℤ_}
 use lib.ListN.{length}
 use Rattle.integers.specs.Numbers.{Within, absℤ, maxℤ}
 use Rattle.integers.specs.Sum.{sum}
+use Rattle.tables.specs.Ranges.{greatestOrder}
 use Rattle.tables.specs.Matrix.{Matrix, nth, at}
+use Rattle.tables.specs.Bounds.{CheckedTables}
 use Rattle.cholesky.specs.Scale.{scale}
+use Rattle.residual.specs.FactorTest.{factorShape}
+
+-- a factor of order n that passed check 6
+pub record Shaped (n : ℕ) (f : List ℤ) : Type 0 where
+  pub order : n ≤ greatestOrder
+  pub size : n * n ≤ length f
+  pub shape : factorShape n (at n f) ≡ true
+
+-- and tables that passed checks 3 to 5
+pub record Offer (n : ℕ) (l u f : List ℤ) : Type 0 where
+  pub factor : Shaped n f
+  pub tables : CheckedTables n l u
 
 -- P(i,j), for i ≤ j: entries below the diagonal are 0
 unfoldable pub gramAt : Matrix → Matrix

@@ -10,8 +10,7 @@ ghost use Rattle.tables.specs.Matrix.{at, nth};
 ghost use Rattle.tables.specs.Checks.{all};
 ghost use Rattle.cholesky.specs.Scale.{scale};
 ghost use Rattle.residual.specs.Residual.{accepts};
-ghost use Rattle.residual.specs.FactorTest.{Shaped, Offer};
-ghost use Rattle.residual.specs.Slack.{gramAt, spread, radiusAt, Room, Charged};
+ghost use Rattle.residual.specs.Slack.{Shaped, Offer, gramAt, spread, radiusAt, Room, Charged};
 use cholesky::scaling::SCALE;
 
 // The greater of |2^32 low - p| and |2^32 high - p|, where low is at most high.

@@ -109,11 +109,8 @@ module _ (y t b : ℤ) where
       go false = within-min v (within-more (omega arith) (within-root t b w))
 
 module _ {n : ℕ} {c y : List ℤ} {b : ℤ} (q : Halved n c y b) (t : ℤ) {k : ℕ} (h : k < n) where
-  pub low-fits : SFits w64 (nth c k -ℤ smallerHalf (nth y k) t b)
-  low-fits = fits-within (within-- (q .centre k h) (smaller-within (nth y k) t b (q .halves k h) (q .bound))) (omega arith)
-
-  pub high-fits : SFits w64 (nth c k +ℤ smallerHalf (nth y k) t b)
-  high-fits = fits-within (within-+ (q .centre k h) (smaller-within (nth y k) t b (q .halves k h) (q .bound))) (omega arith)
+  pub side-within : Within (2 ^ 30) (smallerHalf (nth y k) t b)
+  side-within = smaller-within (nth y k) t b (q .halves k h) (q .bound)
 
 -- ---- the sides as they are written
 module _ {c h : ℕ → ℤ} {x : List ℤ} where

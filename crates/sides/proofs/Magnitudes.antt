@@ -17,9 +17,10 @@ use Rattle.integers.proofs.Machine.{within-more, within-+, within--, within-*, 
 use Rattle.tables.specs.Ranges.{entryRange, limitRange}
 use Rattle.tables.specs.Matrix.{at, nth, form}
 use Rattle.tables.specs.Checks.{all}
+use Rattle.tables.proofs.CheckedTables.{low-within, high-within}
 use Rattle.tables.proofs.Checks.{all-at, le-of}
 use Rattle.vectors.specs.Least.{leastMember, leastValue}
-use Rattle.vectors.specs.VectorTest.{Asked}
+use Rattle.vectors.specs.LeastShares.{Asked}
 use Rattle.vectors.proofs.Showing.{least-by}
 use Rattle.arithmetic.specs.Contracts.{Terms}
 use Rattle.sides.specs.Sides.{lowGradient, gradient, atCentre, gradientRange}
@@ -55,10 +56,10 @@ module _ {n : ℕ} {l u a c : List ℤ} (q : Centred n l u a c) where
     }
 
     pub low-factors : {j : ℕ} → j < n → Factors n l c k j
-    low-factors {j} m = factors (q .tables .low-length) m (record { size = q .tables .bounds .low-range k j h m })
+    low-factors {j} m = factors (q .tables .low-length) m (low-within (q .tables) h m)
 
     pub high-factors : {j : ℕ} → j < n → Factors n u c k j
-    high-factors {j} m = factors (q .tables .high-length) m (record { size = q .tables .bounds .high-range k j h m })
+    high-factors {j} m = factors (q .tables .high-length) m (high-within (q .tables) h m)
 
     module _ (pick : ℤ → ℤ → ℤ) (sized : (x y : ℤ) → Within (2 ^ 32) x → Within (2 ^ 32) y → Within (2 ^ 32) (pick x y)) where
       picked-within : {j : ℕ} → j < n → Within (2 ^ 32) (picked pick n l u c k j)
@@ -92,18 +93,15 @@ module _ {n : ℕ} {l u a c : List ℤ} (q : Centred n l u a c) where
 
   pub asked : Asked n l u c
   asked = record {
-    order = q .tables .order;
-    low-size = q .tables .low-length;
-    high-size = q .tables .high-length;
-    vector-size = q .centre-length;
-    bounds = q .tables .bounds;
+    tables = q .tables;
+    vector-length = q .centre-length;
     entries = λ k h. within-more (omega arith) (q .centre k h);
   }
 
   member-within : {i j : ℕ} → i < n → j < n → Within entryRange (leastMember (at n l) (at n u) (nth c) i j)
   member-within {i} {j} h k =
-      let low : Within entryRange (at n l i j) = record { size = q .tables .bounds .low-range i j h k } in
-      least-by (at n l) (at n u) (nth c) i j (Within entryRange) (λ e. low) (λ d p. low) (λ d p. record { size = q .tables .bounds .high-range i j h k })
+      let low = low-within (q .tables) h k in
+      least-by (at n l) (at n u) (nth c) i j (Within entryRange) (λ e. low) (λ d p. low) (λ d p. high-within (q .tables) h k)
 
   least-value-within : Within (2 ^ 50) (leastValue n (at n l) (at n u) (nth c))
   unfolding leastValue form

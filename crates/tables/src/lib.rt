@@ -7,7 +7,7 @@ ghost use lib.Signed.{_≤ℤ_};
 ghost use lib.ListN.{length};
 ghost use Rattle.tables.specs.Matrix.{at, nth};
 ghost use Rattle.tables.specs.Buffers.{Filled};
-ghost use Rattle.tables.specs.Ranges.{greatestOrder, linearRange, limitRange, centreRange};
+ghost use Rattle.tables.specs.Ranges.{greatestOrder, entryRange, linearRange, limitRange, centreRange};
 ghost use Rattle.tables.specs.Refusals.{refusalNumber};
 ghost use Rattle.tables.specs.Answers.{answerCode};
 ghost use Rattle.tables.specs.Checks.{orderOk, sizesOk, within, allWithin, nowhereCrossed, rowSymmetric, symmetric, tableChecks, problemChecks, firstRefusal};
@@ -208,19 +208,44 @@ pub fn symmetric(n: usize, t: &[i64]) -> bool
     true
 }
 
+// Whether the first numbers of both tables, count of them, are within the range of entries.
+fn entries_within(low: &[i64], high: &[i64], count: usize) -> bool
+    requires { ⌜ (count ≤ length (now low)) × (count ≤ length (now high)) ⌝ }
+    ensures { λ r. ⌜ r ≡ (allWithin entryRange count (now (low .entry)) && allWithin entryRange count (now (high .entry))) ⌝ }
+{
+    if !all_within(low, count, ENTRY_RANGE) {
+        return false;
+    }
+    all_within(high, count, ENTRY_RANGE)
+}
+
+// Whether both tables of order n are symmetric.
+fn both_symmetric(n: usize, low: &[i64], high: &[i64]) -> bool
+    requires { ⌜ (n ≤ greatestOrder) × (n * n ≤ length (now low)) × (n * n ≤ length (now high)) ⌝ }
+    ensures { λ r. ⌜ r ≡ (symmetric n (now (low .entry)) && symmetric n (now (high .entry))) ⌝ }
+{
+    if !symmetric(n, low) {
+        return false;
+    }
+    symmetric(n, high)
+}
+
 // The first of the checks 3, 4 and 5 that fails, each asked over both tables before the next.
 fn find_refusal(n: usize, low: &[i64], high: &[i64]) -> Checked
     requires { ⌜ (n ≤ greatestOrder) × (n * n ≤ length (now low)) × (n * n ≤ length (now high)) ⌝ }
     ensures { λ r. ⌜ r ≡ firstRefusal (tableChecks n (now (low .entry)) (now (high .entry))) ⌝ }
 {
     let count = n * n;
-    if !all_within(low, count, ENTRY_RANGE) || !all_within(high, count, ENTRY_RANGE) {
+    let within = entries_within(low, high, count);
+    let ordered = nowhere_crossed(low, high, count);
+    let even = both_symmetric(n, low, high);
+    if !within {
         return Checked::Refused(Refusal::Range);
     }
-    if !nowhere_crossed(low, high, count) {
+    if !ordered {
         return Checked::Refused(Refusal::Crossed);
     }
-    if !symmetric(n, low) || !symmetric(n, high) {
+    if !even {
         return Checked::Refused(Refusal::Lopsided);
     }
     Checked::Passed

@@ -20,7 +20,7 @@ use Rattle.tables.specs.Checks.{all, same}
 use Rattle.tables.proofs.Checks.{all-of, same-true}
 use Rattle.tables.proofs.Matrix.{nth-padded}
 use Rattle.vectors.specs.Least.{leastValue, nonzero, shows}
-use Rattle.vectors.specs.VectorTest.{leastTerm, leastPair, leastRow, leastShare}
+use Rattle.vectors.specs.LeastShares.{leastTerm, leastPair, leastRow, leastShare}
 use Rattle.vectors.proofs.Values.{shares-add}
 use Rattle.vectors.proofs.Showing.{nonzero-true}
 use Rattle.tried.specs.Tried.{tried, first}

@@ -17,7 +17,8 @@ use Rattle.tables.specs.declared.Answer.the-variants as Answer
 use Rattle.tables.proofs.Checks.{and-left, and-right, all-at, within-of, passed-bounds}
 use Rattle.tables.proofs.Answers.{prefix-passed, offer-passed, after-yes, after-no, yes-true, no-false}
 use Rattle.vectors.specs.Least.{leastValue, nonzero, shows}
-use Rattle.vectors.specs.VectorTest.{vectorShape, vectorAnswer, Asked, Meaning}
+use Rattle.vectors.specs.VectorTest.{vectorShape, vectorAnswer, Meaning}
+use Rattle.vectors.specs.LeastShares.{Asked}
 use Rattle.vectors.proofs.Showing.{shows-witness, witness-shows}
 
 -- ---- tables that passed checks 3, 4 and 5, and a vector that passed check 7
@@ -34,11 +35,8 @@ module _ (n : ℕ) (l u v : List ℤ) (p : firstRefusal (tableChecks n l u) ≡ 
   unfolding vectorShape allWithin
   asked o a b c =
       record {
-        order = o;
-        low-size = a;
-        high-size = b;
-        vector-size = c;
-        bounds = passed-bounds n l u p;
+        tables = record { order = o; low-length = a; high-length = b; bounds = passed-bounds n l u p };
+        vector-length = c;
         entries = λ i h. within-of vectorRange (nth v i) (all-at _ n (and-right (nonzero n (nth v)) _ e) i h);
       }
 

@@ -18,8 +18,9 @@ use Rattle.tables.specs.Ranges.{entryRange}
 use Rattle.tables.specs.Matrix.{Matrix, at, nth, form}
 use Rattle.tables.specs.Bounds.{Bounds}
 use Rattle.tables.proofs.Forms.{form-suc}
+use Rattle.tables.proofs.CheckedTables.{low-within, high-within}
 use Rattle.vectors.specs.Least.{leastMember, leastValue}
-use Rattle.vectors.specs.VectorTest.{leastTerm, leastPair, leastRow, leastShare, Asked}
+use Rattle.vectors.specs.LeastShares.{leastTerm, leastPair, leastRow, leastShare, Asked}
 use Rattle.vectors.proofs.Showing.{least-by, least-symmetric}
 
 -- ---- a pair's cases
@@ -55,12 +56,6 @@ term-within {l} {u} {p} a b k = go (ltZ (pos 0) p)
 
 module _ {n : ℕ} {l u v : List ℤ} (a : Asked n l u v) where
   module _ {i j : ℕ} (h : i < n) (k : j < n) where
-    pub low-within : Within entryRange (at n l i j)
-    low-within = record { size = a .bounds .low-range i j h k }
-
-    pub high-within : Within entryRange (at n u i j)
-    high-within = record { size = a .bounds .high-range i j h k }
-
     pub product-within : Within (2 ^ 30) (nth v i *ℤ nth v j)
     product-within = within-more (omega arith) (within-* (a .entries i h) (a .entries j k))
 
@@ -69,12 +64,12 @@ module _ {n : ℕ} {l u v : List ℤ} (a : Asked n l u v) where
 
     pair-within : Within (2 ^ 50) (leastPair n l u v i j)
     unfolding leastPair
-    pair-within = term-within low-within high-within product-within
+    pair-within = term-within (low-within (a .tables) h k) (high-within (a .tables) h k) product-within
 
   module _ {i : ℕ} (h : i < n) where
     row-within : {k : ℕ} → k ≤ n → Within (2 ^ 53) (leastRow n l u v i k)
     unfolding leastRow
-    row-within {k} m = within-more (omega (arith, a .order)) (within-sum k (2 ^ 50) _ (λ j q. pair-within h (omega arith)))
+    row-within {k} m = within-more (omega (arith, a .tables .order)) (within-sum k (2 ^ 50) _ (λ j q. pair-within h (omega arith)))
 
     -- the next pair added up
     pub row-fits : {k : ℕ} → k < n → SFits w64 (leastRow n l u v i k +ℤ leastPair n l u v i k)
@@ -86,14 +81,14 @@ module _ {n : ℕ} {l u v : List ℤ} (a : Asked n l u v) where
     share-within : Within (2 ^ 55) (leastShare n l u v i)
     unfolding leastShare
     share-within =
-        within-more (omega arith) (within-+ (within-* two-within (row-within (omega arith))) (within-* (low-within h h) (product-within h h)))
+        within-more (omega arith) (within-+ (within-* two-within (row-within (omega arith))) (within-* (low-within (a .tables) h h) (product-within h h)))
 
     pub share-adds : SFits w64 (pos 2 *ℤ leastRow n l u v i i +ℤ at n l i i *ℤ (nth v i *ℤ nth v i))
     unfolding leastShare
     share-adds = fits-within share-within (omega arith)
 
   sum-within : (k : ℕ) → k ≤ n → Within (2 ^ 58) (sum k (leastShare n l u v))
-  sum-within k m = within-more (omega (arith, a .order)) (within-sum k (2 ^ 55) _ (λ i h. share-within (omega arith)))
+  sum-within k m = within-more (omega (arith, a .tables .order)) (within-sum k (2 ^ 55) _ (λ i h. share-within (omega arith)))
 
   -- the next share added up
   pub sum-fits : {k : ℕ} → k < n → SFits w64 (sum k (leastShare n l u v) +ℤ leastShare n l u v k)

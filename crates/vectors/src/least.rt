@@ -5,7 +5,7 @@ ghost use Rattle.integers.specs.Numbers.{Within};
 ghost use Rattle.tables.specs.Ranges.{entryRange};
 ghost use Rattle.tables.specs.Matrix.{at, nth};
 ghost use Rattle.vectors.specs.Least.{leastValue};
-ghost use Rattle.vectors.specs.VectorTest.{leastTerm, leastPair, leastRow, leastShare, Asked};
+ghost use Rattle.vectors.specs.LeastShares.{leastTerm, leastPair, leastRow, leastShare, Asked};
 
 // What two entries whose product is p add: the low bound's share where p is positive, else the high bound's.
 fn least_term(low: i64, high: i64, p: i64) -> i64

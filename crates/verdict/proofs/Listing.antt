@@ -15,8 +15,9 @@ use Rattle.tables.specs.Matrix.{Matrix, nth, form, tabulate}
 use Rattle.tables.specs.Checks.{all, same}
 use Rattle.tables.proofs.Matrix.{nth-tabulate, tabulate-ext}
 use Rattle.tables.specs.Bounds.{CheckedTables}
+use Rattle.tables.proofs.CheckedTables.{low-within, high-within}
 use Rattle.vectors.specs.Least.{leastMember, leastValue, nonzero, shows}
-use Rattle.vectors.specs.VectorTest.{Asked}
+use Rattle.vectors.specs.LeastShares.{Asked}
 use Rattle.tried.specs.Tried.{first}
 use Rattle.tried.specs.Search.{orElse, found, Searched, Table}
 use Rattle.tried.proofs.TriedList.{first-append}
@@ -81,20 +82,17 @@ module _ (p : List ℤ → Bool) {o : List (List ℤ)} {n : ℕ} {x : List ℤ} 
 -- ---- what passed the checks
 module _ {n : ℕ} {l u : List ℤ} (c : CheckedTables n l u) where
   pub low-table : Table n l
-  low-table = record { order = c .order; size = c .low-length; range = λ i j h k. record { size = c .bounds .low-range i j h k } }
+  low-table = record { order = c .order; size = c .low-length; range = λ i j h k. low-within c h k }
 
   pub high-table : Table n u
-  high-table = record { order = c .order; size = c .high-length; range = λ i j h k. record { size = c .bounds .high-range i j h k } }
+  high-table = record { order = c .order; size = c .high-length; range = λ i j h k. high-within c h k }
 
   pub solved-asked : {t : List ℤ} {j m : ℕ} → Stopped n t j m → (s : ℤ) → Within startRange s → {x : List ℤ} → Answered (solved n (stoppedAt t j m) s) n true x → Asked n l u x
   unfolding solvedOf
   solved-asked a s w {x} q =
       let v = stopped-vector a s (q .answer) w in
       record {
-        order = c .order;
-        low-size = c .low-length;
-        high-size = c .high-length;
-        vector-size = omega (arith, c .order, q .size);
-        bounds = c .bounds;
+        tables = c;
+        vector-length = omega (arith, c .order, q .size);
         entries = λ i h. rw (nth-tabulate n (nth x) i h) at (v .small i h);
       }

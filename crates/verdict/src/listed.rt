@@ -8,7 +8,7 @@ ghost use Rattle.integers.specs.Numbers.{Within};
 ghost use Rattle.tables.specs.Matrix.{at, nth};
 ghost use Rattle.tables.specs.Bounds.{CheckedTables};
 ghost use Rattle.vectors.specs.Least.{shows};
-ghost use Rattle.vectors.specs.VectorTest.{Asked};
+ghost use Rattle.vectors.specs.LeastShares.{Asked};
 ghost use Rattle.tried.specs.Tried.{tried, first};
 ghost use Rattle.tried.specs.Search.{Searched};
 ghost use Rattle.solved.specs.Solved.{solved};

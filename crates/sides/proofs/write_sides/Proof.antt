@@ -1,15 +1,20 @@
 -- The loop's invariant: the sides passed are written.
 use mathlib.Core.Path.{_≡_, _∙_}
-use Prim.Native.Nat.{_-_, _≤_}
+use mathlib.Core.List.{[], _∷_}
+use Prim.Native.Nat.{_-_, _^_, _≤_}
 use native.Mathlib.Omega.{arith}
 use native.Mathlib.Numerals.{add-one}
 use mir.Syntax.{w64}
 use mir.Val.{toZ, ofZ}
-use Rattle.integers.proofs.Machine.{clean, clean-element, clean-result}
+use lib.IntN.{ℤ}
+use Rattle.integers.specs.Numbers.{Within}
+use Rattle.integers.proofs.Solver.{_&_, order, solver}
+use Rattle.integers.proofs.Machine.{clean, clean-element, clean-result, fits-within, within-low, within-high, within-in}
+use Rattle.tables.specs.Ranges.{centreRange}
 use Rattle.tables.specs.Matrix.{nth}
 use Rattle.sides.specs.Sides.{smallerHalf}
 use Rattle.sides.specs.Contracts.{SidesIn}
-use Rattle.sides.proofs.HalfSides.{low-fits, high-fits, sides-none, sides-more}
+use Rattle.sides.proofs.HalfSides.{side-within, sides-none, sides-more}
 use Rattle.sides.proofs.write_sides.Statement.{statement}
 use Rattle.sides.proofs.write_sides.Tie as tie
 
@@ -28,15 +33,32 @@ half c =
     clean-result (c .half-side) ∙ c .half-side .ensures
     ∙ rw (clean-element _ (c .before .before .half-side-arg .given), clean-element _ (c .before .half-side-arg2 .given), clean (f .b))
 
+-- the two ends fit by the sizes of c(k) and h alone
 low : tie.Need-sub-low Inv-loop μ-loop
 low c =
     let b = c .before .before .before .before in
-    rw (half (c .before), clean-element _ (c .x .given)) (low-fits (b .before .before .pre .0) _ (b .loop-test .taken))
+    let s = b .before .before in
+    let k = b .before .loop .k in
+    let x : ℤ = toZ w64 (ofZ w64 (nth (s .args .c .now) k)) in
+    let v : Within centreRange x = rw (clean-element _ (c .x .given)) (s .pre .0 .centre k (b .loop-test .taken)) in
+    let h : ℤ = smallerHalf (nth (s .args .y .now) k) (nth (s .args .tk .now) k) (s .args .b) in
+    let w : Within (2 ^ 30) h = side-within (s .pre .0) _ (b .loop-test .taken) in
+    rw (half (c .before)) (fits-within {m = 2 ^ 31}
+    (within-in (order (x ∷ h ∷ []) (within-low v & within-high w) (search solver depth 40 fits 20000) (omega arith))
+    (order (x ∷ h ∷ []) (within-high v & within-low w) (search solver depth 40 fits 20000) (omega arith))) (omega arith))
 
 high : tie.Need-add-high Inv-loop μ-loop
 high c =
     let b = c .before .before .before .before in
-    rw (half (c .before), clean-element _ (c .x .given)) (high-fits (b .before .before .pre .0) _ (b .loop-test .taken))
+    let s = b .before .before in
+    let k = b .before .loop .k in
+    let x : ℤ = toZ w64 (ofZ w64 (nth (s .args .c .now) k)) in
+    let v : Within centreRange x = rw (clean-element _ (c .x .given)) (s .pre .0 .centre k (b .loop-test .taken)) in
+    let h : ℤ = smallerHalf (nth (s .args .y .now) k) (nth (s .args .tk .now) k) (s .args .b) in
+    let w : Within (2 ^ 30) h = side-within (s .pre .0) _ (b .loop-test .taken) in
+    rw (half (c .before)) (fits-within {m = 2 ^ 31}
+    (within-in (order (x ∷ h ∷ []) (within-low v & within-low w) (search solver depth 40 fits 20000) (omega arith))
+    (order (x ∷ h ∷ []) (within-high v & within-high w) (search solver depth 40 fits 20000) (omega arith))) (omega arith))
 
 loop-again : tie.Need-loop-again Inv-loop μ-loop
 loop-again c =

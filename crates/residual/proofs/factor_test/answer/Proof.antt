@@ -35,9 +35,7 @@ answer-spec =
     let p = c .before .before .before .before .before .pre in
     record {
       factor = record { order = p .0; size = p .3; shape = shaped c };
-      low-size = p .1;
-      high-size = p .2;
-      bounds = passed-bounds _ _ _ (passed (c .before .before));
+      tables = record { order = p .0; low-length = p .1; high-length = p .2; bounds = passed-bounds _ _ _ (passed (c .before .before)) };
     })
     (λ c. let e = c .before .before in ap yesOrNo (sym (c .if2 .taken) ∙ c .before .accepted .ensures) ∙ offer-passed Answer.Refused _ _ _ (passed (e .before .before)) (shaped e))
     (λ c. let e = c .before .before in ap yesOrNo (sym (c .if2 .left) ∙ c .before .accepted .ensures) ∙ offer-passed Answer.Refused _ _ _ (passed (e .before .before)) (shaped e)))

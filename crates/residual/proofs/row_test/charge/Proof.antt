@@ -6,7 +6,8 @@ use native.Mathlib.Numerals.{add-one}
 use mir.Syntax.{w64}
 use mir.Val.{toZ}
 use Rattle.integers.proofs.Machine.{clean, clean-element, clean-result}
-use Rattle.residual.proofs.Slack.{low-within, Charging, charging-start, charging-row-fits, charging-own-fits, charging-next, charging-end}
+use Rattle.tables.proofs.CheckedTables.{low-within}
+use Rattle.residual.proofs.Slack.{Charging, charging-start, charging-row-fits, charging-own-fits, charging-next, charging-end}
 use Rattle.residual.proofs.row_test.charge.Statement.{statement}
 use Rattle.residual.proofs.row_test.charge.Tie as tie
 use Rattle.residual.proofs.row_test.charge.Reads as reads
@@ -52,7 +53,7 @@ pub charge-spec : {M : Type 1} → statement M
 charge-spec =
     tie.close
     (tie.spec Inv-loop μ-loop
-    (λ c κs. let p = c .pre in (p .0 .factor, p .1, p .0 .low-size, low-within (p .0) (p .1) (p .1)))
+    (λ c κs. let p = c .pre in (p .0 .factor, p .1, p .0 .tables .low-length, low-within (p .0 .tables) (p .1) (p .1)))
     loop-holds
     (λ c κs. let p = c .before .before .before .pre in (p .0, c .loop-test .taken, p .1))
     (λ c. let n8 = c .before .before .before .before .pre .0 .factor .order in omega arith)

@@ -1,8 +1,9 @@
 use mathlib.Core.Path.{_∙_}
 use borrow.Author.Needs.{needs}
 use Rattle.integers.proofs.Machine.{clean, clean-element, clean-result}
-use Rattle.vectors.specs.VectorTest.{leastPair}
-use Rattle.vectors.proofs.Values.{low-within, high-within, product-within, product-fits}
+use Rattle.vectors.specs.LeastShares.{leastPair}
+use Rattle.tables.proofs.CheckedTables.{low-within, high-within}
+use Rattle.vectors.proofs.Values.{product-within, product-fits}
 use Rattle.vectors.proofs.least.least_pair.Statement.{statement}
 use Rattle.vectors.proofs.least.least_pair.Tie as tie
 
@@ -17,7 +18,7 @@ asked c κs =
     let e1 = e2 .before in
     let p = e1 .before .pre in
     rw (clean-result (e1 .entry), clean-result (e2 .entry2), e1 .entry .ensures, e2 .entry2 .ensures, clean (product c), clean-element _ (c .before .least-term-arg .given), clean-element _ (c .least-term-arg2 .given))
-    (low-within (p .0) (p .1) (p .2), high-within (p .0) (p .1) (p .2), product-within (p .0) (p .1) (p .2))
+    (low-within (p .0 .tables) (p .1) (p .2), high-within (p .0 .tables) (p .1) (p .2), product-within (p .0) (p .1) (p .2))
 
 returns : tie.Need-returns
 unfolding leastPair

@@ -7,7 +7,7 @@ use mir.Syntax.{w64}
 use mir.Val.{toZ}
 use Rattle.integers.proofs.Machine.{clean, clean-result}
 use Rattle.integers.proofs.Sums.{sum-zero, sum-suc}
-use Rattle.vectors.specs.VectorTest.{leastRow}
+use Rattle.vectors.specs.LeastShares.{leastRow}
 use Rattle.vectors.proofs.Values.{row-fits}
 use Rattle.vectors.proofs.least.least_row.Statement.{statement}
 use Rattle.vectors.proofs.least.least_row.Tie as tie

@@ -1,8 +1,9 @@
 use mathlib.Core.Path.{sym, _∙_}
 use borrow.Author.Needs.{needs}
 use Rattle.integers.proofs.Machine.{clean, clean-element, clean-result, fits-literal, same-bits}
-use Rattle.vectors.specs.VectorTest.{leastShare}
-use Rattle.vectors.proofs.Values.{share-none, low-within, product-within, product-fits, share-fits, twice-fits, share-adds}
+use Rattle.tables.proofs.CheckedTables.{low-within}
+use Rattle.vectors.specs.LeastShares.{leastShare}
+use Rattle.vectors.proofs.Values.{share-none, product-within, product-fits, share-fits, twice-fits, share-adds}
 use Rattle.vectors.proofs.least.least_share.Statement.{statement}
 use Rattle.vectors.proofs.least.least_share.Tie as tie
 
@@ -25,7 +26,7 @@ own c =
     let e = c .before .before in
     let p = start (e .before) .pre in
     rw (clean-result (e .entry), e .entry .ensures, clean (square c), clean-element _ (c .before .result .given))
-    (share-fits (low-within (p .0) (p .1) (p .1)) (product-within (p .0) (p .1) (p .1)))
+    (share-fits (low-within (p .0 .tables) (p .1) (p .1)) (product-within (p .0) (p .1) (p .1)))
 
 added : tie.Need-add-result
 added c =

@@ -8,7 +8,7 @@ use mir.Val.{toZ}
 use Rattle.integers.specs.Sum.{sum}
 use Rattle.integers.proofs.Machine.{clean, clean-result}
 use Rattle.integers.proofs.Sums.{sum-zero, sum-suc}
-use Rattle.vectors.specs.VectorTest.{leastShare}
+use Rattle.vectors.specs.LeastShares.{leastShare}
 use Rattle.vectors.proofs.Values.{sum-fits, shares-add}
 use Rattle.vectors.proofs.least.least_value.Statement.{statement}
 use Rattle.vectors.proofs.least.least_value.Tie as tie
@@ -41,4 +41,4 @@ least-value-spec =
     loop-again
     (λ c.
     let e : c .before .loop .i ≡ c .before .before .args .n = omega arith in
-    (rw e at (c .before .loop .inv .1)) ∙ shares-add _ _ _ _ (c .before .before .pre .bounds)))
+    (rw e at (c .before .loop .inv .1)) ∙ shares-add _ _ _ _ (c .before .before .pre .tables .bounds)))
