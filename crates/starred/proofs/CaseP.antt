@@ -19,8 +19,8 @@ use Rattle.verdict.specs.Judge.{listed, judged, judgement}
 use Rattle.steps.specs.Steps.{lowered, trial, bits, step, stepAt}
 use Rattle.sides.specs.Sides.{lowGradient, highGradient, gradient, atCentre, bound, firstHalf, secondBound, smallerHalf, halfSide, sidesFrom, boxOf}
 use Rattle.enclosure.specs.Box.{boxed, boxAnswer}
-use Rattle.summary.specs.Fields.{tags, kindIn, kindOf, tagged, fieldAt}
-use Rattle.summary.specs.Layouts.{startOf, lengthOf, seen, unseen, placed, walkOn, walkFields, walk, walked, content}
+use Rattle.fields.specs.Fields.{tags, kindIn, kindOf, tagged, fieldAt}
+use Rattle.fields.specs.Layouts.{startOf, lengthOf, seen, unseen, placed, walkOn, walkFields, walk, walked, content}
 use Rattle.summary.specs.Problems.{allPresent, orderIn, sizesOk, fieldChecks, problemIn, noProblem, readAs, handed, readIn, readWalked, reading}
 use Rattle.words.specs.Numbers.{fromLeBytes, unsignedAt, signedAt, numbersOf, paddedNumbersOf}
 use Rattle.report.specs.Text.{ascii, digits, natural, decimal, numbers, line, lines}

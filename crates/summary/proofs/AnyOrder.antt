@@ -10,14 +10,14 @@ use lib.ListN.{length, getD}
 use Rattle.tables.specs.Checks.{all, firstRefusal}
 use Rattle.tables.specs.declared.Checked.{Checked}
 use Rattle.tables.specs.declared.Checked.the-variants as Checked
-use Rattle.summary.specs.declared.field.Kind.{Kind}
-use Rattle.summary.specs.declared.field.Kind.the-variants as Kind
-use Rattle.summary.specs.declared.layout.Layout.{Layout}
-use Rattle.summary.specs.Layouts.{startOf, lengthOf, seen, content, walked, Inside}
-use Rattle.summary.specs.Entries.{entryOf, contentSeen, Written}
+use Rattle.fields.specs.declared.field.Kind.{Kind}
+use Rattle.fields.specs.declared.field.Kind.the-variants as Kind
+use Rattle.fields.specs.declared.layout.Layout.{Layout}
+use Rattle.fields.specs.Layouts.{startOf, lengthOf, seen, content, walked, Inside}
+use Rattle.fields.specs.Entries.{entryOf, contentSeen, Written}
+use Rattle.fields.proofs.Parts.{walked-inside, length-content}
+use Rattle.fields.proofs.Entries.{written-passes, written-contents}
 use Rattle.summary.specs.Problems.{longest, allPresent, orderIn, sizesOk, fieldChecks, problemIn, handed, readIn, reading}
-use Rattle.summary.proofs.Parts.{walked-inside, length-content}
-use Rattle.summary.proofs.Entries.{written-passes, written-contents}
 use Rattle.summary.proofs.Spelled.{read-in-passed, read-in-refused, reading-walked}
 
 -- two files with their layouts have the same fields: the same kinds, lengths and contents

@@ -10,9 +10,9 @@ use Rattle.tables.specs.Checks.{all, firstRefusal, orderOk, within, allWithin, 
 use Rattle.tables.specs.declared.Refusal.{Refusal}
 use Rattle.tables.specs.declared.Refusal.the-variants.{Order, Range, Crossed, Tag, Absent, Size, Long}
 use Rattle.tables.specs.declared.Checked.the-variants.{Passed, Refused}
+use Rattle.fields.specs.Fields.{tags, kindIn, kindOf, tagged, fieldAt}
+use Rattle.fields.specs.Layouts.{startOf, lengthOf, seen, unseen, placed, walkOn, walkFields, walk, walked, content}
 use Rattle.summary.specs.declared.problem.Reading.{Reading}
-use Rattle.summary.specs.Fields.{tags, kindIn, kindOf, tagged, fieldAt}
-use Rattle.summary.specs.Layouts.{startOf, lengthOf, seen, unseen, placed, walkOn, walkFields, walk, walked, content}
 use Rattle.summary.specs.Problems.{allPresent, orderIn, sizesOk, fieldChecks, problemIn, noProblem, readAs, handed, readIn, readWalked, reading}
 
 -- ---- files

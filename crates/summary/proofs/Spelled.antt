@@ -20,12 +20,12 @@ use Rattle.tables.specs.declared.Checked.{Checked}
 use Rattle.tables.specs.declared.Checked.the-variants as Checked
 use Rattle.tables.proofs.Matrix.{at-most-64}
 use Rattle.tables.proofs.Checks.{and-left, and-right, first-passed, rest-passed, order-of}
-use Rattle.summary.specs.declared.field.Kind.{Kind}
-use Rattle.summary.specs.declared.field.Kind.the-variants as Kind
-use Rattle.summary.specs.declared.layout.Layout.{Layout}
+use Rattle.fields.specs.declared.field.Kind.{Kind}
+use Rattle.fields.specs.declared.field.Kind.the-variants as Kind
+use Rattle.fields.specs.declared.layout.Layout.{Layout}
+use Rattle.fields.specs.Layouts.{lengthOf, Inside, walked}
 use Rattle.summary.specs.declared.problem.Problem.{Problem}
 use Rattle.summary.specs.declared.problem.Reading.{Reading}
-use Rattle.summary.specs.Layouts.{lengthOf, Inside, walked}
 use Rattle.summary.specs.Problems.{longest, orderIn, sizesOk, fieldChecks, problemIn, noProblem, readAs, handed, readIn, readWalked, reading, Sized, LetThrough}
 
 -- ---- the lengths of the fields

@@ -1,5 +1,1 @@
-pub mod Fields
-pub mod Layouts
-pub mod Entries
-pub mod Pieces
 pub mod Problems

@@ -14,12 +14,12 @@ use Rattle.tables.specs.Checks.{Check, all, orderOk, firstRefusal, problemCheck
 use Rattle.tables.specs.declared.Refusal.the-variants.{Order, Absent, Size, Long}
 use Rattle.tables.specs.declared.Checked.{Checked}
 use Rattle.tables.specs.declared.Checked.the-variants as Checked
-use Rattle.summary.specs.declared.field.Kind.the-variants as Kind
-use Rattle.summary.specs.declared.layout.Layout.{Layout}
-use Rattle.summary.specs.declared.layout.Walked.{Walked}
+use Rattle.fields.specs.declared.field.Kind.the-variants as Kind
+use Rattle.fields.specs.declared.layout.Layout.{Layout}
+use Rattle.fields.specs.declared.layout.Walked.{Walked}
+use Rattle.fields.specs.Layouts.{lengthOf, content, Inside, walked}
 use Rattle.summary.specs.declared.problem.Problem.{Problem}
 use Rattle.summary.specs.declared.problem.Reading.{Reading}
-use Rattle.summary.specs.Layouts.{lengthOf, content, Inside, walked}
 
 -- "more than 4096 bytes" are refused by 15
 abbrev pub longest : ℕ

@@ -1,5 +1,2 @@
-// The summary file: its fields, the reader over it, and the problem that it spells.
-pub mod field;
-pub mod layout;
+// The summary file: the problem that it spells.
 pub mod problem;
-pub mod reader;

@@ -10,8 +10,8 @@ use Rattle.integers.proofs.Machine.{read-i64}
 use Rattle.tables.specs.Checks.{orderOk, firstRefusal}
 use Rattle.tables.specs.declared.Refusal.the-variants.{Size}
 use Rattle.tables.proofs.Checks.{call-true, call-false, first-none, first-passes, first-refuses, order-of}
-use Rattle.summary.specs.declared.field.Kind.the-variants as Kind
-use Rattle.summary.specs.Layouts.{lengthOf}
+use Rattle.fields.specs.declared.field.Kind.the-variants as Kind
+use Rattle.fields.specs.Layouts.{lengthOf}
 use Rattle.summary.specs.Problems.{allPresent, orderIn, sizesOk, fieldChecks}
 use Rattle.summary.proofs.problem.check_fields.Statement.{statement}
 use Rattle.summary.proofs.problem.check_fields.Tie as tie

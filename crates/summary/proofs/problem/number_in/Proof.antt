@@ -1,6 +1,6 @@
 use mathlib.Core.Path.{_∙_}
 use Rattle.integers.proofs.Machine.{clean-result}
-use Rattle.summary.proofs.Parts.{length-content}
+use Rattle.fields.proofs.Parts.{length-content}
 use Rattle.summary.proofs.problem.number_in.Statement.{statement}
 use Rattle.summary.proofs.problem.number_in.Tie as tie
 

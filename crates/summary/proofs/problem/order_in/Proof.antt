@@ -1,7 +1,7 @@
 use mathlib.Core.Path.{sym}
 use native.Mathlib.Omega.{arith}
 use lib.ListN.{List·getD-eq-default}
-use Rattle.summary.specs.declared.field.Kind.the-variants as Kind
+use Rattle.fields.specs.declared.field.Kind.the-variants as Kind
 use Rattle.summary.specs.Problems.{orderIn}
 use Rattle.summary.proofs.problem.order_in.Statement.{statement}
 use Rattle.summary.proofs.problem.order_in.Tie as tie

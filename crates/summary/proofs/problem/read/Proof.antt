@@ -2,9 +2,9 @@ use mathlib.Core.Path.{sym, ap, _∙_}
 use native.Mathlib.Omega.{arith}
 use borrow.Author.Needs.{needs}
 use Rattle.tables.proofs.Answers.{exactly}
-use Rattle.summary.specs.declared.layout.Walked.{Walked}
+use Rattle.fields.specs.declared.layout.Walked.{Walked}
+use Rattle.fields.proofs.Parts.{walked-inside}
 use Rattle.summary.specs.Problems.{readAs, readIn}
-use Rattle.summary.proofs.Parts.{walked-inside}
 use Rattle.summary.proofs.Spelled.{reading-long, reading-walked, reading-stopped, Through, reading-through}
 use Rattle.summary.proofs.problem.read.Statement.{statement}
 use Rattle.summary.proofs.problem.read.Tie as tie

@@ -1,4 +1,4 @@
-use Rattle.summary.proofs.Parts.{length-content}
+use Rattle.fields.proofs.Parts.{length-content}
 use Rattle.summary.proofs.problem.table_in.Statement.{statement}
 use Rattle.summary.proofs.problem.table_in.Tie as tie
 

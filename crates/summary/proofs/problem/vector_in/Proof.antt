@@ -1,4 +1,4 @@
-use Rattle.summary.proofs.Parts.{length-content}
+use Rattle.fields.proofs.Parts.{length-content}
 use Rattle.summary.proofs.problem.vector_in.Statement.{statement}
 use Rattle.summary.proofs.problem.vector_in.Tie as tie
 

@@ -1,0 +1,6 @@
+mod FirstField
+pub mod Finding
+pub mod Walking
+pub mod Parts
+pub mod Entries
+pub mod Examples

@@ -1,0 +1,4 @@
+pub mod Fields
+pub mod Layouts
+pub mod Entries
+pub mod Pieces

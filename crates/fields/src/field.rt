@@ -1,0 +1,94 @@
+// A field of the file: a tag, a length and the content.
+ghost use mathlib.Core.Path.{_≡_};
+ghost use Prim.Native.Nat.{_+_, _≤_};
+ghost use lib.ListN.{length};
+ghost use Rattle.words.specs.Numbers.{unsignedAt};
+ghost use Rattle.fields.specs.Fields.{kindOf, head, fieldAt};
+use tables::Refusal;
+
+// A field's head: one byte of tag, two of length.
+const HEAD: usize = 3;
+
+// The six fields, in the order of their tags.
+pub enum Kind {
+    Order,
+    Low,
+    High,
+    Linear,
+    Limit,
+    Centre,
+}
+
+// What a tag says: the kind of field, or the refusal of a tag that no field has.
+pub enum Tagged {
+    Known(Kind),
+    Refused(Refusal),
+}
+
+// A field of a file. Its content is the part that starts at start and has length bytes, and the next field stands at next.
+pub struct Field {
+    pub kind: Kind,
+    pub start: usize,
+    pub length: usize,
+    pub next: usize,
+}
+
+// What stands at a place of a file: a field, the file's end, or what is refused.
+pub enum Found {
+    Here(Field),
+    End,
+    Refused(Refusal),
+}
+
+// The kind of field that a tag stands for.
+pub fn kind_of(tag: u8) -> Tagged
+    ensures { λ r. ⌜ r ≡ kindOf tag ⌝ }
+{
+    match tag {
+        1 => Tagged::Known(Kind::Order),
+        2 => Tagged::Known(Kind::Low),
+        3 => Tagged::Known(Kind::High),
+        4 => Tagged::Known(Kind::Linear),
+        5 => Tagged::Known(Kind::Limit),
+        6 => Tagged::Known(Kind::Centre),
+        _ => Tagged::Refused(Refusal::Tag),
+    }
+}
+
+// The length in a field's head: two bytes, low byte first.
+fn length_at(file: &[u8], at: usize) -> usize
+    requires { ⌜ at + head ≤ length (now file) ⌝ }
+    ensures { λ r. ⌜ r ≡ unsignedAt 2 (now (file .entry)) (at + 1) ⌝ }
+{
+    let low = file[at + 1] as usize;
+    let high = file[at + 2] as usize;
+    low + 256 * high
+}
+
+// The field at a place of the file: 10, then 11.
+pub fn field_at(file: &[u8], at: usize) -> Found
+    ensures { λ r. ⌜ r ≡ fieldAt (now (file .entry)) at ⌝ }
+{
+    let size = file.len();
+    if size <= at {
+        return Found::End;
+    }
+    if size - at < HEAD {
+        return Found::Refused(Refusal::Cut);
+    }
+    let start = at + HEAD;
+    let length = length_at(file, at);
+    if size - start < length {
+        return Found::Refused(Refusal::Cut);
+    }
+    let tagged = kind_of(file[at]);
+    match tagged {
+        Tagged::Known(kind) => Found::Here(Field {
+            kind,
+            start,
+            length,
+            next: start + length,
+        }),
+        Tagged::Refused(r) => Found::Refused(r),
+    }
+}

@@ -1,0 +1,114 @@
+// The walk over the file's fields: where the content of each stands.
+ghost use mathlib.Core.Path.{_≡_};
+ghost use Prim.Native.Nat.{_+_, _≤_};
+ghost use lib.ListN.{length};
+ghost use Rattle.fields.specs.Layouts.{placeOf, startOf, lengthOf, placed, content, walked};
+use crate::field::Field;
+use crate::field::Found;
+use crate::field::Kind;
+use crate::field::field_at;
+use tables::Checked;
+use tables::Refusal;
+
+// Where the content of each field stands, by the field's place among the six: start and length. A start of 0 says that there is none.
+pub struct Layout {
+    pub starts: [usize; 6],
+    pub lengths: [usize; 6],
+}
+
+// What the walk finds: all fields, or the first refusal.
+pub struct Walked {
+    pub checked: Checked,
+    pub layout: Layout,
+}
+
+// A kind's place among the six.
+fn place_of(kind: Kind) -> usize
+    ensures { λ r. ⌜ r ≡ placeOf kind ⌝ }
+{
+    match kind {
+        Kind::Order => 0,
+        Kind::Low => 1,
+        Kind::High => 2,
+        Kind::Linear => 3,
+        Kind::Limit => 4,
+        Kind::Centre => 5,
+    }
+}
+
+// Where the content of a kind starts, 0 where there is no such field.
+pub fn start_of(layout: Layout, kind: Kind) -> usize
+    ensures { λ r. ⌜ r ≡ startOf layout kind ⌝ }
+{
+    let starts = layout.starts;
+    starts[place_of(kind)]
+}
+
+// The length of the content of a kind.
+pub fn length_of(layout: Layout, kind: Kind) -> usize
+    ensures { λ r. ⌜ r ≡ lengthOf layout kind ⌝ }
+{
+    let lengths = layout.lengths;
+    lengths[place_of(kind)]
+}
+
+// The layout with a field more.
+fn placed(layout: Layout, field: Field) -> Layout
+    ensures { λ r. ⌜ r ≡ placed layout field ⌝ }
+{
+    let kind = field.kind;
+    let i = place_of(kind);
+    let mut next = layout;
+    next.starts[i] = field.start;
+    next.lengths[i] = field.length;
+    next
+}
+
+// The fields of the file, one after the other: 10, 11 and 12.
+pub fn walk(file: &[u8]) -> Walked
+    ensures { λ r. ⌜ r ≡ walked (now (file .entry)) ⌝ }
+{
+    let mut layout = Layout {
+        starts: [0; 6],
+        lengths: [0; 6],
+    };
+    let mut at = 0;
+    loop {
+        let found = field_at(file, at);
+        match found {
+            Found::Here(field) => {
+                let kind = field.kind;
+                if 0 < start_of(layout, kind) {
+                    return Walked {
+                        checked: Checked::Refused(Refusal::Again),
+                        layout,
+                    };
+                }
+                layout = placed(layout, field);
+                at = field.next;
+            }
+            Found::End => {
+                return Walked {
+                    checked: Checked::Passed,
+                    layout,
+                };
+            }
+            Found::Refused(r) => {
+                return Walked {
+                    checked: Checked::Refused(r),
+                    layout,
+                };
+            }
+        }
+    }
+}
+
+// The content of a kind: a part of the file.
+pub fn content<'a>(file: &'a [u8], layout: Layout, kind: Kind) -> &'a [u8]
+    requires { ⌜ startOf layout kind + lengthOf layout kind ≤ length (now file) ⌝ }
+    ensures { λ r. ⌜ now r ≡ content (now (file .entry)) layout kind ⌝ }
+{
+    let start = start_of(layout, kind);
+    let length = length_of(layout, kind);
+    &file[start..start + length]
+}
