@@ -206,6 +206,6 @@ module _ (s : List ℕ) (v : AllBytes s) where
       let b =
       walk-ind s (λ at l w. Sized l → w .checked ≡ Checked.Passed → Behind at l)
       (λ at l f w e t r z p. behind-more at l f e t z (r (placed-sized l f z) p))
-      (λ at l f e t z p. absurd (false≢true (cc))) (λ at l e z p. behind-end at l e) (λ at l r e z p. absurd (false≢true (cc))) 0 unseen unseen-sized p
+      (λ at l e z p. behind-end at l e) (λ at l r z p. absurd (false≢true (cc))) 0 unseen unseen-sized p
       in
       record { entries = b .entries; writable = b .writable; file = b .file }

@@ -45,9 +45,9 @@ lines =
     -- the length's low byte comes first
     ∷ record { file = 1 ∷ 1 ∷ 0 ∷ 8 ∷ []; expected = record { checked = Passed; layout = orderAt 3 } }
     ∷ record { file = 1 ∷ 0 ∷ 1 ∷ 8 ∷ []; expected = record { checked = Refused Cut; layout = unseen } }
-    ∷ record { file = 1 ∷ 1 ∷ 0 ∷ 8 ∷ 1 ∷ 1 ∷ 0 ∷ 8 ∷ []; expected = record { checked = Refused Again; layout = orderAt 3 } }
+    ∷ record { file = 1 ∷ 1 ∷ 0 ∷ 8 ∷ 1 ∷ 1 ∷ 0 ∷ 8 ∷ []; expected = record { checked = Refused Again; layout = unseen } }
     -- 11 comes before 12 of a later field
-    ∷ record { file = 1 ∷ 1 ∷ 0 ∷ 8 ∷ 0 ∷ 0 ∷ 0 ∷ 1 ∷ 0 ∷ 0 ∷ []; expected = record { checked = Refused Tag; layout = orderAt 3 } }
+    ∷ record { file = 1 ∷ 1 ∷ 0 ∷ 8 ∷ 0 ∷ 0 ∷ 0 ∷ 1 ∷ 0 ∷ 0 ∷ []; expected = record { checked = Refused Tag; layout = unseen } }
     ∷ record { file = caseP; expected = record { checked = Passed; layout = layoutP } }
     ∷ []
 

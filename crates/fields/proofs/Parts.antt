@@ -84,10 +84,11 @@ module _ (s : List ℕ) where
   laid : Laid (walked s .layout)
   unfolding walked
   laid =
+      let none : Laid unseen = record { sized = unseen-sized; inside = unseen-inside } in
       walk-ind s (λ at l w. Laid l → Laid (w .layout))
       (λ at l f w e t r p.
       r (record { sized = placed-sized l f (p .sized); inside = placed-inside at l f (found-inside s at f e) (p .sized) (p .inside) }))
-      (λ at l f e t p. p) (λ at l e p. p) (λ at l r e p. p) 0 unseen (record { sized = unseen-sized; inside = unseen-inside })
+      (λ at l e p. p) (λ at l r p. none) 0 unseen none
 
   pub walked-sized : Sized (walked s .layout)
   walked-sized = laid .sized

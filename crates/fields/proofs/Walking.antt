@@ -17,7 +17,7 @@ use Rattle.fields.specs.declared.field.Found.the-variants as Found
 use Rattle.fields.specs.declared.layout.Layout.{Layout}
 use Rattle.fields.specs.declared.layout.Walked.{Walked}
 use Rattle.fields.specs.Fields.{head, fieldAt}
-use Rattle.fields.specs.Layouts.{startOf, seen, placed, walkOn, walkFields, walk}
+use Rattle.fields.specs.Layouts.{startOf, seen, placed, stopped, walkOn, walkFields, walk}
 use Rattle.fields.proofs.Finding.{field-end, found-inside}
 
 -- ---- one turn
@@ -33,9 +33,9 @@ module _ (l : Layout) (k : Kind) {start : ℕ} where
 
 module _ (l : Layout) (next : ℕ → Layout → Walked) where
   after : Field → Bool → Walked
-  after f b = elim b [ true ↦ record { checked = Checked.Refused Again; layout = l } | false ↦ next (f .next) (placed l f) ]
+  after f b = elim b [ true ↦ stopped Again | false ↦ next (f .next) (placed l f) ]
 
-  on-again : (f : Field) → seen l (f .kind) ≡ true → walkOn (Found.Here f) l next ≡ record { checked = Checked.Refused Again; layout = l }
+  on-again : (f : Field) → seen l (f .kind) ≡ true → walkOn (Found.Here f) l next ≡ stopped Again
   unfolding walkOn after
   on-again f e = ap (after f) e
 
@@ -47,7 +47,7 @@ module _ (l : Layout) (next : ℕ → Layout → Walked) where
 on-ext : (r : Found) (l : Layout) (g h : ℕ → Layout → Walked) → ((f : Field) → r ≡ Found.Here f → g (f .next) (placed l f) ≡ h (f .next) (placed l f)) → walkOn r l g ≡ walkOn r l h
 unfolding walkOn
 on-ext (Found.Here f) l g h e =
-    ap (λ (w : Walked). elim (seen l (f .kind)) [ true ↦ record { checked = Checked.Refused Again; layout = l } | false ↦ w ]) (e f refl)
+    ap (λ (w : Walked). elim (seen l (f .kind)) [ true ↦ stopped Again | false ↦ w ]) (e f refl)
 on-ext Found.End l g h e = refl
 on-ext (Found.Refused r) l g h e = refl
 
@@ -85,11 +85,11 @@ module _ (s : List ℕ) where
     unfolding walkOn
     walk-end e = walk-unfolds at l ∙ rw e
 
-    pub walk-refused : (r : Refusal) → fieldAt s at ≡ Found.Refused r → walk s at l ≡ record { checked = Checked.Refused r; layout = l }
+    pub walk-refused : (r : Refusal) → fieldAt s at ≡ Found.Refused r → walk s at l ≡ stopped r
     unfolding walkOn
     walk-refused r e = walk-unfolds at l ∙ rw e
 
-    pub walk-again : (f : Field) → fieldAt s at ≡ Found.Here f → seen l (f .kind) ≡ true → walk s at l ≡ record { checked = Checked.Refused Again; layout = l }
+    pub walk-again : (f : Field) → fieldAt s at ≡ Found.Here f → seen l (f .kind) ≡ true → walk s at l ≡ stopped Again
     walk-again f e t = walk-unfolds at l ∙ rw e (on-again l (walk s) f t)
 
     pub walk-more : (f : Field) → fieldAt s at ≡ Found.Here f → seen l (f .kind) ≡ false → walk s at l ≡ walk s (f .next) (placed l f)
@@ -98,18 +98,17 @@ module _ (s : List ℕ) where
 -- ---- an induction over the turns, for any claim on where the walk stands and what comes of it
 module _ (s : List ℕ) (R : ℕ → Layout → Walked → Type 0)
     (more : (at : ℕ) (l : Layout) (f : Field) (w : Walked) → fieldAt s at ≡ Found.Here f → seen l (f .kind) ≡ false → R (f .next) (placed l f) w → R at l w)
-    (again : (at : ℕ) (l : Layout) (f : Field) → fieldAt s at ≡ Found.Here f → seen l (f .kind) ≡ true → R at l (record { checked = Checked.Refused Again; layout = l }))
     (end : (at : ℕ) (l : Layout) → fieldAt s at ≡ Found.End → R at l (record { checked = Checked.Passed; layout = l }))
-    (refused : (at : ℕ) (l : Layout) (r : Refusal) → fieldAt s at ≡ Found.Refused r → R at l (record { checked = Checked.Refused r; layout = l })) where
+    (stop : (at : ℕ) (l : Layout) (r : Refusal) → R at l (stopped r)) where
   module _ (at : ℕ) (l : Layout) (rest : (f : Field) → fieldAt s at ≡ Found.Here f → R (f .next) (placed l f) (walk s (f .next) (placed l f))) where
     field-turn : (f : Field) → fieldAt s at ≡ Found.Here f → (b : Bool) → seen l (f .kind) ≡ b → R at l (walk s at l)
-    field-turn f e true t = rw (walk-again s at l f e t) (again at l f e t)
+    field-turn f e true t = rw (walk-again s at l f e t) (stop at l Again)
     field-turn f e false t = rw (walk-more s at l f e t) (more at l f _ e t (rest f e))
 
     turn : (r : Found) → fieldAt s at ≡ r → R at l (walk s at l)
     turn (Found.Here f) e = field-turn f e (seen l (f .kind)) refl
     turn Found.End e = rw (walk-end s at l e) (end at l e)
-    turn (Found.Refused r) e = rw (walk-refused s at l r e) (refused at l r e)
+    turn (Found.Refused r) e = rw (walk-refused s at l r e) (stop at l r)
 
   turns : (n at : ℕ) (l : Layout) → length s < at + n → R at l (walk s at l)
   turns zero at l h = turn at l (λ f e. absurd (omega (arith, found-inside s at f e))) (fieldAt s at) refl

@@ -5,6 +5,7 @@ use mathlib.Core.List.{List}
 use Prim.Native.Nat.{ℕ, zero, suc, _+_, _≤_}
 use lib.Dec.{ltb}
 use lib.ListN.{length, getD, set, take, drop, replicate}
+use Rattle.tables.specs.declared.Refusal.{Refusal}
 use Rattle.tables.specs.declared.Refusal.the-variants.{Again}
 use Rattle.tables.specs.declared.Checked.the-variants as Checked
 use Rattle.fields.specs.declared.field.Kind.{Kind}
@@ -35,7 +36,7 @@ lengthOf l k = getD (l .lengths) (placeOf k) 0
 unfoldable pub seen : Layout → Kind → Bool
 seen l k = ltb 0 (startOf l k)
 
--- no field yet
+-- no field
 unfoldable pub unseen : Layout
 unseen = record { starts = replicate 6 0; lengths = replicate 6 0 }
 
@@ -43,15 +44,19 @@ unseen = record { starts = replicate 6 0; lengths = replicate 6 0 }
 unfoldable pub placed : Layout → Field → Layout
 placed l f = record { starts = set (l .starts) (placeOf (f .kind)) (f .start); lengths = set (l .lengths) (placeOf (f .kind)) (f .length) }
 
+-- "A refusal hands back its number alone": with no field
+abbrev pub stopped : Refusal → Walked
+stopped r = record { checked = Checked.Refused r; layout = unseen }
+
 -- the walk goes on behind a field whose tag was not seen, 12 where it was; it ends at the file's end, and at the first refusal
 unfoldable pub walkOn : Found → Layout → (ℕ → Layout → Walked) → Walked
 walkOn (Found.Here f) l next =
     elim (seen l (f .kind)) [
-      | true ↦ record { checked = Checked.Refused Again; layout = l }
+      | true ↦ stopped Again
       | false ↦ next (f .next) (placed l f)
     ]
 walkOn Found.End l next = record { checked = Checked.Passed; layout = l }
-walkOn (Found.Refused r) l next = record { checked = Checked.Refused r; layout = l }
+walkOn (Found.Refused r) l next = stopped r
 
 -- the walk from a place on, over at most so many fields
 unfoldable pub walkFields : ℕ → List ℕ → ℕ → Layout → Walked

@@ -2,7 +2,7 @@
 ghost use mathlib.Core.Path.{_≡_};
 ghost use Prim.Native.Nat.{_+_, _≤_};
 ghost use lib.ListN.{length};
-ghost use Rattle.fields.specs.Layouts.{placeOf, startOf, lengthOf, placed, content, walked};
+ghost use Rattle.fields.specs.Layouts.{placeOf, startOf, lengthOf, unseen, stopped, placed, content, walked};
 use crate::field::Field;
 use crate::field::Found;
 use crate::field::Kind;
@@ -16,10 +16,30 @@ pub struct Layout {
     pub lengths: [usize; 6],
 }
 
-// What the walk finds: all fields, or the first refusal.
+// What the walk finds: the layout of all fields, or the first refusal, with no field.
 pub struct Walked {
     pub checked: Checked,
     pub layout: Layout,
+}
+
+// No field.
+fn unseen() -> Layout
+    ensures { λ r. ⌜ r ≡ unseen ⌝ }
+{
+    Layout {
+        starts: [0; 6],
+        lengths: [0; 6],
+    }
+}
+
+// The refusal of a file, with no field.
+fn stopped(refusal: Refusal) -> Walked
+    ensures { λ r. ⌜ r ≡ stopped refusal ⌝ }
+{
+    Walked {
+        checked: Checked::Refused(refusal),
+        layout: unseen(),
+    }
 }
 
 // A kind's place among the six.
@@ -64,14 +84,11 @@ fn placed(layout: Layout, field: Field) -> Layout
     next
 }
 
-// The fields of the file, one after the other: 10, 11 and 12.
+// The layout of the file's fields, one after the other, or the first refusal of 10, 11 and 12, with no field.
 pub fn walk(file: &[u8]) -> Walked
     ensures { λ r. ⌜ r ≡ walked (now (file .entry)) ⌝ }
 {
-    let mut layout = Layout {
-        starts: [0; 6],
-        lengths: [0; 6],
-    };
+    let mut layout = unseen();
     let mut at = 0;
     loop {
         let found = field_at(file, at);
@@ -79,10 +96,7 @@ pub fn walk(file: &[u8]) -> Walked
             Found::Here(field) => {
                 let kind = field.kind;
                 if 0 < start_of(layout, kind) {
-                    return Walked {
-                        checked: Checked::Refused(Refusal::Again),
-                        layout,
-                    };
+                    return stopped(Refusal::Again);
                 }
                 layout = placed(layout, field);
                 at = field.next;
@@ -93,12 +107,7 @@ pub fn walk(file: &[u8]) -> Walked
                     layout,
                 };
             }
-            Found::Refused(r) => {
-                return Walked {
-                    checked: Checked::Refused(r),
-                    layout,
-                };
-            }
+            Found::Refused(r) => return stopped(r),
         }
     }
 }

@@ -1,12 +1,12 @@
 -- The loop's invariant: the walk over the file is the walk from here. The measure is what is left of the file.
-use mathlib.Core.Path.{_≡_, refl, sym, _∙_}
+use mathlib.Core.Path.{_≡_, sym, _∙_}
 use Prim.Native.Nat.{_-_, _≤_}
 use native.Mathlib.Omega.{arith}
 use borrow.Author.Needs.{needs}
 use lib.ListN.{length}
 use Rattle.fields.specs.declared.field.Found.the-variants as Found
 use Rattle.fields.specs.Fields.{fieldAt}
-use Rattle.fields.specs.Layouts.{unseen, walk, walked}
+use Rattle.fields.specs.Layouts.{walk, walked}
 use Rattle.fields.proofs.Finding.{found-inside}
 use Rattle.fields.proofs.Walking.{seen-yes, seen-no, walk-end, walk-refused, walk-again, walk-more}
 use Rattle.fields.proofs.layout.walk.Statement.{statement}
@@ -19,23 +19,26 @@ abbrev μ-loop : tie.MeasureT-loop
 μ-loop file layout₀ at₀ layout at = length file - at
 
 -- the field at hand
-here : (c : tie.After-known-told Inv-loop μ-loop) → let l = c .before .before .before .before in fieldAt (l .before .before .args .file .now) (l .loop .at) ≡ Found.Here (c .before .found .given .0 .0)
+here : (c : tie.After-known-told Inv-loop μ-loop) → let l = c .before .before .before .before in fieldAt (l .before .before .before .args .file .now) (l .loop .at) ≡ Found.Here (c .before .found .given .0 .0)
 here c = sym (c .before .before .before .field-at .ensures) ∙ c .before .found .given .1
 
 pub walk-spec : {M : Type 1} → statement M
-unfolding walked unseen
+unfolding walked
 walk-spec =
     tie.close (tie.spec Inv-loop μ-loop
     -- the loop begins
-    (λ c. (omega arith, refl))
+    (λ c κs. search needs)
+    (λ c. (omega arith, rw (c .unseen .ensures)))
     -- a field
     (λ c κs. search needs)
     (λ c. search needs)
     (λ c κs. search needs)
     -- again
+    (λ c κs. search needs)
     (λ c.
-    let d = c .before .before in
-    sym (d .before .before .before .before .loop .inv .1 ∙ walk-again _ _ _ _ (here d) (seen-yes _ _ (c .before .start-of .ensures) (omega arith))))
+    let t = c .before in
+    let d = t .before .before in
+    c .stopped .ensures ∙ sym (d .before .before .before .before .loop .inv .1 ∙ walk-again _ _ _ _ (here d) (seen-yes _ _ (t .before .start-of .ensures) (omega arith))))
     (λ c κs. search needs)
     -- the measure, the invariant again
     (λ c. let d = c .before .before .before in omega (arith, found-inside _ _ _ (here d)))
@@ -50,6 +53,8 @@ walk-spec =
     (λ c. sym (c .before .before .before .loop .inv .1 ∙ walk-end _ _ _ (sym (c .before .before .field-at .ensures) ∙ c .enum-told .given .1)))
     -- a refusal
     (λ c. search needs)
+    (λ c κs. search needs)
     (λ c.
-    let d = c .before .before .before in
-    sym (d .before .loop .inv .1 ∙ walk-refused _ _ _ _ (sym (d .field-at .ensures) ∙ c .before .found2 .given .1))))
+    let t = c .before .before in
+    let d = t .before .before in
+    c .stopped2 .ensures ∙ sym (d .before .loop .inv .1 ∙ walk-refused _ _ _ _ (sym (d .field-at .ensures) ∙ t .found2 .given .1))))
