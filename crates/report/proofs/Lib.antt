@@ -1,7 +1,4 @@
-mod Examples
-pub mod Puts
-pub mod Digits
-pub mod SameLines
+pub mod Rows
 pub mod StatedText
 pub mod Fitting
 pub mod Printed

@@ -10,11 +10,11 @@ use Rattle.tables.specs.declared.Checked.{Checked}
 use Rattle.tables.specs.declared.Checked.the-variants as Checked
 use Rattle.summary.specs.declared.problem.Reading.{Reading}
 use Rattle.summary.specs.Problems.{reading}
+use Rattle.text.specs.Text.{ascii}
+use Rattle.text.specs.Putting.{withText, Put}
+use Rattle.text.proofs.Puts.{put-length}
 use Rattle.report.specs.declared.report.Output.{Output}
-use Rattle.report.specs.Text.{ascii}
-use Rattle.report.specs.Putting.{withText, Put}
 use Rattle.report.specs.Lines.{numbered}
-use Rattle.report.proofs.Puts.{put-length}
 use Rattle.report.specs.Report.{problemText, readingText, printed, reportRoom, report}
 
 -- ---- by what the reading found

@@ -1,4 +1,2 @@
-pub mod Text
-pub mod Putting
 pub mod Lines
 pub mod Report

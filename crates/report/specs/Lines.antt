@@ -9,7 +9,7 @@ use Rattle.verdict.specs.Judge.{Judgement}
 use Rattle.verdict.specs.Judge as Judge
 use Rattle.enclosure.specs.Box.{Box}
 use Rattle.enclosure.specs.Box as Box
-use Rattle.report.specs.Text.{ascii, widest, line, lines}
+use Rattle.text.specs.Text.{ascii, widest, line, lines}
 
 -- a word "and the number"
 unfoldable pub numbered : List ℕ → Refusal → List ℕ

@@ -9,8 +9,8 @@ use Rattle.enclosure.specs.Box.{boxAnswer}
 use Rattle.summary.specs.declared.problem.Problem.{Problem}
 use Rattle.summary.specs.declared.problem.Reading.{Reading}
 use Rattle.summary.specs.Problems.{reading}
+use Rattle.text.specs.Text.{ascii}
 use Rattle.report.specs.declared.report.Output.{Output}
-use Rattle.report.specs.Text.{ascii}
 use Rattle.report.specs.Lines.{numbered, verdictText, boxText}
 
 -- the verdict's lines, "then" the box's

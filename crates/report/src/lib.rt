@@ -1,4 +1,3 @@
 // What the program prints of a summary file.
 pub mod lines;
 pub mod report;
-pub mod text;

@@ -7,13 +7,13 @@ ghost use Rattle.tables.specs.Matrix.{nth, table, tabulate};
 ghost use Rattle.cholesky.specs.Store.{triangle};
 ghost use Rattle.verdict.specs.Judge.{definite, notDefinite, judgement};
 ghost use Rattle.enclosure.specs.Box.{boxAnswer};
-ghost use Rattle.report.specs.Putting.{Put};
+ghost use Rattle.text.specs.Putting.{Put};
 ghost use Rattle.report.specs.Lines.{numbered, numberRoom, verdictRoom, verdictText, boxRoom, boxText};
-use crate::text::put_line;
-use crate::text::put_lines;
-use crate::text::put_text;
 use enclosure::enclose::BoxAnswer;
 use tables::Refusal;
+use text::put_line;
+use text::put_lines;
+use text::put_text;
 use verdict::judge::Verdict;
 
 // A word and the number of a refusal.

@@ -3,7 +3,7 @@ ghost use mathlib.Core.Path.{_≡_};
 ghost use Prim.Native.Nat.{_≤_, _<_};
 ghost use lib.ListN.{length, take};
 ghost use Rattle.summary.specs.Problems.{longest, LetThrough};
-ghost use Rattle.report.specs.Putting.{Put};
+ghost use Rattle.text.specs.Putting.{Put};
 ghost use Rattle.report.specs.Report.{problemText, reportRoom, report};
 use crate::lines::put_box;
 use crate::lines::put_refused;

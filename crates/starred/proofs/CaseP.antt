@@ -23,7 +23,7 @@ use Rattle.fields.specs.Fields.{tags, kindIn, kindOf, tagged, fieldAt}
 use Rattle.fields.specs.Layouts.{startOf, lengthOf, seen, unseen, placed, walkOn, walkFields, walk, walked, content}
 use Rattle.summary.specs.Problems.{allPresent, orderIn, sizesOk, fieldChecks, problemIn, noProblem, readAs, handed, readIn, readWalked, reading}
 use Rattle.words.specs.Numbers.{fromLeBytes, unsignedAt, signedAt, numbersOf, paddedNumbersOf}
-use Rattle.report.specs.Text.{ascii, digits, natural, decimal, numbers, line, lines}
+use Rattle.text.specs.Text.{ascii, digits, natural, decimal, numbers, line, lines}
 use Rattle.report.specs.Lines.{numbered, verdictText, boxText}
 use Rattle.report.specs.Report.{problemText, readingText, printed}
 

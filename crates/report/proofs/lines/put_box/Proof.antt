@@ -4,10 +4,10 @@ use borrow.Author.Needs.{needs}
 use Prim.Native.Nat.{_+_}
 use Rattle.integers.proofs.Machine.{clean}
 use Rattle.enclosure.specs.Stating.{stated}
-use Rattle.report.specs.Text.{ascii}
+use Rattle.text.specs.Text.{ascii}
+use Rattle.text.proofs.Puts.{put-within}
+use Rattle.text.proofs.SameLines.{first-lines}
 use Rattle.report.specs.Lines.{boxText}
-use Rattle.report.proofs.Puts.{put-within}
-use Rattle.report.proofs.SameLines.{first-lines}
 use Rattle.report.proofs.StatedText.{box-text}
 use Rattle.report.proofs.lines.put_box.Statement.{statement}
 use Rattle.report.proofs.lines.put_box.Tie as tie

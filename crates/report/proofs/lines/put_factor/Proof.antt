@@ -2,10 +2,10 @@
 use native.Mathlib.Omega.{arith}
 use borrow.Author.Needs.{needs}
 use Rattle.tables.proofs.Matrix.{at-most-64}
-use Rattle.report.specs.Text.{ascii}
+use Rattle.text.specs.Text.{ascii}
+use Rattle.text.proofs.Puts.{put-within, put-room, put-then}
 use Rattle.report.specs.Lines.{verdictText}
-use Rattle.report.proofs.Puts.{put-within, put-room, put-then}
-use Rattle.report.proofs.SameLines.{table-lines, rows-room}
+use Rattle.report.proofs.Rows.{table-lines, rows-room}
 use Rattle.report.proofs.lines.put_factor.Statement.{statement}
 use Rattle.report.proofs.lines.put_factor.Tie as tie
 

@@ -3,9 +3,9 @@ use native.Mathlib.Omega.{arith}
 use borrow.Author.Needs.{needs}
 use lib.IntN.{pos}
 use Rattle.integers.proofs.Machine.{read-i64}
-use Rattle.report.specs.Text.{numbers, line}
+use Rattle.text.specs.Text.{numbers, line}
+use Rattle.text.proofs.Puts.{put-within}
 use Rattle.report.specs.Lines.{numbered}
-use Rattle.report.proofs.Puts.{put-within}
 use Rattle.report.proofs.lines.put_refused.Statement.{statement}
 use Rattle.report.proofs.lines.put_refused.Tie as tie
 

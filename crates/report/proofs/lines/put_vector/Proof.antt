@@ -1,9 +1,9 @@
 use native.Mathlib.Omega.{arith}
 use borrow.Author.Needs.{needs}
-use Rattle.report.specs.Text.{ascii}
+use Rattle.text.specs.Text.{ascii}
+use Rattle.text.proofs.Puts.{put-within, put-then}
+use Rattle.text.proofs.SameLines.{first-lines}
 use Rattle.report.specs.Lines.{verdictText}
-use Rattle.report.proofs.Puts.{put-within, put-then}
-use Rattle.report.proofs.SameLines.{first-lines}
 use Rattle.report.proofs.lines.put_vector.Statement.{statement}
 use Rattle.report.proofs.lines.put_vector.Tie as tie
 

@@ -2,8 +2,8 @@
 use native.Mathlib.Omega.{arith}
 use borrow.Author.Needs.{needs}
 use Rattle.verdict.specs.Deciding.{stated}
+use Rattle.text.proofs.Puts.{put-within}
 use Rattle.report.specs.Lines.{verdictText}
-use Rattle.report.proofs.Puts.{put-within}
 use Rattle.report.proofs.StatedText.{verdict-text}
 use Rattle.report.proofs.lines.put_verdict.Statement.{statement}
 use Rattle.report.proofs.lines.put_verdict.Tie as tie

@@ -1,9 +1,9 @@
 use native.Mathlib.Omega.{arith}
 use borrow.Author.Needs.{needs}
 use Rattle.integers.proofs.Machine.{clean-element}
+use Rattle.text.proofs.Puts.{put-within, put-then, put-room}
 use Rattle.report.specs.Lines.{boxRoom}
 use Rattle.report.specs.Report.{problemText}
-use Rattle.report.proofs.Puts.{put-within, put-then, put-room}
 use Rattle.report.proofs.Fitting.{fits}
 use Rattle.report.proofs.report.put_problem.Statement.{statement}
 use Rattle.report.proofs.report.put_problem.Tie as tie

@@ -6,12 +6,12 @@ use borrow.Author.Needs.{needs}
 use lib.ListN.{length}
 use lib.IntN.{natAbs}
 use Rattle.integers.proofs.Machine.{clean}
-use Rattle.report.specs.Putting.{Put}
-use Rattle.report.specs.Text.{natural}
-use Rattle.report.proofs.Puts.{put-nothing, put-within, put-length, put-room, put-then}
-use Rattle.report.proofs.Digits.{sign, sign-none, sign-minus, decimal-sign, length-decimal-sign, length-decimal}
-use Rattle.report.proofs.text.put_decimal.Statement.{statement}
-use Rattle.report.proofs.text.put_decimal.Tie as tie
+use Rattle.text.specs.Putting.{Put}
+use Rattle.text.specs.Text.{natural}
+use Rattle.text.proofs.Puts.{put-nothing, put-within, put-length, put-room, put-then}
+use Rattle.text.proofs.Digits.{sign, sign-none, sign-minus, decimal-sign, length-decimal-sign, length-decimal}
+use Rattle.text.proofs.put_decimal.Statement.{statement}
+use Rattle.text.proofs.put_decimal.Tie as tie
 
 -- the sign is there
 behind-sign : (c : tie.Joined1) → let a = c .before .before .args in Put (a .out .now) (a .at) (sign (a .v)) (length (sign (a .v))) (c .if1 .next) (c .if1 .out)

@@ -4,9 +4,9 @@ use native.Mathlib.Numerals.{add-one}
 use native.Mathlib.Omega.{arith}
 use lib.ListN.{length, length-set}
 use lib.Seq.{paste, paste-zero, paste-suc, take-length}
-use Rattle.report.specs.Putting.{withText}
-use Rattle.report.proofs.text.put_text.Statement.{statement}
-use Rattle.report.proofs.text.put_text.Tie as tie
+use Rattle.text.specs.Putting.{withText}
+use Rattle.text.proofs.put_text.Statement.{statement}
+use Rattle.text.proofs.put_text.Tie as tie
 
 abbrev Inv-loop : tie.InvT-loop
 Inv-loop out₀ at text k₀ out k = (k ≤ length text) × (length out ≡ length out₀) × (out ≡ paste out₀ at text k)

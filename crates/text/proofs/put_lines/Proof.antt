@@ -4,11 +4,11 @@ use native.Mathlib.Nat.{suc-mul}
 use native.Mathlib.Numerals.{add-one}
 use native.Mathlib.Omega.{arith}
 use lib.ListN.{length}
-use Rattle.report.specs.Putting.{Put}
-use Rattle.report.specs.Text.{lines, widest}
-use Rattle.report.proofs.Puts.{put-nothing, put-within, put-then, one-more}
-use Rattle.report.proofs.text.put_lines.Statement.{statement}
-use Rattle.report.proofs.text.put_lines.Tie as tie
+use Rattle.text.specs.Putting.{Put}
+use Rattle.text.specs.Text.{lines, widest}
+use Rattle.text.proofs.Puts.{put-nothing, put-within, put-then, one-more}
+use Rattle.text.proofs.put_lines.Statement.{statement}
+use Rattle.text.proofs.put_lines.Tie as tie
 
 abbrev Inv-loop : tie.InvT-loop
 Inv-loop out₀ at word x width count next₀ i₀ out next i =

@@ -2,10 +2,10 @@ use Prim.Native.Nat.{_≤_}
 use native.Mathlib.Omega.{arith}
 use borrow.Author.Needs.{needs}
 use lib.ListN.{length}
-use Rattle.report.specs.Text.{line}
-use Rattle.report.proofs.Puts.{put-then}
-use Rattle.report.proofs.text.put_line.Statement.{statement}
-use Rattle.report.proofs.text.put_line.Tie as tie
+use Rattle.text.specs.Text.{line}
+use Rattle.text.proofs.Puts.{put-then}
+use Rattle.text.proofs.put_line.Statement.{statement}
+use Rattle.text.proofs.put_line.Tie as tie
 
 returns : tie.Need-returns
 unfolding line

@@ -5,11 +5,11 @@ use native.Mathlib.Omega.{arith}
 use lib.ListN.{length}
 use Rattle.integers.proofs.Machine.{clean-element}
 use Rattle.tables.specs.Matrix.{nth}
-use Rattle.report.specs.Putting.{Put}
-use Rattle.report.specs.Text.{numbers, widest}
-use Rattle.report.proofs.Puts.{put-nothing, put-within, put-then}
-use Rattle.report.proofs.text.put_numbers.Statement.{statement}
-use Rattle.report.proofs.text.put_numbers.Tie as tie
+use Rattle.text.specs.Putting.{Put}
+use Rattle.text.specs.Text.{numbers, widest}
+use Rattle.text.proofs.Puts.{put-nothing, put-within, put-then}
+use Rattle.text.proofs.put_numbers.Statement.{statement}
+use Rattle.text.proofs.put_numbers.Tie as tie
 
 abbrev Inv-loop : tie.InvT-loop
 Inv-loop out₀ at x first count next₀ k₀ out next k =

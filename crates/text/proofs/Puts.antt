@@ -6,7 +6,7 @@ use native.Mathlib.Nat.{add-zero, suc-mul, mul-le-mul, le-refl}
 use native.Mathlib.Omega.{arith}
 use lib.ListN.{length, set, take, drop, length-append, length-drop, take-append-drop}
 use lib.Seq.{length-take-le, take-at, drop-append-add, drop-drop, sets-eq}
-use Rattle.report.specs.Putting.{withText, Put}
+use Rattle.text.specs.Putting.{withText, Put}
 
 -- of n texts of at most m bytes each there is room for one more behind the first i
 pub one-more : (i n m : ℕ) → i < n → i * m + m ≤ n * m

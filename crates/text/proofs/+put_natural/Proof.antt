@@ -6,15 +6,15 @@ use native.Mathlib.Omega.{arith}
 use borrow.Fn.Kinds.{In}
 use borrow.Fn.PlainCycle.{Measures, is, falls, and}
 use lib.ListN.{length}
-use Rattle.report.specs.Putting.{Put}
-use Rattle.report.proofs.Puts.{put-nothing, put-length, put-room, put-then}
-use Rattle.report.proofs.Digits.{front, front-none, front-some, natural-front, length-natural-front}
-use Rattle.report.proofs.text.put_natural.Reads as this
-use Rattle.report.proofs.text.put_natural.Kinds as kinds
-use Rattle.report.proofs.text.+put_natural.Lts-put_natural as lts
-use Rattle.report.proofs.text.put.Reads as put
-use Rattle.report.proofs.text.+put_natural.{statement}
-use Rattle.report.proofs.text.+put_natural.Tie.{close}
+use Rattle.text.specs.Putting.{Put}
+use Rattle.text.proofs.Puts.{put-nothing, put-length, put-room, put-then}
+use Rattle.text.proofs.Digits.{front, front-none, front-some, natural-front, length-natural-front}
+use Rattle.text.proofs.put_natural.Reads as this
+use Rattle.text.proofs.put_natural.Kinds as kinds
+use Rattle.text.proofs.+put_natural.Lts-put_natural as lts
+use Rattle.text.proofs.put.Reads as put
+use Rattle.text.proofs.+put_natural.{statement}
+use Rattle.text.proofs.+put_natural.Tie.{close}
 
 abbrev measure : Measures 1 kinds.ps ℕ
 measure κs a = a .1 .1 .0

@@ -3,8 +3,8 @@ ghost use Prim.Native.Nat.{_+_, _*_, _≤_};
 ghost use lib.ListN.{length};
 ghost use mathlib.Core.List.{[], _∷_};
 ghost use Rattle.tables.specs.Matrix.{nth};
-ghost use Rattle.report.specs.Text.{natural, decimal, widest, numbers, line, lines};
-ghost use Rattle.report.specs.Putting.{Put};
+ghost use Rattle.text.specs.Text.{natural, decimal, widest, numbers, line, lines};
+ghost use Rattle.text.specs.Putting.{Put};
 
 // One byte.
 fn put(out: &mut [u8], at: usize, byte: u8) -> usize

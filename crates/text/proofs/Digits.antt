@@ -14,7 +14,7 @@ use lib.Signed.{leZ, ltZ}
 use mir.Syntax.{w64}
 use mir.Val.{SFits}
 use Rattle.integers.proofs.Machine.{within-fits}
-use Rattle.report.specs.Text.{digit, digits, natural, decimal, minus, widest}
+use Rattle.text.specs.Text.{digit, digits, natural, decimal, minus, widest}
 
 digits-one : (k n : ℕ) → n < 10 → digits k n ≡ digit n ∷ []
 unfolding digits

@@ -2,15 +2,12 @@
 use mathlib.Core.Path.{_≡_, refl, sym, ap₂}
 use mathlib.Core.List.{List, _∷_, _++_}
 use Prim.Native.Nat.{ℕ, zero, suc, _+_, _*_, _≤_, _<_}
-use native.Mathlib.Nat.{suc-mul, mul-le-mul}
+use native.Mathlib.Nat.{suc-mul}
 use native.Mathlib.Omega.{arith}
 use lib.IntN.{ℤ}
-use Rattle.tables.specs.Ranges.{greatestOrder}
-use Rattle.tables.specs.Matrix.{Matrix, nth, table, tabulate}
+use Rattle.tables.specs.Matrix.{nth, tabulate}
 use Rattle.tables.proofs.Matrix.{nth-tabulate}
-use Rattle.verdict.specs.FactorTable.{Written}
-use Rattle.verdict.proofs.Writing.{written-nth}
-use Rattle.report.specs.Text.{space, widest, decimal, numbers, line, lines}
+use Rattle.text.specs.Text.{space, decimal, numbers, line, lines}
 
 numbers-ext : (f g : ℕ → ℤ) (n : ℕ) → ((k : ℕ) → k < n → f k ≡ g k) → numbers f n ≡ numbers g n
 unfolding numbers
@@ -30,14 +27,6 @@ module _ (word : List ℕ) where
       ap₂ (λ (s t : List ℕ). s ++ t) (lines-ext x y d n (λ k l. h k (omega (arith, suc-mul n d))))
       (line-ext (λ k. nth x (n * d + k)) (λ k. nth y (n * d + k)) d (λ k l. h (n * d + k) (omega (arith, suc-mul n d))))
 
-  -- the rows of a table that was written
-  pub table-lines : {n : ℕ} {M : Matrix} {f : List ℤ} → Written n M f (n * n) → lines word f n n ≡ lines word (table n M) n n
-  table-lines {n} {M} {f} w = lines-ext f (table n M) n n (written-nth w)
-
   -- the first m numbers of an array
   pub first-lines : (x : List ℤ) (d n m : ℕ) → n * d ≤ m → lines word x d n ≡ lines word (tabulate m (nth x)) d n
   first-lines x d n m l = lines-ext x (tabulate m (nth x)) d n (λ k h. sym (nth-tabulate m (nth x) k (omega arith)))
-
--- the rows of the greatest order take up most
-pub rows-room : {n : ℕ} → n ≤ greatestOrder → n * (3 + n * (widest + 1) + 1) ≤ greatestOrder * (3 + greatestOrder * (widest + 1) + 1)
-rows-room {n} h = let l : 3 + n * (widest + 1) + 1 ≤ 3 + greatestOrder * (widest + 1) + 1 = omega arith in mul-le-mul h l

@@ -1,0 +1,4 @@
+mod Examples
+pub mod Puts
+pub mod Digits
+pub mod SameLines
