@@ -2,3 +2,4 @@ pub mod Rows
 pub mod StatedText
 pub mod Fitting
 pub mod Printed
+pub mod Meaning

@@ -27,6 +27,14 @@ module _ (s : List ℕ) {r : Reading} (e : r ≡ reading s) where
   unfolding printed readingText
   printed-refused k h = rw (sym e, h)
 
+  -- a text that is not that of a refusal
+  pub printed-passed : ((k : Refusal) → printed s ≡ numbered (ascii "refused") k → ⊥) → r .checked ≡ Checked.Passed
+  printed-passed f = go (r .checked) refl
+    where
+      go : (c : Checked) → r .checked ≡ c → r .checked ≡ Checked.Passed
+      go Checked.Passed h = h
+      go (Checked.Refused k) h = absurd (f k (printed-refused k h))
+
 -- ---- in a buffer of zeros
 text-first : (t : List ℕ) → length t ≤ reportRoom → withText (replicate reportRoom 0) 0 t ≡ t ++ replicate (reportRoom - length t) 0
 unfolding withText

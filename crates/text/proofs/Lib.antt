@@ -1,4 +1,5 @@
 mod Examples
 pub mod Puts
 pub mod Digits
+pub mod Endings
 pub mod SameLines

@@ -140,7 +140,7 @@ module _ (l u f v : List ℤ) where
   after-means n Passed g h = h refl
   after-means n (Refused r) g h = refused-means n r
 
-  judgement-means : (n : ℕ) → n ≤ greatestOrder → (let j = written (judgement n l u) f v in Meaning (j .verdict) n l u (j .factor) (j .vector))
+  pub judgement-means : (n : ℕ) → n ≤ greatestOrder → (let j = written (judgement n l u) f v in Meaning (j .verdict) n l u (j .factor) (j .vector))
   unfolding judgement
   judgement-means n o = after-means n (firstRefusal (tableChecks n l u)) (judged n (at n l) (at n u)) (λ p. judged-means n o l u p f v)
 
