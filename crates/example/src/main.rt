@@ -1,0 +1,102 @@
+// The library from Rattle: the four acts on small problems, and the reader over a file. What is printed is held to the file stdout.
+ghost use Prim.Native.Nat.{_≤_};
+ghost use lib.ListN.{length};
+use libc::STDOUT_FILENO;
+
+// A word and the first numbers of x, count of them, as a line.
+fn print(word: &[u8], x: &[i64], count: usize)
+    requires { ⌜ (length (now word) ≤ 16) × (count ≤ 4) × (count ≤ length (now x)) ⌝ }
+{
+    let mut out = [0u8; 128];
+    let size = text::put_line(&mut out, 0, word, x, 0, count);
+    io::write_all(STDOUT_FILENO, &out[..size]);
+}
+
+fn print_number(word: &[u8], v: i64)
+    requires { ⌜ length (now word) ≤ 16 ⌝ }
+{
+    let row = [v; 1];
+    print(word, &row, 1);
+}
+
+fn print_two(word: &[u8], x: &[i64; 2])
+    requires { ⌜ length (now word) ≤ 16 ⌝ }
+{
+    let row = [x[0], x[1]];
+    print(word, &row, 2);
+}
+
+fn print_four(word: &[u8], x: &[i64; 4])
+    requires { ⌜ length (now word) ≤ 16 ⌝ }
+{
+    let row = [x[0], x[1], x[2], x[3]];
+    print(word, &row, 4);
+}
+
+// [2 1; 1 2]: definite, with its factor, which the factor test accepts.
+fn definite() {
+    let table = [2i64, 1, 1, 2];
+    let mut factor = [5i64; 4];
+    let mut vector = [5i64; 2];
+    let verdict = verdict::judge::judge(2, &table, &table, &mut factor, &mut vector);
+    print_number(b"judge", verdict::judge::verdict_code(verdict));
+    print_four(b"factor", &factor);
+    print_two(b"vector", &vector);
+    let answer = residual::factor_test::test_factor(2, &table, &table, &factor);
+    print_number(b"test_factor", tables::answer_code(answer));
+}
+
+// [1 2; 2 1]: not definite, with a vector, to which the vector test says yes.
+fn not_definite() {
+    let table = [1i64, 2, 2, 1];
+    let mut factor = [5i64; 4];
+    let mut vector = [5i64; 2];
+    let verdict = verdict::judge::judge(2, &table, &table, &mut factor, &mut vector);
+    print_number(b"judge", verdict::judge::verdict_code(verdict));
+    print_four(b"factor", &factor);
+    print_two(b"vector", &vector);
+    let answer = vectors::vector_test::test_vector(2, &table, &table, &vector);
+    print_number(b"test_vector", tables::answer_code(answer));
+}
+
+// A table that is too short: refused by 2, with both buffers kept.
+fn refused() {
+    let short = [2i64, 1];
+    let mut factor = [5i64; 4];
+    let mut vector = [5i64; 2];
+    let verdict = verdict::judge::judge(2, &short, &short, &mut factor, &mut vector);
+    print_number(b"judge", verdict::judge::verdict_code(verdict));
+    print_four(b"factor", &factor);
+    print_two(b"vector", &vector);
+}
+
+// 4x² - 16x ≤ 0, around 2.
+fn boxed() {
+    let matrix = [4i64; 1];
+    let linear = [-8i64; 1];
+    let centre = [2i64; 1];
+    let mut sides = [5i64; 2];
+    let answer =
+        enclosure::enclose::enclose(1, &matrix, &matrix, &linear, 0, &centre, &mut sides);
+    print_number(b"enclose", enclosure::enclose::box_code(answer));
+    print_two(b"sides", &sides);
+}
+
+// The fields of a file of two: tag 01 with the byte 7, and tag 05 with three bytes.
+fn read_fields() {
+    let file = [1u8, 1, 0, 7, 5, 3, 0, 9, 8, 7];
+    let first = fields::reader::content_from(&file, 0);
+    print_number(b"field", first.len() as i64);
+    let second = fields::reader::content_from(&file, 4);
+    print_number(b"field", second.len() as i64);
+    let end = fields::reader::content_from(&file, 10);
+    print_number(b"field", end.len() as i64);
+}
+
+fn main() {
+    definite();
+    not_definite();
+    refused();
+    boxed();
+    read_fields();
+}
