@@ -29,7 +29,7 @@ use Rattle.tables.proofs.Checks.{rest-passed, passed-bounds}
 use Rattle.steps.specs.Steps.{step, stepAt}
 use Rattle.sides.specs.Sides.{gradient, atCentre, bound, secondBound, halfSide, sidesFrom, boxOf, gradientRange}
 use Rattle.enclosure.specs.Box.{Box, sides, empty, refused, boxed, boxAnswer}
-use Rattle.enclosure.specs.Points.{Point}
+use Rattle.enclosure.specs.Points.{Point, Held}
 use Rattle.enclosure.proofs.Strong.{step-strong, step-at-strong}
 use Rattle.enclosure.proofs.AtCentre.{offset, from-offset, around}
 use Rattle.sides.proofs.Magnitudes.{gradient-nonneg}
@@ -37,7 +37,7 @@ use Rattle.enclosure.proofs.Halves.{Near, one-of, bound-nonneg, second-
 
 -- what a box says of the points
 abbrev pub Says : (n : ℕ) (L U : Matrix) (a : ℕ → ℤ) (α : ℤ) → Box → Type 0
-Says n L U a α (sides s) = (X : ℕ → ℤ) (p : ℤ) → Point n L U a α X p → (k : ℕ) → k < n → ((p *ℤ nth s (k + k)) ≤ℤ X k) × (X k ≤ℤ (p *ℤ nth s (k + k + 1)))
+Says n L U a α (sides s) = (X : ℕ → ℤ) (p : ℤ) → Point n L U a α X p → Held n s X p
 Says n L U a α empty = (X : ℕ → ℤ) (p : ℤ) → Point n L U a α X p → ⊥
 Says n L U a α (refused r) = Unit {0}
 

@@ -5,3 +5,4 @@ pub mod Enclosing
 pub mod BoxMeanings
 pub mod BoxCases
 pub mod BoxFitting
+pub mod BoxCodes

@@ -2,17 +2,16 @@
 use mathlib.Core.Path.{_≡_}
 use mathlib.Core.Bool.{Bool, _&&_}
 use mathlib.Core.List.{List}
-use Prim.Native.Nat.{ℕ, _+_, _*_, _<_}
+use Prim.Native.Nat.{ℕ, _+_, _*_}
 use lib.Dec.{eqb}
-use lib.IntN.{ℤ, pos, negsuc, natAbs, _*ℤ_}
-use lib.Signed.{_≤ℤ_}
+use lib.IntN.{ℤ, pos, negsuc, natAbs}
 use lib.ListN.{length}
 use Rattle.tables.specs.Matrix.{at, nth}
 use Rattle.tables.specs.Refusals.{refusalNumber}
 use Rattle.tables.specs.Checks.{sizesOk, firstRefusal}
 use Rattle.tables.specs.Answers.{after, entryChecks}
 use Rattle.enclosure.specs.Box.{Box, sides, empty, refused, boxAnswer}
-use Rattle.enclosure.specs.Points.{Point}
+use Rattle.enclosure.specs.Points.{Point, Held}
 use Rattle.enclosure.specs.declared.enclose.BoxAnswer.{BoxAnswer}
 use Rattle.enclosure.specs.declared.enclose.BoxAnswer.the-variants as BoxAnswer
 
@@ -47,8 +46,7 @@ boxCode (BoxAnswer.Refused r) = pos (refusalNumber r)
 
 -- ---- what an answer means; s is the buffer as it is left
 pub record Meaning (r : BoxAnswer) (n : ℕ) (l u a : List ℤ) (α : ℤ) (s : List ℤ) : Type 0 where
-  -- a box that is given holds every point: each x(k) lies from the low to the high of side k
-  pub holds : r ≡ BoxAnswer.Sides → (X : ℕ → ℤ) (p : ℤ) → Point n (at n l) (at n u) (nth a) α X p → (k : ℕ) → k < n →
-      ((p *ℤ nth s (k + k)) ≤ℤ X k) × (X k ≤ℤ (p *ℤ nth s (k + k + 1)))
+  -- a box that is given holds every point
+  pub holds : r ≡ BoxAnswer.Sides → (X : ℕ → ℤ) (p : ℤ) → Point n (at n l) (at n u) (nth a) α X p → Held n s X p
   -- 'empty': there is no point
   pub none : r ≡ BoxAnswer.Empty → (X : ℕ → ℤ) (p : ℤ) → Point n (at n l) (at n u) (nth a) α X p → ⊥

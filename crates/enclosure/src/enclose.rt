@@ -9,7 +9,7 @@ ghost use Rattle.tables.specs.Ranges.{greatestOrder, limitRange};
 ghost use Rattle.tables.specs.Matrix.{at, nth};
 ghost use Rattle.enclosure.specs.Box.{boxed, boxAnswer};
 ghost use Rattle.sides.specs.Contracts.{Centred};
-ghost use Rattle.enclosure.specs.Act.{Enclosed, handed, boxSizes, enclose, Meaning};
+ghost use Rattle.enclosure.specs.Act.{Enclosed, handed, boxSizes, enclose, boxCode, Meaning};
 ghost use Rattle.enclosure.specs.Stating.{Stated};
 use sides::box_of;
 use sides::centre::at_centre;
@@ -23,6 +23,17 @@ pub enum BoxAnswer {
     Sides,
     Empty,
     Refused(Refusal),
+}
+
+// An answer's number at a C entry: 0 sides, -1 empty, else the refusal's.
+pub fn box_code(a: BoxAnswer) -> i64
+    ensures { λ r. ⌜ r ≡ boxCode a ⌝ }
+{
+    match a {
+        BoxAnswer::Sides => 0,
+        BoxAnswer::Empty => -1,
+        BoxAnswer::Refused(r) => tables::refusal_number(r) as i64,
+    }
 }
 
 // Refusals 8 and 9, and the box, of numbers that passed checks 3 to 5. Side k stands at 2 k and 2 k + 1 of out.

@@ -12,8 +12,13 @@ use Rattle.tables.specs.Answers.{after, entryChecks}
 use Rattle.tables.specs.declared.Refusal.{Refusal}
 use Rattle.tables.specs.declared.Refusal.the-variants.{Order, Length}
 use Rattle.tables.proofs.Matrix.{at-most-64}
-use Rattle.tables.proofs.Checks.{call-false, call-true, order-of}
+use Rattle.tables.specs.declared.Checked.the-variants.{Passed}
+use Rattle.tables.proofs.Checks.{call-false, call-true, first-passed, rest-passed, order-of}
 use Rattle.tables.proofs.Answers.{order-refused, size-refused, entry-passed, exactly}
+
+pub entry-checked : (n : ℤ) (sized : Bool) → firstRefusal (entryChecks n sized) ≡ Passed → (orderOk n ≡ true) × (sized ≡ true)
+unfolding entryChecks
+entry-checked n sized p = (first-passed _ _ p, first-passed _ _ (rest-passed _ _ p))
 
 abbrev pub Ordered : ℤ → Type 0
 Ordered n = orderOk n ≡ true

@@ -2,21 +2,20 @@
 ghost use mathlib.Core.Path.{_≡_};
 ghost use mathlib.Core.List.{List};
 ghost use Prim.Native.Nat.{ℕ, suc, _+_, _*_, _≤_, _<_};
-ghost use lib.IntN.{pos, natAbs};
 ghost use lib.ListN.{length};
 ghost use mir.Syntax.{w64};
 ghost use mir.Val.{bytes};
 ghost use Rattle.tables.specs.Ranges.{greatestOrder};
-ghost use Rattle.tables.specs.Matrix.{at, table};
-ghost use Rattle.tables.specs.Members.{PositiveDefinite};
+ghost use Rattle.tables.specs.Matrix.{table};
 ghost use Rattle.residual.specs.FactorTest.{factorAnswer};
 ghost use Rattle.vectors.specs.VectorTest.{vectorAnswer};
-ghost use Rattle.verdict.specs.Judge.{Judged, verdictCode, judgement};
+ghost use Rattle.verdict.specs.Judge.{Judged, judgement};
 ghost use Rattle.cholesky.specs.Store.{triangle};
 ghost use Rattle.words.specs.Numbers.{bytesOf};
-ghost use Rattle.hankboulder.specs.Entries.{tableOf, testFactorEntry, vectorOf, testVectorEntry, VectorMeaning, Front, stored, JudgeAnswer, judgeEntry, JudgeMeaning, storedSides, BoxEntry, boxEntry, BoxMeaning};
+ghost use Rattle.hankboulder.specs.Entries.{tableOf, vectorOf, testFactorEntry, testVectorEntry, Front, stored, JudgeResult, judgeEntry, storedSides, BoxResult, boxEntry};
+ghost use Rattle.hankboulder.specs.Meanings.{FactorMeaning, VectorMeaning, JudgeMeaning, BoxMeaning};
 ghost use Rattle.enclosure.specs.Box.{boxAnswer};
-ghost use Rattle.enclosure.specs.Act.{Enclosed, boxCode};
+ghost use Rattle.enclosure.specs.Act.{Enclosed};
 ghost use Rattle.enclosure.specs.Stating.{Stated};
 use enclosure::enclose::BoxAnswer;
 use tables::Answer;
@@ -43,7 +42,7 @@ fn answer_factor(n: usize, low: &[u8], high: &[u8], factor: &[u8]) -> Answer
 #[no_mangle]
 pub extern "C" fn hb_test_factor(n: i64, low: &[u8], high: &[u8], factor: &[u8]) -> i64
     ensures exact { λ r. ⌜ r ≡ testFactorEntry n (now (low .entry)) (now (high .entry)) (now (factor .entry)) ⌝ }
-    ensures meaning { λ r. ⌜ (r ≡ pos 0 → PositiveDefinite (natAbs n) (at (natAbs n) (tableOf (natAbs n) (now (low .entry)))) (at (natAbs n) (tableOf (natAbs n) (now (high .entry))))) ⌝ }
+    ensures meaning { λ r. ⌜ FactorMeaning n (now (low .entry)) (now (high .entry)) r ⌝ }
 {
     if !tables::order_ok(n) {
         return tables::answer_code(Answer::Refused(Refusal::Order));
@@ -75,7 +74,7 @@ fn answer_vector(n: usize, low: &[u8], high: &[u8], vector: &[u8]) -> Answer
 #[no_mangle]
 pub extern "C" fn hb_test_vector(n: i64, low: &[u8], high: &[u8], vector: &[u8]) -> i64
     ensures exact { λ r. ⌜ r ≡ testVectorEntry n (now (low .entry)) (now (high .entry)) (now (vector .entry)) ⌝ }
-    ensures meaning { λ r. ⌜ VectorMeaning r n (now (low .entry)) (now (high .entry)) (now (vector .entry)) ⌝ }
+    ensures meaning { λ r. ⌜ VectorMeaning n (now (low .entry)) (now (high .entry)) (now (vector .entry)) r ⌝ }
 {
     if !tables::order_ok(n) {
         return tables::answer_code(Answer::Refused(Refusal::Order));
@@ -85,18 +84,6 @@ pub extern "C" fn hb_test_vector(n: i64, low: &[u8], high: &[u8], vector: &[u8])
         return tables::answer_code(Answer::Refused(Refusal::Length));
     }
     tables::answer_code(answer_vector(m, low, high, vector))
-}
-
-// A verdict's number: 0 definite, -1 not definite, -2 undecided, else the refusal's.
-fn verdict_code(v: Verdict) -> i64
-    ensures { λ r. ⌜ r ≡ verdictCode v ⌝ }
-{
-    match v {
-        Verdict::Definite => 0,
-        Verdict::NotDefinite => -1,
-        Verdict::Undecided => -2,
-        Verdict::Refused(r) => tables::refusal_number(r) as i64,
-    }
 }
 
 // Stores row i of the factor whose columns stand in t, behind the rows before it.
@@ -162,11 +149,11 @@ pub extern "C" fn hb_judge(
     factor: &mut [u8],
     vector: &mut [u8],
 ) -> i64
-    ensures exact { λ r. ⌜ _≡_ {A = JudgeAnswer} (record { number = r; factor = now (factor .exit); vector = now (vector .exit) }) (judgeEntry n (now (low .entry)) (now (high .entry)) (now (factor .entry)) (now (vector .entry))) ⌝ }
-    ensures meaning { λ r. ⌜ JudgeMeaning r n (now (low .entry)) (now (high .entry)) (now (factor .exit)) (now (vector .exit)) ⌝ }
+    ensures exact { λ r. ⌜ _≡_ {A = JudgeResult} (record { number = r; factor = now (factor .exit); vector = now (vector .exit) }) (judgeEntry n (now (low .entry)) (now (high .entry)) (now (factor .entry)) (now (vector .entry))) ⌝ }
+    ensures meaning { λ r. ⌜ JudgeMeaning n (now (low .entry)) (now (high .entry)) r (now (factor .exit)) (now (vector .exit)) ⌝ }
 {
     if !tables::order_ok(n) {
-        return verdict_code(Verdict::Refused(Refusal::Order));
+        return verdict::judge::verdict_code(Verdict::Refused(Refusal::Order));
     }
     let m = n as usize;
     if !verdict::judge::sizes_ok(
@@ -177,20 +164,9 @@ pub extern "C" fn hb_judge(
         factor.len(),
         vector.len(),
     ) {
-        return verdict_code(Verdict::Refused(Refusal::Length));
+        return verdict::judge::verdict_code(Verdict::Refused(Refusal::Length));
     }
-    verdict_code(judge_buffers(m, low, high, factor, vector))
-}
-
-// An answer's number: 0 sides, -1 empty, else the refusal's.
-fn box_code(a: BoxAnswer) -> i64
-    ensures { λ r. ⌜ r ≡ boxCode a ⌝ }
-{
-    match a {
-        BoxAnswer::Sides => 0,
-        BoxAnswer::Empty => -1,
-        BoxAnswer::Refused(r) => tables::refusal_number(r) as i64,
-    }
+    verdict::judge::verdict_code(judge_buffers(m, low, high, factor, vector))
 }
 
 // The box of the numbers that the buffers spell. Side k stands at 2 k and 2 k + 1 of x.
@@ -254,11 +230,11 @@ pub extern "C" fn hb_box(
     centre: &[u8],
     sides: &mut [u8],
 ) -> i64
-    ensures exact { λ r. ⌜ _≡_ {A = BoxEntry} (record { number = r; sides = now (sides .exit) }) (boxEntry n (now (low .entry)) (now (high .entry)) (now (linear .entry)) limit (now (centre .entry)) (now (sides .entry))) ⌝ }
-    ensures meaning { λ r. ⌜ BoxMeaning r n (now (low .entry)) (now (high .entry)) (now (linear .entry)) limit (now (sides .exit)) ⌝ }
+    ensures exact { λ r. ⌜ _≡_ {A = BoxResult} (record { number = r; sides = now (sides .exit) }) (boxEntry n (now (low .entry)) (now (high .entry)) (now (linear .entry)) limit (now (centre .entry)) (now (sides .entry))) ⌝ }
+    ensures meaning { λ r. ⌜ BoxMeaning n (now (low .entry)) (now (high .entry)) (now (linear .entry)) limit r (now (sides .exit)) ⌝ }
 {
     if !tables::order_ok(n) {
-        return box_code(BoxAnswer::Refused(Refusal::Order));
+        return enclosure::enclose::box_code(BoxAnswer::Refused(Refusal::Order));
     }
     let m = n as usize;
     let pairs = m + m;
@@ -272,7 +248,7 @@ pub extern "C" fn hb_box(
         centre.len(),
         sides.len(),
     ) {
-        return box_code(BoxAnswer::Refused(Refusal::Length));
+        return enclosure::enclose::box_code(BoxAnswer::Refused(Refusal::Length));
     }
-    box_code(box_buffers(m, low, high, linear, limit, centre, sides))
+    enclosure::enclose::box_code(box_buffers(m, low, high, linear, limit, centre, sides))
 }

@@ -141,12 +141,15 @@ module _ (n : ℕ) (o : n ≤ greatestOrder) (L U : Matrix) (b : Bounds n L U) w
       go true q k = h .0
       go false q k = k
 
+  pub stops-fitting : ours n L U .ends ≡ false → Fitting n (shownBy (first (λ x. shows n L U (nth x)) (listed n L U)))
+  stops-fitting e = first-fitting (λ x. shows n L U (nth x)) (listed n L U) (listed-sized e)
+
   judged-fitting : Fitting n (judged n L U)
   judged-fitting = go (ours n L U .ends) refl
     where
       go : (q : Bool) → ours n L U .ends ≡ q → Fitting n (judged n L U)
       go true e = subst (Fitting n) (sym (judged-ends n L U e)) (factor-sized n _ (ends-shape-takeOff n o L U b (of-true e)))
-      go false e = subst (Fitting n) (sym (judged-stops n L U e)) (first-fitting (λ x. shows n L U (nth x)) (listed n L U) (listed-sized e))
+      go false e = subst (Fitting n) (sym (judged-stops n L U e)) (stops-fitting e)
 
 pub judgement-fitting : (n : ℕ) → n ≤ greatestOrder → (l u : List ℤ) → Fitting n (judgement n l u)
 unfolding judgement after

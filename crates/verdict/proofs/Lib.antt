@@ -1,5 +1,6 @@
 pub mod Writing
 pub mod Listing
 pub mod Decisions
-pub mod Meanings
 pub mod Fitting
+pub mod Meanings
+pub mod Codes

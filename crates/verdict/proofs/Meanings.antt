@@ -7,30 +7,31 @@ use mathlib.Core.Option.{Option, none, some}
 use Prim.Native.Nat.{ℕ, _≤_, _<_}
 use lib.Dec.{T}
 use lib.IntN.{ℤ, natAbs}
-use Rattle.tables.specs.Ranges.{greatestOrder}
+use Rattle.tables.specs.Ranges.{greatestOrder, vectorRange}
 use Rattle.tables.specs.Matrix.{Matrix, at, nth, table}
 use Rattle.tables.specs.Bounds.{Bounds}
-use Rattle.tables.specs.Checks.{firstRefusal, tableChecks}
+use Rattle.tables.specs.Checks.{within, allWithin, firstRefusal, tableChecks}
 use Rattle.tables.specs.Answers.{after, entryChecks, yesOrNo}
 use Rattle.tables.specs.declared.Refusal.{Refusal}
 use Rattle.tables.specs.declared.Checked.{Checked}
 use Rattle.tables.specs.declared.Checked.the-variants.{Passed, Refused}
 use Rattle.tables.specs.declared.Answer.the-variants as Answer
-use Rattle.tables.proofs.Checks.{of-true, true-of, all-ext, passed-bounds, first-passed, order-of}
+use Rattle.tables.proofs.Checks.{of-true, true-of, and-left, and-of, all-of, all-ext, within-true, passed-bounds, first-passed, order-of}
 use Rattle.tables.proofs.Matrix.{at-table}
 use Rattle.tables.proofs.Answers.{offer-passed}
 use Rattle.cholesky.specs.Factoring.{entries}
-use Rattle.residual.specs.Residual.{accepts}
 use Rattle.residual.specs.FactorTest.{factorEntry, factorShape, factorAnswer}
 use Rattle.residual.proofs.Offers.{accepts-ext}
 use Rattle.theorems.proofs.Theorems.{ends-shape-takeOff, ends-accepted-takeOff, ends-definite-takeOff, margin-ends-takeOff}
-use Rattle.vectors.specs.Least.{shows}
+use Rattle.vectors.specs.Least.{nonzero, shows}
+use Rattle.vectors.specs.VectorTest.{vectorShape, vectorAnswer}
 use Rattle.vectors.proofs.Showing.{shows-witness, shows-not-definite}
 use Rattle.tried.specs.Tried.{first}
 use Rattle.verdict.specs.Judge.{Judgement, definite, refused, ours, listed, shownBy, judged, judgement, written, judge, Meaning}
 use Rattle.verdict.specs.declared.judge.Verdict.{Verdict}
 use Rattle.verdict.specs.declared.judge.Verdict.the-variants as Verdict
 use Rattle.verdict.proofs.Decisions.{judged-ends, judged-stops}
+use Rattle.verdict.proofs.Fitting.{Sized, Fitting, stops-fitting}
 
 -- ---- the first that passes: it stands in the list and passes, or none does
 module _ (p : List ℤ → Bool) where
@@ -81,6 +82,14 @@ module _ (n : ℕ) (o : n ≤ greatestOrder) (l u : List ℤ) (p : firstRefusal 
       sym (offer-passed Answer.Refused (tableChecks n l u) _ _ p (shape-ext n (at n (table n R)) R same ∙ true-of _ (ends-shape-takeOff n o L U bounds t)))
       ∙ ap yesOrNo (accepts-ext n (at n (table n R)) R L U same ∙ true-of _ (ends-accepted-takeOff n o L U bounds t))
 
+  -- the vector test says yes of a vector in its range that shows it
+  vector-confirmed : (x : List ℤ) → Sized n vectorRange x → shows n L U (nth x) ≡ true → vectorAnswer n l u x ≡ Answer.Yes
+  unfolding vectorAnswer vectorShape allWithin shows
+  vector-confirmed x z e =
+      sym (offer-passed Answer.Refused (tableChecks n l u) _ _ p
+      (and-of (and-left (nonzero n (nth x)) _ e) (all-of (λ i. within vectorRange (nth x i)) n (λ i h. within-true (z .small i)))))
+      ∙ ap yesOrNo e
+
   abbrev Means : Judgement → List ℤ → List ℤ → Type 0
   Means g f v = Meaning (written g f v .verdict) n l u (written g f v .factor) (written g f v .vector)
 
@@ -90,25 +99,28 @@ module _ (n : ℕ) (o : n ≤ greatestOrder) (l u : List ℤ) (p : firstRefusal 
       definite = λ e. ends-definite-takeOff n o L U bounds t;
       accepted = λ e. factor-accepted t;
       shown = λ e. absurd (false≢true cc);
+      confirmed = λ e. absurd (false≢true cc);
       from-list = λ e. absurd (false≢true cc);
       exactly = λ a x m e. absurd (ends-shows-nothing t (nth x) e);
       margin = λ a m. refl;
     }
 
-    stops-means : ours n L U .ends ≡ false → (q : Option (List ℤ)) → Picks (λ x. shows n L U (nth x)) (listed n L U) q → Means (shownBy q) f v
+    stops-means : ours n L U .ends ≡ false → (q : Option (List ℤ)) → Picks (λ x. shows n L U (nth x)) (listed n L U) q → Fitting n (shownBy q) → Means (shownBy q) f v
     unfolding Picks
-    stops-means s (some x) h = record {
+    stops-means s (some x) h z = record {
       definite = λ e. absurd (false≢true cc);
       accepted = λ e. absurd (false≢true cc);
       shown = λ e. shows-witness bounds (h .1);
+      confirmed = λ e. vector-confirmed x z (h .1);
       from-list = λ e. h .0;
       exactly = λ a x m e. refl;
       margin = λ a m. absurd (false≢true (sym s ∙ true-of _ (margin-ends-takeOff n o L U bounds m)));
     }
-    stops-means s none h = record {
+    stops-means s none h z = record {
       definite = λ e. absurd (false≢true cc);
       accepted = λ e. absurd (false≢true cc);
       shown = λ e. absurd (false≢true cc);
+      confirmed = λ e. absurd (false≢true cc);
       from-list = λ e. absurd (false≢true cc);
       exactly = λ a x m e. absurd (h x m e);
       margin = λ a m. absurd (false≢true (sym s ∙ true-of _ (margin-ends-takeOff n o L U bounds m)));
@@ -119,7 +131,7 @@ module _ (n : ℕ) (o : n ≤ greatestOrder) (l u : List ℤ) (p : firstRefusal 
       where
         go : (b : Bool) → ours n L U .ends ≡ b → Means (judged n L U) f v
         go true e = subst (λ (g : Judgement). Means g f v) (sym (judged-ends n L U e)) (ends-means (of-true e))
-        go false e = subst (λ (g : Judgement). Means g f v) (sym (judged-stops n L U e)) (stops-means e _ (first-picks (λ x. shows n L U (nth x)) (listed n L U)))
+        go false e = subst (λ (g : Judgement). Means g f v) (sym (judged-stops n L U e)) (stops-means e _ (first-picks (λ x. shows n L U (nth x)) (listed n L U)) (stops-fitting n o L U bounds e))
 
 -- ---- of any call at all
 module _ (l u f v : List ℤ) where
@@ -128,6 +140,7 @@ module _ (l u f v : List ℤ) where
     definite = λ e. absurd (false≢true cc);
     accepted = λ e. absurd (false≢true cc);
     shown = λ e. absurd (false≢true cc);
+    confirmed = λ e. absurd (false≢true cc);
     from-list = λ e. absurd (false≢true cc);
     exactly = λ a x m e. absurd (a r refl);
     margin = λ a m. absurd (a r refl);

@@ -18,6 +18,7 @@ use Rattle.cholesky.specs.Factoring.{Factoring, entries, factoring}
 use Rattle.residual.specs.FactorTest.{factorAnswer}
 use Rattle.tables.specs.declared.Answer.the-variants.{Yes}
 use Rattle.vectors.specs.Least.{shows, Witness}
+use Rattle.vectors.specs.VectorTest.{vectorAnswer}
 use Rattle.tried.specs.Tried.{tried, first}
 use Rattle.solved.specs.Solved.{solved}
 use Rattle.verdict.specs.declared.judge.Verdict.{Verdict}
@@ -101,8 +102,9 @@ pub record Meaning (r : Verdict) (n : ℕ) (l u f v : List ℤ) : Type 0 where
   -- 'definite': every member is positive definite, and the factor test accepts the factor that is written
   pub definite : r ≡ Verdict.Definite → PositiveDefinite n (at n l) (at n u)
   pub accepted : r ≡ Verdict.Definite → factorAnswer n l u f ≡ Yes
-  -- 'not definite': the vector that is written is listed, it is not zero, and some member M has x'Mx ≤ 0 for it
+  -- 'not definite': the vector that is written is listed, it is not zero, some member M has x'Mx ≤ 0 for it, and the vector test says yes of it
   pub shown : r ≡ Verdict.NotDefinite → Witness n (at n l) (at n u) (nth v)
+  pub confirmed : r ≡ Verdict.NotDefinite → vectorAnswer n l u v ≡ Yes
   pub from-list : r ≡ Verdict.NotDefinite → List·Memᴰ v (listed n (at n l) (at n u))
   -- 'not definite' wherever a listed vector shows it
   pub exactly : NotRefused r → (x : List ℤ) → List·Memᴰ x (listed n (at n l) (at n u)) → shows n (at n l) (at n u) (nth x) ≡ true → r ≡ Verdict.NotDefinite

@@ -5,7 +5,7 @@ ghost use Prim.Native.Nat.{_*_, _≤_, _<_};
 ghost use lib.IntN.{ℤ, natAbs};
 ghost use lib.ListN.{length};
 ghost use Rattle.tables.specs.Ranges.{greatestOrder};
-ghost use Rattle.verdict.specs.Judge.{Judged, judgement, judgeSizes, written, judge, Meaning};
+ghost use Rattle.verdict.specs.Judge.{Judged, judgement, judgeSizes, written, judge, verdictCode, Meaning};
 ghost use Rattle.verdict.specs.Deciding.{shownVerdict, Decided};
 use crate::factor_table::write_factor;
 use crate::listed::first_listed;
@@ -20,6 +20,18 @@ pub enum Verdict {
     NotDefinite,
     Undecided,
     Refused(Refusal),
+}
+
+// A verdict's number at a C entry: 0 definite, -1 not definite, -2 undecided, else the refusal's.
+pub fn verdict_code(v: Verdict) -> i64
+    ensures { λ r. ⌜ r ≡ verdictCode v ⌝ }
+{
+    match v {
+        Verdict::Definite => 0,
+        Verdict::NotDefinite => -1,
+        Verdict::Undecided => -2,
+        Verdict::Refused(r) => tables::refusal_number(r) as i64,
+    }
 }
 
 // The verdict after a factoring that stopped: whether a listed vector was found that shows 'not definite'.

@@ -11,7 +11,8 @@ use Rattle.tables.proofs.Checks.{order-of, order-usize}
 use Rattle.enclosure.specs.Box.{refused, boxAnswer}
 use Rattle.enclosure.specs.Act.{Enclosed, boxSizes, boxCode}
 use Rattle.enclosure.proofs.BoxCases.{box-sizes-of}
-use Rattle.hankboulder.specs.Entries.{tableOf, vectorOf, storedSides, boxStored, BoxEntry, boxEntry, BoxMeaning}
+use Rattle.hankboulder.specs.Entries.{tableOf, vectorOf, storedSides, boxStored, BoxResult, boxEntry}
+use Rattle.hankboulder.specs.Meanings.{BoxMeaning}
 use Rattle.hankboulder.proofs.Boxing.{box-means}
 use Rattle.hankboulder.proofs.Entering.{Ordered, order-held, order-fits, Entry, order-failed, sizes-held, sizes-failed, passed}
 use Rattle.hankboulder.proofs.hb_box.Statement.{statement}
@@ -24,7 +25,7 @@ ordered : (c : tie.Else1) → Ordered (start (c .before) .args .n)
 ordered c = order-held (start (c .before) .fits .n) (c .before .order-ok .ensures) (c .if1 .left)
 
 -- an answer's number, and the buffer
-abbrev numbered : Enclosed (List ℕ) → BoxEntry
+abbrev numbered : Enclosed (List ℕ) → BoxResult
 numbered j = record { number = boxCode (j .answer); sides = j .sides }
 
 unfoldable entry : (s : tie.Start) → Entry (s .fits .n) refused (λ k b. numbered (storedSides k b (s .args .sides .now)))
@@ -34,7 +35,7 @@ entry s =
     record {
       sizes = λ k. boxSizes (k * k * bytes w64) (k * bytes w64) ((k + k) * bytes w64) (length (a .low .now)) (length (a .high .now)) (length (a .linear .now)) (length (a .centre .now)) (length (a .sides .now));
       act = λ k. boxAnswer k (tableOf k (a .low .now)) (tableOf k (a .high .now)) (vectorOf k (a .linear .now)) (a .limit) (vectorOf k (a .centre .now));
-      means = λ j. BoxMeaning (j .number) (a .n) (a .low .now) (a .high .now) (a .linear .now) (a .limit) (j .sides);
+      means = λ j. BoxMeaning (a .n) (a .low .now) (a .high .now) (a .linear .now) (a .limit) (j .number) (j .sides);
       meant = box-means (a .n) (a .low .now) (a .high .now) (a .linear .now) (a .limit) (a .centre .now) (a .sides .now);
     }
 

@@ -9,7 +9,8 @@ use Rattle.integers.proofs.Machine.{clean, clean-result}
 use Rattle.tables.proofs.Checks.{order-of, order-usize}
 use Rattle.verdict.specs.Judge.{refused, judgement, Judged, judgeSizes, verdictCode}
 use Rattle.verdict.proofs.Decisions.{order-positive, judge-sizes-of}
-use Rattle.hankboulder.specs.Entries.{tableOf, stored, judgeStored, JudgeAnswer, judgeEntry, JudgeMeaning}
+use Rattle.hankboulder.specs.Entries.{tableOf, stored, judgeStored, JudgeResult, judgeEntry}
+use Rattle.hankboulder.specs.Meanings.{JudgeMeaning}
 use Rattle.hankboulder.proofs.Judging.{judge-means}
 use Rattle.hankboulder.proofs.Entering.{Ordered, order-held, order-fits, Entry, order-failed, sizes-held, sizes-failed, passed}
 use Rattle.hankboulder.proofs.hb_judge.Statement.{statement}
@@ -22,7 +23,7 @@ ordered : (c : tie.Else1) → Ordered (start (c .before) .args .n)
 ordered c = order-held (start (c .before) .fits .n) (c .before .order-ok .ensures) (c .if1 .left)
 
 -- a verdict's number, and both buffers
-abbrev numbered : Judged (List ℕ) → JudgeAnswer
+abbrev numbered : Judged (List ℕ) → JudgeResult
 numbered j = record { number = verdictCode (j .verdict); factor = j .factor; vector = j .vector }
 
 unfoldable entry : (s : tie.Start) → Entry (s .fits .n) refused (λ k g. numbered (stored k g (s .args .factor .now) (s .args .vector .now)))
@@ -32,7 +33,7 @@ entry s =
     record {
       sizes = λ k. judgeSizes (k * k * bytes w64) (k * bytes w64) (length (a .low .now)) (length (a .high .now)) (length (a .factor .now)) (length (a .vector .now));
       act = λ k. judgement k (tableOf k (a .low .now)) (tableOf k (a .high .now));
-      means = λ j. JudgeMeaning (j .number) (a .n) (a .low .now) (a .high .now) (j .factor) (j .vector);
+      means = λ j. JudgeMeaning (a .n) (a .low .now) (a .high .now) (j .number) (j .factor) (j .vector);
       meant = judge-means (a .n) (a .low .now) (a .high .now) (a .factor .now) (a .vector .now);
     }
 

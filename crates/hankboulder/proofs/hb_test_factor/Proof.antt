@@ -1,15 +1,13 @@
-use mathlib.Core.Path.{_≡_, ap, _∙_}
+use mathlib.Core.Path.{ap, _∙_}
 use borrow.Author.Needs.{needs}
-use lib.IntN.{pos, natAbs}
 use lib.ListN.{length}
 use Rattle.integers.proofs.Machine.{clean, clean-result}
-use Rattle.tables.specs.Matrix.{at}
-use Rattle.tables.specs.Members.{PositiveDefinite}
 use Rattle.tables.specs.Answers.{answerCode}
 use Rattle.tables.specs.declared.Answer.the-variants as Answer
 use Rattle.tables.proofs.Checks.{order-of, order-usize, sizes-of}
 use Rattle.residual.specs.FactorTest.{factorAnswer}
 use Rattle.hankboulder.specs.Entries.{tableOf, factorBuffers, testFactorEntry}
+use Rattle.hankboulder.specs.Meanings.{FactorMeaning}
 use Rattle.hankboulder.proofs.Codes.{factor-means}
 use Rattle.hankboulder.proofs.Entering.{Ordered, order-held, order-fits, Entry, order-failed, sizes-held, sizes-failed, passed}
 use Rattle.hankboulder.proofs.hb_test_factor.Statement.{statement}
@@ -25,11 +23,10 @@ unfoldable entry : (s : tie.Start) → Entry (s .fits .n) Answer.Refused (λ k. 
 unfolding testFactorEntry
 entry s =
     let a = s .args in
-    let n = natAbs (a .n) in
     record {
       sizes = λ k. factorBuffers k (length (a .low .now)) (length (a .high .now)) (length (a .factor .now));
       act = λ k. factorAnswer k (tableOf k (a .low .now)) (tableOf k (a .high .now)) (tableOf k (a .factor .now));
-      means = λ r. r ≡ pos 0 → PositiveDefinite n (at n (tableOf n (a .low .now))) (at n (tableOf n (a .high .now)));
+      means = FactorMeaning (a .n) (a .low .now) (a .high .now);
       meant = factor-means (a .n) (a .low .now) (a .high .now) (a .factor .now);
     }
 

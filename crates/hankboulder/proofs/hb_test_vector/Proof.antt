@@ -6,7 +6,8 @@ use Rattle.tables.specs.Answers.{answerCode}
 use Rattle.tables.specs.declared.Answer.the-variants as Answer
 use Rattle.tables.proofs.Checks.{order-of, order-usize, sizes-of}
 use Rattle.vectors.specs.VectorTest.{vectorAnswer}
-use Rattle.hankboulder.specs.Entries.{tableOf, vectorOf, vectorBuffers, testVectorEntry, VectorMeaning}
+use Rattle.hankboulder.specs.Entries.{tableOf, vectorOf, vectorBuffers, testVectorEntry}
+use Rattle.hankboulder.specs.Meanings.{VectorMeaning}
 use Rattle.hankboulder.proofs.Codes.{vector-means}
 use Rattle.hankboulder.proofs.Entering.{Ordered, order-held, order-fits, Entry, order-failed, sizes-held, sizes-failed, passed}
 use Rattle.hankboulder.proofs.hb_test_vector.Statement.{statement}
@@ -25,7 +26,7 @@ entry s =
     record {
       sizes = λ k. vectorBuffers k (length (a .low .now)) (length (a .high .now)) (length (a .vector .now));
       act = λ k. vectorAnswer k (tableOf k (a .low .now)) (tableOf k (a .high .now)) (vectorOf k (a .vector .now));
-      means = λ r. VectorMeaning r (a .n) (a .low .now) (a .high .now) (a .vector .now);
+      means = VectorMeaning (a .n) (a .low .now) (a .high .now) (a .vector .now);
       meant = vector-means (a .n) (a .low .now) (a .high .now) (a .vector .now);
     }
 

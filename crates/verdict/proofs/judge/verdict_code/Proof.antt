@@ -3,9 +3,9 @@ use native.Mathlib.Omega.{arith}
 use borrow.Author.Needs.{needs}
 use lib.IntN.{pos}
 use Rattle.integers.proofs.Machine.{read-i64}
 use Rattle.verdict.specs.Judge.{verdictCode}
-use Rattle.hankboulder.proofs.verdict_code.Statement.{statement}
-use Rattle.hankboulder.proofs.verdict_code.Tie as tie
+use Rattle.verdict.proofs.judge.verdict_code.Statement.{statement}
+use Rattle.verdict.proofs.judge.verdict_code.Tie as tie
 
 pub verdict-code-spec : {M : Type 1} → statement M
 unfolding verdictCode

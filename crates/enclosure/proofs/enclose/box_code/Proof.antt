@@ -3,9 +3,9 @@ use native.Mathlib.Omega.{arith}
 use borrow.Author.Needs.{needs}
 use lib.IntN.{pos}
 use Rattle.integers.proofs.Machine.{read-i64}
 use Rattle.enclosure.specs.Act.{boxCode}
-use Rattle.hankboulder.proofs.box_code.Statement.{statement}
-use Rattle.hankboulder.proofs.box_code.Tie as tie
+use Rattle.enclosure.proofs.enclose.box_code.Statement.{statement}
+use Rattle.enclosure.proofs.enclose.box_code.Tie as tie
 
 pub box-code-spec : {M : Type 1} → statement M
 unfolding boxCode
