@@ -19,9 +19,10 @@ use Rattle.enclosure.specs.Act.{handed, boxSizes, Meaning}
 use Rattle.enclosure.proofs.BoxFitting.{Fitting, answer-fitting}
 use Rattle.enclosure.proofs.BoxMeanings.{entry-means}
 use Rattle.enclosure.proofs.BoxCodes.{code-sides, code-empty}
-use Rattle.hankboulder.specs.Entries.{tableOf, vectorOf, sidesOf, storedSides, boxStored, boxEntry}
+use Rattle.buffers.specs.Buffers.{tableOf, vectorOf, sidesOf, storedSides}
+use Rattle.hankboulder.specs.Entries.{boxStored, boxEntry}
 use Rattle.hankboulder.specs.Meanings.{BoxMeaning}
-use Rattle.hankboulder.proofs.Stores.{read-numbers}
+use Rattle.buffers.proofs.Stores.{read-numbers}
 
 -- ---- what is read back is what was to be written
 module _ (k : ℕ) (l u a : List ℤ) (α : ℤ) (s : List ℕ) where

@@ -14,7 +14,8 @@ use Rattle.residual.specs.FactorTest.{factorAnswer}
 use Rattle.vectors.specs.VectorTest.{vectorAnswer}
 use Rattle.residual.proofs.Meaning.{answer-definite}
 use Rattle.vectors.proofs.Answers.{answer-means, after-means}
-use Rattle.hankboulder.specs.Entries.{tableOf, vectorOf, factorBuffers, vectorBuffers, testFactorEntry, testVectorEntry}
+use Rattle.buffers.specs.Buffers.{tableOf, vectorOf}
+use Rattle.hankboulder.specs.Entries.{factorBuffers, vectorBuffers, testFactorEntry, testVectorEntry}
 use Rattle.hankboulder.specs.Meanings.{FactorMeaning, VectorMeaning}
 
 yes-code : (n : ℤ) (sized : Bool) {a : Answer} → orderOk n ≡ true → sized ≡ true → a ≡ Answer.Yes →

@@ -20,9 +20,10 @@ use Rattle.verdict.proofs.Fitting.{Fitting, judgement-fitting}
 use Rattle.verdict.proofs.Decisions.{judge-sizes-of}
 use Rattle.verdict.proofs.Meanings.{entry-means}
 use Rattle.verdict.proofs.Codes.{code-definite, code-not, code-given}
-use Rattle.hankboulder.specs.Entries.{tableOf, vectorOf, stored, judgeStored, judgeEntry}
+use Rattle.buffers.specs.Buffers.{tableOf, vectorOf, stored}
+use Rattle.hankboulder.specs.Entries.{judgeStored, judgeEntry}
 use Rattle.hankboulder.specs.Meanings.{JudgeMeaning}
-use Rattle.hankboulder.proofs.Stores.{read-numbers}
+use Rattle.buffers.proofs.Stores.{read-numbers}
 use Rattle.hankboulder.proofs.Codes.{factor-code, vector-code}
 use Rattle.hankboulder.proofs.Entering.{entry-checked}
 

@@ -1,32 +1,21 @@
 -- Document 01: "The display's firmware is C and calls each of the four acts on numbers and byte slices". What each entry answers, over bytes.
-use mathlib.Core.Path.{_≡_}
 use mathlib.Core.Bool.{Bool}
 use mathlib.Core.List.{List}
 use Prim.Native.Nat.{ℕ, _+_, _*_}
 use lib.IntN.{ℤ, natAbs}
-use lib.ListN.{length, take}
+use lib.ListN.{length}
 use mir.Syntax.{w64}
 use mir.Val.{bytes}
-use Rattle.words.specs.Numbers.{numbersOf, bytesOf}
-use Rattle.tables.specs.Matrix.{Matrix, table}
 use Rattle.tables.specs.Checks.{sizesOk, firstRefusal}
 use Rattle.tables.specs.Answers.{after, entryChecks, answerCode}
 use Rattle.tables.specs.declared.Answer.the-variants as Answer
 use Rattle.residual.specs.FactorTest.{factorAnswer}
 use Rattle.vectors.specs.VectorTest.{vectorAnswer}
-use Rattle.verdict.specs.Judge.{Judgement, refused, judgement, Judged, handed, judgeSizes, verdictCode}
-use Rattle.enclosure.specs.Box.{Box, boxAnswer}
+use Rattle.verdict.specs.Judge.{refused, judgement, Judged, judgeSizes, verdictCode}
+use Rattle.enclosure.specs.Box.{boxAnswer}
 use Rattle.enclosure.specs.Box as Box
 use Rattle.enclosure.specs.Act.{Enclosed, boxSizes, boxCode}
-use Rattle.enclosure.specs.Act as Act
-
--- the table of order n that a buffer spells: n² numbers of 8 bytes, signed, low byte first
-abbrev pub tableOf : ℕ → List ℕ → List ℤ
-tableOf n s = numbersOf w64 s (n * n)
-
--- the vector of order n that a buffer spells
-abbrev pub vectorOf : ℕ → List ℕ → List ℤ
-vectorOf n s = numbersOf w64 s n
+use Rattle.buffers.specs.Buffers.{tableOf, vectorOf, stored, storedSides}
 
 -- 2, over bytes: each buffer has 8 bytes for each of its numbers
 abbrev pub factorBuffers : ℕ → ℕ → ℕ → ℕ → Bool
@@ -50,14 +39,6 @@ testVectorEntry n l u v =
     (vectorAnswer k (tableOf k l) (tableOf k u) (vectorOf k v)))
 
 -- ---- hb_judge
--- the factor's table or the vector is written, 8 bytes for each number; the other buffer is kept
-abbrev pub stored : ℕ → Judgement → List ℕ → List ℕ → Judged (List ℕ)
-stored n = handed (λ t. bytesOf w64 t (n * n)) (λ x. bytesOf w64 x n)
-
--- the bytes of the first k numbers of M's table, of order n, stand at the front of a buffer
-abbrev pub Front : ℕ → Matrix → List ℕ → ℕ → Type 0
-Front n M s k = take (k * bytes w64) s ≡ bytesOf w64 (table n M) k
-
 -- checks 1 and 2, and then the judge of the numbers that the buffers spell
 unfoldable pub judgeStored : ℤ → List ℕ → List ℕ → List ℕ → List ℕ → Judged (List ℕ)
 judgeStored n l u f v =
@@ -78,14 +59,6 @@ judgeEntry n l u f v =
     record { number = verdictCode (j .verdict); factor = j .factor; vector = j .vector }
 
 -- ---- hb_box
--- the sides of order n that a buffer spells
-abbrev pub sidesOf : ℕ → List ℕ → List ℤ
-sidesOf n s = numbersOf w64 s (n + n)
-
--- the sides are written, 8 bytes for each number, or the buffer is kept
-abbrev pub storedSides : ℕ → Box → List ℕ → Enclosed (List ℕ)
-storedSides n = Act.handed (λ s. bytesOf w64 s (n + n))
-
 -- checks 1 and 2, and then the box of the numbers that the buffers spell
 unfoldable pub boxStored : ℤ → List ℕ → List ℕ → List ℕ → ℤ → List ℕ → List ℕ → Enclosed (List ℕ)
 boxStored n l u a α c s =

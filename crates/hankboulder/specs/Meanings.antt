@@ -10,7 +10,8 @@ use Rattle.tables.specs.Members.{PositiveDefinite, Margin}
 use Rattle.vectors.specs.Least.{shows, Witness}
 use Rattle.verdict.specs.Judge.{listed}
 use Rattle.enclosure.specs.Points.{Point, Held}
-use Rattle.hankboulder.specs.Entries.{tableOf, vectorOf, sidesOf, testFactorEntry, testVectorEntry}
+use Rattle.buffers.specs.Buffers.{tableOf, vectorOf, sidesOf}
+use Rattle.hankboulder.specs.Entries.{testFactorEntry, testVectorEntry}
 
 -- k is the order, L and U the bounds
 module _ (n : ℤ) (l u : List ℕ) where

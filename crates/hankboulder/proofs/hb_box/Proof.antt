@@ -11,7 +11,8 @@ use Rattle.tables.proofs.Checks.{order-of, order-usize}
 use Rattle.enclosure.specs.Box.{refused, boxAnswer}
 use Rattle.enclosure.specs.Act.{Enclosed, boxSizes, boxCode}
 use Rattle.enclosure.proofs.BoxCases.{box-sizes-of}
-use Rattle.hankboulder.specs.Entries.{tableOf, vectorOf, storedSides, boxStored, BoxResult, boxEntry}
+use Rattle.buffers.specs.Buffers.{tableOf, vectorOf, storedSides}
+use Rattle.hankboulder.specs.Entries.{boxStored, BoxResult, boxEntry}
 use Rattle.hankboulder.specs.Meanings.{BoxMeaning}
 use Rattle.hankboulder.proofs.Boxing.{box-means}
 use Rattle.hankboulder.proofs.Entering.{Ordered, order-held, order-fits, Entry, order-failed, sizes-held, sizes-failed, passed}

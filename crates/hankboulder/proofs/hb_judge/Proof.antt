@@ -9,7 +9,8 @@ use Rattle.integers.proofs.Machine.{clean, clean-result}
 use Rattle.tables.proofs.Checks.{order-of, order-usize}
 use Rattle.verdict.specs.Judge.{refused, judgement, Judged, judgeSizes, verdictCode}
 use Rattle.verdict.proofs.Decisions.{order-positive, judge-sizes-of}
-use Rattle.hankboulder.specs.Entries.{tableOf, stored, judgeStored, JudgeResult, judgeEntry}
+use Rattle.buffers.specs.Buffers.{tableOf, stored}
+use Rattle.hankboulder.specs.Entries.{judgeStored, JudgeResult, judgeEntry}
 use Rattle.hankboulder.specs.Meanings.{JudgeMeaning}
 use Rattle.hankboulder.proofs.Judging.{judge-means}
 use Rattle.hankboulder.proofs.Entering.{Ordered, order-held, order-fits, Entry, order-failed, sizes-held, sizes-failed, passed}

@@ -6,7 +6,8 @@ use Rattle.tables.specs.Answers.{answerCode}
 use Rattle.tables.specs.declared.Answer.the-variants as Answer
 use Rattle.tables.proofs.Checks.{order-of, order-usize, sizes-of}
 use Rattle.residual.specs.FactorTest.{factorAnswer}
-use Rattle.hankboulder.specs.Entries.{tableOf, factorBuffers, testFactorEntry}
+use Rattle.buffers.specs.Buffers.{tableOf}
+use Rattle.hankboulder.specs.Entries.{factorBuffers, testFactorEntry}
 use Rattle.hankboulder.specs.Meanings.{FactorMeaning}
 use Rattle.hankboulder.proofs.Codes.{factor-means}
 use Rattle.hankboulder.proofs.Entering.{Ordered, order-held, order-fits, Entry, order-failed, sizes-held, sizes-failed, passed}

@@ -6,7 +6,8 @@ use Rattle.tables.specs.Answers.{answerCode}
 use Rattle.tables.specs.declared.Answer.the-variants as Answer
 use Rattle.tables.proofs.Checks.{order-of, order-usize, sizes-of}
 use Rattle.vectors.specs.VectorTest.{vectorAnswer}
-use Rattle.hankboulder.specs.Entries.{tableOf, vectorOf, vectorBuffers, testVectorEntry}
+use Rattle.buffers.specs.Buffers.{tableOf, vectorOf}
+use Rattle.hankboulder.specs.Entries.{vectorBuffers, testVectorEntry}
 use Rattle.hankboulder.specs.Meanings.{VectorMeaning}
 use Rattle.hankboulder.proofs.Codes.{vector-means}
 use Rattle.hankboulder.proofs.Entering.{Ordered, order-held, order-fits, Entry, order-failed, sizes-held, sizes-failed, passed}

@@ -5,9 +5,9 @@ use borrow.Author.Needs.{needs}
 use Rattle.integers.proofs.Machine.{clean}
 use Rattle.tables.proofs.Matrix.{at-most-64}
 use Rattle.enclosure.proofs.BoxCases.{stated-by}
-use Rattle.hankboulder.proofs.Padded.{room, box-loaded}
-use Rattle.hankboulder.proofs.box_numbers.Statement.{statement}
-use Rattle.hankboulder.proofs.box_numbers.Tie as tie
+use Rattle.buffers.proofs.Padded.{room, box-loaded}
+use Rattle.buffers.proofs.box_numbers.Statement.{statement}
+use Rattle.buffers.proofs.box_numbers.Tie as tie
 
 -- where one, two, three and all four are loaded
 abbrev three : (c : tie.After-load-numbers4) → tie.After-load-numbers3

@@ -10,9 +10,9 @@ use Rattle.words.proofs.Filling.{fill-front}
 use Rattle.tables.specs.Matrix.{at, table}
 use Rattle.tables.proofs.Matrix.{inside, at-most-64, at-table}
 use Rattle.cholesky.specs.Store.{triangle}
-use Rattle.hankboulder.specs.Entries.{Front}
-use Rattle.hankboulder.proofs.store_row.Statement.{statement}
-use Rattle.hankboulder.proofs.store_row.Tie as tie
+use Rattle.buffers.specs.Buffers.{Front}
+use Rattle.buffers.proofs.store_row.Statement.{statement}
+use Rattle.buffers.proofs.store_row.Tie as tie
 
 abbrev Inv-loop : tie.InvT-loop
 Inv-loop n t i factor₀ start j₀ factor j = (j ≤ n) × (length factor ≡ length factor₀) × Front n (triangle t) factor (i * n + j)

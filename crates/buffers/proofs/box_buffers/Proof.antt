@@ -5,9 +5,9 @@ use native.Mathlib.Omega.{arith}
 use borrow.Author.Needs.{needs}
 use Rattle.integers.proofs.Machine.{clean}
 use Rattle.enclosure.proofs.BoxCases.{given-sides, given-empty, given-refused}
-use Rattle.hankboulder.proofs.Stores.{vector-stored}
-use Rattle.hankboulder.proofs.box_buffers.Statement.{statement}
-use Rattle.hankboulder.proofs.box_buffers.Tie as tie
+use Rattle.buffers.proofs.Stores.{vector-stored}
+use Rattle.buffers.proofs.box_buffers.Statement.{statement}
+use Rattle.buffers.proofs.box_buffers.Tie as tie
 
 pub box-buffers-spec : {M : Type 1} → statement M
 box-buffers-spec =

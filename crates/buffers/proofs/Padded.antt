@@ -18,7 +18,7 @@ use Rattle.residual.specs.FactorTest.{factorAnswer}
 use Rattle.vectors.specs.VectorTest.{vectorShape, vectorAnswer}
 use Rattle.verdict.specs.Judge.{judgement}
 use Rattle.enclosure.specs.Box.{boxAnswer}
-use Rattle.hankboulder.specs.Entries.{tableOf, vectorOf}
+use Rattle.buffers.specs.Buffers.{tableOf, vectorOf}
 
 abbrev zeros : ℕ → List ℤ
 zeros m = replicate m (pos 0)

@@ -10,9 +10,9 @@ use mir.Syntax.{w64}
 use mir.Val.{bytes}
 use Rattle.words.specs.Numbers.{bytesOf}
 use Rattle.cholesky.specs.Store.{triangle}
-use Rattle.hankboulder.specs.Entries.{Front}
-use Rattle.hankboulder.proofs.store_factor.Statement.{statement}
-use Rattle.hankboulder.proofs.store_factor.Tie as tie
+use Rattle.buffers.specs.Buffers.{Front}
+use Rattle.buffers.proofs.store_factor.Statement.{statement}
+use Rattle.buffers.proofs.store_factor.Tie as tie
 
 abbrev Inv-loop : tie.InvT-loop
 Inv-loop n t factor₀ i₀ factor i = (i ≤ n) × (length factor ≡ length factor₀) × Front n (triangle t) factor (i * n)

@@ -2,9 +2,9 @@ use mathlib.Core.Path.{refl, _∙_}
 use native.Mathlib.Omega.{arith}
 use borrow.Author.Needs.{needs}
 use Rattle.tables.proofs.Matrix.{at-most-64}
-use Rattle.hankboulder.proofs.Padded.{room, vector-loaded}
-use Rattle.hankboulder.proofs.answer_vector.Statement.{statement}
-use Rattle.hankboulder.proofs.answer_vector.Tie as tie
+use Rattle.buffers.proofs.Padded.{room, vector-loaded}
+use Rattle.buffers.proofs.answer_vector.Statement.{statement}
+use Rattle.buffers.proofs.answer_vector.Tie as tie
 
 -- where one, two and all three are loaded
 abbrev both : (c : tie.After-load-numbers3) → tie.After-load-numbers2

@@ -6,11 +6,11 @@ use Rattle.tables.proofs.Matrix.{at-most-64}
 use Rattle.verdict.specs.Deciding.{stated}
 use Rattle.verdict.specs.Judge.{judgement}
 use Rattle.verdict.proofs.Decisions.{given-definite, given-not, given-undecided, given-refused}
-use Rattle.hankboulder.specs.Entries.{tableOf}
-use Rattle.hankboulder.proofs.Padded.{room, judgement-loaded}
-use Rattle.hankboulder.proofs.Stores.{vector-stored}
-use Rattle.hankboulder.proofs.judge_buffers.Statement.{statement}
-use Rattle.hankboulder.proofs.judge_buffers.Tie as tie
+use Rattle.buffers.specs.Buffers.{tableOf}
+use Rattle.buffers.proofs.Padded.{room, judgement-loaded}
+use Rattle.buffers.proofs.Stores.{vector-stored}
+use Rattle.buffers.proofs.judge_buffers.Statement.{statement}
+use Rattle.buffers.proofs.judge_buffers.Tie as tie
 
 -- where both tables are loaded
 abbrev one : (c : tie.After-load-numbers2) → tie.After-load-numbers
