@@ -76,8 +76,7 @@ fn boxed() {
     let linear = [-8i64; 1];
     let centre = [2i64; 1];
     let mut sides = [5i64; 2];
-    let answer =
-        enclosure::enclose::enclose(1, &matrix, &matrix, &linear, 0, &centre, &mut sides);
+    let answer = enclosure::enclose::enclose(1, &matrix, &matrix, &linear, 0, &centre, &mut sides);
     print_number(b"enclose", enclosure::enclose::box_code(answer));
     print_two(b"sides", &sides);
 }
