@@ -47,8 +47,10 @@ pub struct Act {
 /// its own.
 const THREADS: u64 = 4;
 
-/// Each generated call is followed by this many variations of it.
+/// A generated call is followed by this many variations of it, and one that is
+/// refused by fewer: most of these are refused again.
 const VARIATIONS: usize = 11;
+const VARIATIONS_OF_REFUSED: usize = 1;
 
 /// The surroundings of a call that is looked at for its outcome alone
 const PLAIN: Surroundings = Surroundings {
@@ -133,12 +135,14 @@ impl Act {
         outcome
     }
 
-    /// Compares generated calls and variations of them, and counts the calls.
-    pub fn agree_on_generated(&self, seed: u64, calls: usize) -> Counts {
+    /// Compares generated calls and variations of them until so many were not
+    /// refused, and counts the calls.
+    pub fn agree_on_generated(&self, seed: u64, answered: usize) -> Counts {
         thread::scope(|scope| {
             let part = |thread| {
                 let seed = seed * THREADS + thread;
-                scope.spawn(move || self.agree_on_part(seed, calls / THREADS as usize))
+                let answered = answered.div_ceil(THREADS as usize);
+                scope.spawn(move || self.agree_on_part(seed, answered))
             };
             let parts: Vec<_> = (0..THREADS).map(part).collect();
             let joined = parts.into_iter().map(|part| part.join());
@@ -148,14 +152,20 @@ impl Act {
         })
     }
 
-    fn agree_on_part(&self, seed: u64, calls: usize) -> Counts {
+    fn agree_on_part(&self, seed: u64, answered: usize) -> Counts {
         let mut generator = Generator::new(seed);
         let mut random = Random::new(!seed);
         let mut counts = Counts::default();
-        while counts.total() < calls {
+        while counts.answered() < answered {
             let call = (self.generate)(&mut generator);
-            counts.add(call.n, self.agree(&call, random.index(8)));
-            for _ in 0..VARIATIONS {
+            let outcome = self.agree(&call, random.index(8));
+            counts.add(call.n, outcome);
+            let variations = if outcome.refused() {
+                VARIATIONS_OF_REFUSED
+            } else {
+                VARIATIONS
+            };
+            for _ in 0..variations {
                 let call = varied(&call, self.inputs, self.limited, &mut random);
                 counts.add(call.n, self.agree(&call, random.index(8)));
             }

@@ -47,6 +47,13 @@ pub struct Outcome {
     pub detail: Option<Detail>,
 }
 
+impl Outcome {
+    /// Whether the answer is the number of a refusal.
+    pub fn refused(&self) -> bool {
+        self.answer > 0
+    }
+}
+
 impl From<i64> for Outcome {
     fn from(answer: i64) -> Outcome {
         Outcome {
@@ -85,29 +92,34 @@ impl Counts {
         *self.calls.entry((order, outcome)).or_default() += 1;
     }
 
-    /// All calls.
-    pub fn total(&self) -> usize {
-        self.calls.values().sum()
+    /// Calls that were not refused.
+    pub fn answered(&self) -> usize {
+        self.of(|_, outcome| !outcome.refused())
     }
 
     /// Calls of an order; `None` stands for all orders out of range.
     pub fn of_order(&self, order: Option<i64>) -> usize {
-        self.of(order, |_| true)
+        self.of(|n, _| n == order)
+    }
+
+    /// Calls with an answer.
+    pub fn of_answer(&self, answer: i64) -> usize {
+        self.of(|_, outcome| outcome.answer == answer)
     }
 
     /// Calls of an order with an answer.
-    pub fn of_answer(&self, order: Option<i64>, answer: i64) -> usize {
-        self.of(order, |outcome| outcome.answer == answer)
+    pub fn of_answer_at(&self, order: Option<i64>, answer: i64) -> usize {
+        self.of(|n, outcome| n == order && outcome.answer == answer)
     }
 
     /// Calls of an order with an answer that came about so.
     pub fn of_detail(&self, order: Option<i64>, detail: Detail) -> usize {
-        self.of(order, |outcome| outcome.detail == Some(detail))
+        self.of(|n, outcome| n == order && outcome.detail == Some(detail))
     }
 
-    fn of(&self, order: Option<i64>, counted: impl Fn(&Outcome) -> bool) -> usize {
+    fn of(&self, counted: impl Fn(Option<i64>, &Outcome) -> bool) -> usize {
         let calls = self.calls.iter();
-        let calls = calls.filter(|((n, outcome), _)| *n == order && counted(outcome));
+        let calls = calls.filter(|((n, outcome), _)| counted(*n, outcome));
         calls.map(|(_, count)| *count).sum()
     }
 }
