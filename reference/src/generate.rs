@@ -7,6 +7,7 @@ pub mod numbers;
 mod problems;
 
 pub use calls::{BoxCall, FactorCall, JudgeCall, VectorCall};
+pub use files::DrawnFile;
 
 use crate::problem::Bounds;
 use crate::random::Random;

@@ -6,11 +6,26 @@ use crate::summary::{problem_fields, write_summary, MAX_FILE, TAG_ORDER};
 /// A field to be written: tag and content.
 type Field = (u8, Vec<u8>);
 
+/// A summary file, and whether it was damaged: it is another than was written
+/// for its problem, or entries of the problem were damaged before.
+#[derive(Clone, Debug, PartialEq, Eq)]
+#[allow(missing_docs)]
+pub struct DrawnFile {
+    pub bytes: Vec<u8>,
+    pub damaged: bool,
+}
+
 impl Generator {
     /// A summary file: a good one, one with faulty entries, one with a faulty
     /// field, or one with faulty bytes.
     pub fn summary_file(&mut self) -> Vec<u8> {
-        let mut problem = self.any_problem();
+        self.drawn_file().bytes
+    }
+
+    /// The same, with whether it was damaged.
+    pub fn drawn_file(&mut self) -> DrawnFile {
+        let good = self.any_problem();
+        let mut problem = good.clone();
         let choice = self.random.index(10);
         if choice == 0 {
             self.damage_entries(&mut problem);
@@ -18,14 +33,16 @@ impl Generator {
         }
         let mut fields = file_fields(&problem);
         self.random.shuffle(&mut fields);
+        let whole = write_summary(&fields);
         if (1..=4).contains(&choice) {
             self.damage_fields(&mut fields);
         }
-        let mut file = write_summary(&fields);
+        let mut bytes = write_summary(&fields);
         if choice == 5 || choice == 4 {
-            self.damage_bytes(&mut file);
+            self.damage_bytes(&mut bytes);
         }
-        file
+        let damaged = problem != good || bytes != whole;
+        DrawnFile { bytes, damaged }
     }
 
     /// Damages one field, so that one of 1, 10 to 14 refuses.

@@ -50,6 +50,11 @@ impl Counts {
         *self.kinds.entry(kind(text)).or_default() += 1;
     }
 
+    /// Outputs of a kind.
+    pub fn of(&self, kind: &str) -> usize {
+        self.kinds.get(kind).copied().unwrap_or(0)
+    }
+
     /// Every kind that was met.
     pub fn met(&self) -> BTreeSet<&str> {
         self.kinds.keys().map(String::as_str).collect()

@@ -37,7 +37,8 @@ impl Program {
         Program { path }
     }
 
-    /// What the program prints for a file on a pipe.
+    /// What the program prints for a file on a pipe. Here and below, a run fails
+    /// where standard error is not empty or the exit status is not 0.
     pub fn print(&self, file: &[u8]) -> String {
         let file = file.to_vec();
         self.print_fed(move |pipe| pipe.write_all(&file))
@@ -51,28 +52,22 @@ impl Program {
     {
         let mut child = self.start(Stdio::piped());
         let mut input = child.stdin.take().expect("a pipe");
-        let mut printed = child.stdout.take().expect("a pipe");
-        ended(child, move || {
-            match feed(&mut input) {
-                Err(error) if error.kind() == io::ErrorKind::BrokenPipe => {}
-                fed => fed.expect("the program's input is written"),
-            }
-            drop(input);
-            read(&mut printed)
+        ended(child, move || match feed(&mut input) {
+            Err(error) if error.kind() == io::ErrorKind::BrokenPipe => {}
+            fed => fed.expect("the program's input is written"),
         })
     }
 
     /// What the program prints where its standard input is a file of the disk.
     pub fn print_from(&self, input: std::fs::File) -> String {
-        let mut child = self.start(input.into());
-        let mut printed = child.stdout.take().expect("a pipe");
-        ended(child, move || read(&mut printed))
+        ended(self.start(input.into()), || {})
     }
 
     fn start(&self, input: Stdio) -> Child {
         let started = Command::new(&self.path)
             .stdin(input)
             .stdout(Stdio::piped())
+            .stderr(Stdio::piped())
             .spawn();
         started.unwrap_or_else(|error| panic!("{}: {error}", self.path.display()))
     }
@@ -91,28 +86,36 @@ impl Program {
     }
 }
 
-fn read(printed: &mut impl Read) -> Vec<u8> {
-    let mut text = vec![];
-    printed.read_to_end(&mut text).expect("a pipe is read");
-    text
+fn read(pipe: Option<impl Read>) -> Vec<u8> {
+    let mut bytes = vec![];
+    let read = pipe.expect("a pipe").read_to_end(&mut bytes);
+    read.expect("a pipe is read");
+    bytes
 }
 
-/// The text of a child that is talked to on a thread of its own. Ends the child
-/// and fails where the deadline passes.
-fn ended(mut child: Child, talk: impl FnOnce() -> Vec<u8> + Send + 'static) -> String {
+/// The text of a child that is fed, and then read, on a thread of its own. Ends
+/// the child and fails where the deadline passes.
+fn ended(mut child: Child, feed: impl FnOnce() + Send + 'static) -> String {
+    let (printed, said) = (child.stdout.take(), child.stderr.take());
     let (sender, receiver) = mpsc::channel();
-    let talking = thread::spawn(move || sender.send(talk()));
-    let text = receiver.recv_timeout(DEADLINE);
-    if let Err(mpsc::RecvTimeoutError::Timeout) = text {
+    let talking = thread::spawn(move || {
+        feed();
+        sender.send((read(printed), read(said)))
+    });
+    let texts = receiver.recv_timeout(DEADLINE);
+    if let Err(mpsc::RecvTimeoutError::Timeout) = texts {
         child.kill().expect("the child is ours");
         child.wait().expect("the child is ours");
         panic!("the program has not ended after {DEADLINE:?}");
     }
     let status = child.wait().expect("the child is ours");
     let sent = talking.join().expect("the program is talked to");
-    sent.expect("its text is taken");
+    sent.expect("its texts are taken");
+    let (printed, said) = texts.expect("its texts were sent");
+    let said = String::from_utf8_lossy(&said);
+    assert!(said.is_empty(), "on standard error: {said}");
     assert!(status.success(), "the program ended with {status}");
-    String::from_utf8(text.expect("its text was sent")).expect("the program prints text")
+    String::from_utf8(printed).expect("the program prints text")
 }
 
 /// What `work` makes of each item, on several threads, in the items' order.

@@ -3,23 +3,54 @@
 use std::collections::BTreeSet;
 
 use hankboulder_program::{on_threads, Counts, Program, KINDS};
-use hankboulder_reference::generate::Generator;
+use hankboulder_reference::generate::{DrawnFile, Generator};
 
-const FILES: usize = 20_000;
+/// Files are drawn until so many damaged ones are among them. Of the good ones the
+/// first are taken.
+const DAMAGED: usize = 20_000;
+const GOOD: usize = 5000;
 const SEED: u64 = 61;
+
+/// At least so many outputs are of each kind.
+const OF_A_KIND: usize = 100;
+
+fn draw() -> Vec<DrawnFile> {
+    let mut generator = Generator::new(SEED);
+    let (mut files, mut damaged, mut good) = (vec![], 0, 0);
+    while damaged < DAMAGED {
+        let file = generator.drawn_file();
+        damaged += usize::from(file.damaged);
+        good += usize::from(!file.damaged);
+        if file.damaged || good <= GOOD {
+            files.push(file);
+        }
+    }
+    files
+}
 
 #[test]
 fn the_program_agrees_with_the_reference_on_generated_files() {
     let program = Program::under_test();
-    let mut generator = Generator::new(SEED);
-    let files: Vec<Vec<u8>> = (0..FILES).map(|_| generator.summary_file()).collect();
-    let texts = on_threads(&files, |file| program.agree(file));
+    let files = draw();
+    let texts = on_threads(&files, |file| program.agree(&file.bytes));
     let mut counts = Counts::default();
     for text in &texts {
         counts.add(text);
     }
-    println!("{FILES} files: {counts}");
+    let damaged = files.iter().filter(|file| file.damaged).count();
+    println!("{} files, {damaged} damaged: {counts}", files.len());
+    assert!(damaged >= DAMAGED, "{damaged} files are damaged");
+    // No good file is refused, and most of the damaged ones are.
+    let drawn = files.iter().zip(&texts);
+    let refused = drawn.filter(|(_, text)| text.starts_with("refused"));
+    let (faulty, good): (Vec<_>, Vec<_>) = refused.partition(|(file, _)| file.damaged);
+    assert_eq!(good, []);
+    assert!(faulty.len() > DAMAGED / 2, "{} are refused", faulty.len());
     assert_eq!(counts.met(), BTreeSet::from(KINDS));
+    for kind in KINDS {
+        let files = counts.of(kind);
+        assert!(files >= OF_A_KIND, "{kind}: {files} files");
+    }
     for word in ["row", "vector", "side"] {
         assert_eq!(orders(&texts, word), (1..=8).collect(), "{word}");
     }

@@ -6,12 +6,12 @@ use hankboulder_program::problem_file::{definite, file};
 use hankboulder_program::Program;
 use hankboulder_reference::program::output;
 
-const RUNS: usize = 20;
+const RUNS: usize = 41;
 const LONGEST: Duration = Duration::from_millis(20);
 
-/// The shortest of some runs, from start to end: other work on the machine makes
+/// The median of some runs, from start to end: other work on the machine makes
 /// single runs longer.
-fn shortest(program: &Program, file: &[u8]) -> Duration {
+fn median(program: &Program, file: &[u8]) -> Duration {
     let expected = output(file);
     let run = |_| {
         let start = Instant::now();
@@ -20,7 +20,9 @@ fn shortest(program: &Program, file: &[u8]) -> Duration {
         assert_eq!(text, expected);
         time
     };
-    (0..RUNS).map(run).min().expect("some runs")
+    let mut times: Vec<Duration> = (0..RUNS).map(run).collect();
+    times.sort();
+    times[RUNS / 2]
 }
 
 #[test]
@@ -44,8 +46,8 @@ fn a_file_of_order_8_takes_less_than_20_milliseconds() {
     let without = file(&problem);
     assert_eq!(output(&without), "undecided\nbox refused 8\n");
     for file in [with_box, without] {
-        let time = shortest(&program, &file);
-        println!("order 8: {time:?}");
+        let time = median(&program, &file);
+        println!("order 8: {time:?}, the median of {RUNS} runs");
         assert!(time < LONGEST, "{time:?}");
     }
 }
