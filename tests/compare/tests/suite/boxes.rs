@@ -106,6 +106,20 @@ fn where_no_step_can_be_taken_off_one_entry_alone() {
 }
 
 #[test]
+fn where_less_can_be_taken_off_one_entry_than_off_all() {
+    // t = 2, t(1) = 2028, t(2) = 2516 and t(3) = 1: 2 taken off entry (3, 3) alone
+    // does not end, and taken off every entry it does.
+    let matrix = "[452059 504406 916; 504406 565355 1029; 916 1029 4]";
+    // g = 0, B = B2 = 100, s = 8, Y = (8, 8, 8), Z = (1, 1, 10).
+    let call = thin(matrix, &[0, 0, 0], 100, &[0, 0, 0]);
+    expect_sides(&call, &[-1, 1, -1, 1, -8, 8]);
+    // g = (0, 0, 1), B = 100 + 1, s = 8, Y = (8, 8, 9), B2 = 100 + 18, Z = (1, 1, 11).
+    // With t(3) = 2 it would be Z(3) = 8.
+    let call = thin(matrix, &[0, 0, 1], 100, &[0, 0, 0]);
+    expect_sides(&call, &[-1, 1, -1, 1, -9, 9]);
+}
+
+#[test]
 fn refusal_3_at_every_linear_term_centre_entry_and_limit() {
     for order in 1..=8 {
         for (buffer, range) in [(LINEAR, LINEAR_RANGE), (CENTRE, CENTRE_RANGE)] {

@@ -104,8 +104,12 @@ fn wrong_turns_that_look_natural() {
     // Judging L alone
     expect_wide("[1 0; 0 1]", "[1 2; 2 1]", Not(&[1, -1]));
     expect_wide("[1 -2; -2 1]", "[1 0; 0 1]", Not(&[1, 1]));
-    // Looking only when a column is full: factoring stops in column 3 with m = 1.
+    // Looking only when a column is full: factoring stops in column 3 with m = 1,
+    // by r(1,3) here, and by the rest alone below. A full column has m = 2, and the
+    // solved vectors (-3, -1, 1) and (-24, -19, 64), which show it too.
     expect("[1 0 1000; 0 1 5; 1000 5 10000]", Not(&[-1143, 0, 1]));
+    expect("[1 0 3; 0 4 3; 3 3 8]", Not(&[-3, 0, 1]));
+    expect("[100 0 37; 0 100 30; 37 30 13]", Not(&[-24, 0, 64]));
     // Taking a stopped factoring for 'not definite'
     expect("[1 3; 3 10]", Undecided);
 }
