@@ -4,7 +4,8 @@
  *
  *     bench compare           only compares
  *     bench count             makes each call once, for callgrind, which writes down the instructions of each act, order and side
- *     bench time [COUNTS]     compares, times and prints the tables. Each line of the file COUNTS is an act, an order, a side and its instructions
+ *     bench time [COUNTS]     compares, times and prints the tables. Each line of the file COUNTS is an act, an order, a side and its instructions.
+ *                             Ends with status 1 where the library takes longer beside plain C than it may
  */
 #define _POSIX_C_SOURCE 199309L
 #include "peers.h"
@@ -467,6 +468,30 @@ static void print_longest(void)
            one_by_one / time_of(act, HB_MAX_ORDER, LIBRARY), one_by_one / time_of(act, HB_MAX_ORDER, TUNED));
 }
 
+/* The greatest part of plain C's time that the library may take at the last order */
+static const struct {
+    int act;
+    double most;
+} limits[] = {{FACTORING, 1.2}, {JUDGE_DEFINITE, 1.2}, {BOX, 1.2}, {JUDGE_UNDECIDED, 0.01}};
+
+/* Prints whether the limits are kept. What has no side of the library is not measured. */
+static int keeps_limits(void)
+{
+    int kept = 1;
+    printf("\nlimits at order %d, of the library's time beside plain C's\n", HB_MAX_ORDER);
+    for (size_t k = 0; k < sizeof limits / sizeof limits[0]; k++) {
+        const struct act *act = &acts[limits[k].act];
+        double most = limits[k].most, ratio = time_of(act, HB_MAX_ORDER, LIBRARY) / time_of(act, HB_MAX_ORDER, PLAIN);
+        if (!act->sides[LIBRARY]) {
+            printf("%-40s not measured: the bench's own archive is absent\n", act->name);
+            continue;
+        }
+        printf("%-40s %.4f, at most %.2f: %s\n", act->name, ratio, most, ratio <= most ? "kept" : "BROKEN");
+        kept = kept && ratio <= most;
+    }
+    return kept;
+}
+
 /* How many thin problems of a kind, of all orders, each side says are definite */
 static void print_said(const char *name, enum kind kind)
 {
@@ -525,5 +550,5 @@ int main(int count, char **arguments)
         print_act(&acts[a], PLAIN, COMPARED_SIDES);
     print_longest();
     print_peers();
-    return 0;
+    return keeps_limits() ? 0 : 1;
 }

@@ -20,7 +20,7 @@ static int64_t floor_quotient(int64_t a, int64_t d)
     return a / d - (a % d < 0);
 }
 
-/* The whole root, rounded down, of x >= 1, in whole numbers by the library's steps */
+/* The whole root, rounded down, of x >= 1, in whole numbers: Newton's steps from above */
 static int64_t whole_root(int64_t x)
 {
     uint64_t number = (uint64_t)x;
