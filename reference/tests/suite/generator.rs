@@ -112,6 +112,19 @@ fn summary_files_meet_every_answer() {
 }
 
 #[test]
+fn no_file_is_refused_that_was_not_damaged() {
+    let mut generator = Generator::new(57);
+    let files: Vec<_> = (0..6000).map(|_| generator.drawn_file()).collect();
+    let refused = |bytes: &Vec<u8>| output(bytes).starts_with("refused");
+    let (damaged, good): (Vec<_>, Vec<_>) = files.iter().partition(|file| file.damaged);
+    assert!(good.iter().all(|file| !refused(&file.bytes)));
+    let count = damaged.iter().filter(|file| refused(&file.bytes)).count();
+    assert!(count > 2500, "{count} of {} are refused", damaged.len());
+    // A damaged file can be good all the same.
+    assert!(count < damaged.len());
+}
+
+#[test]
 fn files_reach_the_greatest_size_and_one_more() {
     let mut generator = Generator::new(56);
     let sizes: Vec<usize> = (0..3000).map(|_| generator.summary_file().len()).collect();
