@@ -3,13 +3,20 @@ ghost use Prim.Native.Nat.{_≤_};
 ghost use lib.ListN.{length};
 use libc::STDOUT_FILENO;
 
+// The first size bytes of a text, to standard output.
+fn write(text: &[u8], size: usize)
+    requires { ⌜ size ≤ length (now text) ⌝ }
+{
+    io::write_all(STDOUT_FILENO, &text[..size]);
+}
+
 // A word and the first numbers of x, count of them, as a line.
 fn print(word: &[u8], x: &[i64], count: usize)
     requires { ⌜ (length (now word) ≤ 16) × (count ≤ 4) × (count ≤ length (now x)) ⌝ }
 {
     let mut out = [0u8; 128];
     let size = text::put_line(&mut out, 0, word, x, 0, count);
-    io::write_all(STDOUT_FILENO, &out[..size]);
+    write(&out, size);
 }
 
 fn print_number(word: &[u8], v: i64)
