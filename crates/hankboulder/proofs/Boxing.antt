@@ -1,8 +1,7 @@
 -- What hb_box's number means: the sides that it stores are read back from the buffer as it is left.
-use mathlib.Core.Path.{_≡_, refl}
 use mathlib.Core.Bool.{Bool}
 use mathlib.Core.List.{List}
-use Prim.Native.Nat.{ℕ, _+_, _*_, _≤_}
+use Prim.Native.Nat.{ℕ, _+_, _*_}
 use native.Mathlib.Omega.{arith}
 use lib.IntN.{ℤ, natAbs}
 use lib.ListN.{length}
@@ -11,18 +10,16 @@ use mir.Val.{bytes}
 use Rattle.words.proofs.Laws.{length-numbersOf}
 use Rattle.tables.specs.Checks.{firstRefusal}
 use Rattle.tables.specs.Answers.{after, entryChecks}
-use Rattle.tables.specs.declared.Checked.{Checked}
-use Rattle.tables.specs.declared.Checked.the-variants.{Passed, Refused}
-use Rattle.tables.proofs.Checks.{first-passed, order-of}
 use Rattle.enclosure.specs.Box.{Box, sides, empty, refused, boxAnswer}
 use Rattle.enclosure.specs.Act.{handed, boxSizes, Meaning}
 use Rattle.enclosure.proofs.BoxFitting.{Fitting, answer-fitting}
 use Rattle.enclosure.proofs.BoxMeanings.{entry-means}
 use Rattle.enclosure.proofs.BoxCodes.{code-sides, code-empty}
 use Rattle.buffers.specs.Buffers.{tableOf, vectorOf, sidesOf, storedSides}
+use Rattle.buffers.proofs.Stores.{read-numbers}
 use Rattle.hankboulder.specs.Entries.{boxStored, boxEntry}
 use Rattle.hankboulder.specs.Meanings.{BoxMeaning}
-use Rattle.buffers.proofs.Stores.{read-numbers}
+use Rattle.hankboulder.proofs.Entering.{after-entry}
 
 -- ---- what is read back is what was to be written
 module _ (k : ℕ) (l u a : List ℤ) (α : ℤ) (s : List ℕ) where
@@ -34,22 +31,15 @@ module _ (k : ℕ) (l u a : List ℤ) (α : ℤ) (s : List ℕ) where
   stored-means empty z m = m
   stored-means (refused r) z m = m
 
-fitting : (n : ℤ) (sized : Bool) (l u a : List ℕ) (α : ℤ) (c : List ℕ) →
-    (let k = natAbs n in Fitting k (after refused (firstRefusal (entryChecks n sized)) (boxAnswer k (tableOf k l) (tableOf k u) (vectorOf k a) α (vectorOf k c))))
-unfolding after entryChecks
-fitting n sized l u a α c = go (firstRefusal (entryChecks n sized)) (λ p. order-of (first-passed _ _ p) .1)
-  where
-    go : (q : Checked) → (q ≡ Passed → natAbs n ≤ 8) →
-        Fitting (natAbs n) (after refused q (boxAnswer (natAbs n) (tableOf (natAbs n) l) (tableOf (natAbs n) u) (vectorOf (natAbs n) a) α (vectorOf (natAbs n) c)))
-    go Passed o =
-        answer-fitting (natAbs n) (o refl) (tableOf (natAbs n) l) (tableOf (natAbs n) u) (vectorOf (natAbs n) a) α (vectorOf (natAbs n) c)
-        (omega (arith, length-numbersOf w64 l (natAbs n * natAbs n))) (omega (arith, length-numbersOf w64 u (natAbs n * natAbs n)))
-        (omega (arith, length-numbersOf w64 a (natAbs n))) (omega (arith, length-numbersOf w64 c (natAbs n)))
-    go (Refused r) o = tt
-
 module _ (n : ℤ) (l u a : List ℕ) (α : ℤ) (c s : List ℕ) where
   abbrev k : ℕ
   k = natAbs n
+
+  fitting : (sized : Bool) → Fitting k (after refused (firstRefusal (entryChecks n sized)) (boxAnswer k (tableOf k l) (tableOf k u) (vectorOf k a) α (vectorOf k c)))
+  fitting sized =
+      after-entry (Fitting k) n sized (λ r. tt)
+      (λ o. answer-fitting k o (tableOf k l) (tableOf k u) (vectorOf k a) α (vectorOf k c) (omega (arith, length-numbersOf w64 l (k * k))) (omega (arith, length-numbersOf w64 u (k * k)))
+      (omega (arith, length-numbersOf w64 a k)) (omega (arith, length-numbersOf w64 c k)))
 
   pub box-means : (let j = boxEntry n l u a α c s in BoxMeaning n l u a α (j .number) (j .sides))
   unfolding boxEntry boxStored
@@ -57,5 +47,5 @@ module _ (n : ℤ) (l u a : List ℕ) (α : ℤ) (c s : List ℕ) where
       let j = boxStored n l u a α c s in
       let sized = boxSizes (k * k * bytes w64) (k * bytes w64) ((k + k) * bytes w64) (length l) (length u) (length a) (length c) (length s) in
       let b = after refused (firstRefusal (entryChecks n sized)) (boxAnswer k (tableOf k l) (tableOf k u) (vectorOf k a) α (vectorOf k c)) in
-      let m = stored-means k (tableOf k l) (tableOf k u) (vectorOf k a) α s b (fitting n sized l u a α c) (entry-means (tableOf k l) (tableOf k u) (vectorOf k a) α (vectorOf k c) (sidesOf k s) n sized) in
+      let m = stored-means k (tableOf k l) (tableOf k u) (vectorOf k a) α s b (fitting sized) (entry-means (tableOf k l) (tableOf k u) (vectorOf k a) α (vectorOf k c) (sidesOf k s) n sized) in
       record { holds = λ e. m .holds (code-sides (j .answer) e); none = λ e. m .none (code-empty (j .answer) e) }

@@ -1,29 +1,42 @@
 -- Checks 1 and 2 of an entry for C, and then its act: each way out gives the entry's answer, and so what that means.
-use mathlib.Core.Path.{_≡_, ap, _∙_}
+use mathlib.Core.Path.{_≡_, refl, ap, _∙_}
 use mathlib.Core.Bool.{Bool, true, false, not}
-use Prim.Native.Nat.{ℕ, _*_}
+use Prim.Native.Nat.{ℕ, _*_, _≤_}
 use native.Mathlib.Omega.{arith}
 use lib.IntN.{ℤ, natAbs}
 use mir.Syntax.{w64}
 use mir.Val.{Fits, SFits, toZ, ofZ, bytes}
 use Rattle.integers.proofs.Machine.{clean}
+use Rattle.tables.specs.Ranges.{greatestOrder}
 use Rattle.tables.specs.Checks.{orderOk, firstRefusal}
 use Rattle.tables.specs.Answers.{after, entryChecks}
 use Rattle.tables.specs.declared.Refusal.{Refusal}
 use Rattle.tables.specs.declared.Refusal.the-variants.{Order, Length}
+use Rattle.tables.specs.declared.Checked.{Checked}
+use Rattle.tables.specs.declared.Checked.the-variants.{Passed, Refused}
 use Rattle.tables.proofs.Matrix.{at-most-64}
-use Rattle.tables.specs.declared.Checked.the-variants.{Passed}
 use Rattle.tables.proofs.Checks.{call-false, call-true, first-passed, rest-passed, order-of}
 use Rattle.tables.proofs.Answers.{order-refused, size-refused, entry-passed, exactly}
 
+-- ---- checks 1 and 2
 pub entry-checked : (n : ℤ) (sized : Bool) → firstRefusal (entryChecks n sized) ≡ Passed → (orderOk n ≡ true) × (sized ≡ true)
 unfolding entryChecks
 entry-checked n sized p = (first-passed _ _ p, first-passed _ _ (rest-passed _ _ p))
 
+-- what holds of each refusal, and of the act where n is an order, holds after them
+pub after-entry : {A : Type 0} {refused : Refusal → A} {a : A} (P : A → Type 0) (n : ℤ) (sized : Bool) → ((r : Refusal) → P (refused r)) → (natAbs n ≤ greatestOrder → P a) →
+    P (after refused (firstRefusal (entryChecks n sized)) a)
+unfolding after
+after-entry {A} {refused} {a} P n sized f g = go (firstRefusal (entryChecks n sized)) (λ p. order-of (entry-checked n sized p .0) .1)
+  where
+    go : (q : Checked) → (q ≡ Passed → natAbs n ≤ greatestOrder) → P (after refused q a)
+    go Passed o = g (o refl)
+    go (Refused r) o = f r
+
 abbrev pub Ordered : ℤ → Type 0
 Ordered n = orderOk n ≡ true
 
--- the order as the machine reads it back
+-- ---- the order as the machine reads it back
 abbrev pub read : ℤ → ℤ
 read n = toZ w64 (ofZ w64 n)
 

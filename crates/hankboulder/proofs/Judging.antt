@@ -1,8 +1,8 @@
 -- What hb_judge's number means: the numbers that it stores are read back from the buffers as they are left.
 use mathlib.Core.Path.{_≡_, refl, sym, ap, subst, _∙_}
-use mathlib.Core.Bool.{Bool, true, false≢true}
+use mathlib.Core.Bool.{true, false≢true}
 use mathlib.Core.List.{List}
-use Prim.Native.Nat.{ℕ, _*_, _≤_}
+use Prim.Native.Nat.{ℕ, _*_}
 use native.Mathlib.Omega.{arith}
 use lib.Dec.{eqb}
 use lib.IntN.{ℤ, natAbs}
@@ -14,18 +14,18 @@ use Rattle.tables.specs.Checks.{orderOk, sizesOk, firstRefusal}
 use Rattle.tables.specs.Answers.{after, entryChecks}
 use Rattle.tables.specs.declared.Checked.{Checked}
 use Rattle.tables.specs.declared.Checked.the-variants.{Passed, Refused}
-use Rattle.tables.proofs.Checks.{and-left, and-right, and-of, first-passed, order-of}
+use Rattle.tables.proofs.Checks.{and-left, and-right, and-of}
 use Rattle.verdict.specs.Judge.{Judgement, definite, notDefinite, undecided, refused, judgement, written, judgeSizes, verdictCode, NotRefused, Meaning}
 use Rattle.verdict.proofs.Fitting.{Fitting, judgement-fitting}
 use Rattle.verdict.proofs.Decisions.{judge-sizes-of}
 use Rattle.verdict.proofs.Meanings.{entry-means}
 use Rattle.verdict.proofs.Codes.{code-definite, code-not, code-given}
 use Rattle.buffers.specs.Buffers.{tableOf, vectorOf, stored}
+use Rattle.buffers.proofs.Stores.{read-numbers}
 use Rattle.hankboulder.specs.Entries.{judgeStored, judgeEntry}
 use Rattle.hankboulder.specs.Meanings.{JudgeMeaning}
-use Rattle.buffers.proofs.Stores.{read-numbers}
 use Rattle.hankboulder.proofs.Codes.{factor-code, vector-code}
-use Rattle.hankboulder.proofs.Entering.{entry-checked}
+use Rattle.hankboulder.proofs.Entering.{entry-checked, after-entry}
 
 -- ---- what is read back is what was to be written
 module _ (k : ℕ) (l u : List ℤ) (f v : List ℕ) where
@@ -39,14 +39,6 @@ module _ (k : ℕ) (l u : List ℤ) (f v : List ℕ) where
   stored-means (notDefinite x) z m = rw (read-numbers x (z .size) (z .small) (omega arith)) m
   stored-means undecided z m = m
   stored-means (refused r) z m = m
-
-fitting : (n : ℤ) (sized : Bool) (l u : List ℤ) → Fitting (natAbs n) (after refused (firstRefusal (entryChecks n sized)) (judgement (natAbs n) l u))
-unfolding after entryChecks
-fitting n sized l u = go (firstRefusal (entryChecks n sized)) (λ p. order-of (first-passed _ _ p) .1)
-  where
-    go : (k : Checked) → (k ≡ Passed → natAbs n ≤ 8) → Fitting (natAbs n) (after refused k (judgement (natAbs n) l u))
-    go Passed o = judgement-fitting (natAbs n) (o refl) l u
-    go (Refused r) o = tt
 
 -- ---- checks 1 and 2 passed where the call is not refused
 module _ (k : ℕ) (f v : List ℕ) where
@@ -91,7 +83,7 @@ module _ (n : ℤ) (l u f v : List ℕ) where
       let T = k * k * bytes w64 in
       let sized = judgeSizes T (k * bytes w64) (length l) (length u) (length f) (length v) in
       let g = after refused (firstRefusal (entryChecks n sized)) (judgement k (tableOf k l) (tableOf k u)) in
-      let m = stored-means k (tableOf k l) (tableOf k u) f v g (fitting n sized (tableOf k l) (tableOf k u)) (entry-means (tableOf k l) (tableOf k u) (tableOf k f) (vectorOf k v) n sized) in
+      let m = stored-means k (tableOf k l) (tableOf k u) f v g (after-entry (Fitting k) n sized (λ r. tt) (λ o. judgement-fitting k o (tableOf k l) (tableOf k u))) (entry-means (tableOf k l) (tableOf k u) (tableOf k f) (vectorOf k v) n sized) in
       let checked : NotRefused (j .verdict) → (orderOk n ≡ true) × (sized ≡ true) = λ h. entry-checked n sized (passed k f v _ _ h) in
       record {
         definite = λ e. m .definite (code-definite (j .verdict) e);
