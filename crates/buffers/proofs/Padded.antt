@@ -1,7 +1,7 @@
 -- Zeros behind a table change no check and no answer: the code loads a buffer's n² numbers into 64.
 use mathlib.Core.Path.{_≡_, ap, ap₂, _∙_}
 use mathlib.Core.List.{List, _++_}
-use Prim.Native.Nat.{ℕ, _*_, _-_, _≤_}
+use Prim.Native.Nat.{ℕ, zero, suc, _*_, _-_, _≤_}
 use native.Mathlib.Omega.{arith}
 use mir.Syntax.{w64}
 use lib.IntN.{ℤ, pos}
@@ -13,7 +13,7 @@ use Rattle.words.proofs.Laws.{length-numbersOf}
 use Rattle.tables.specs.Ranges.{greatestOrder, entryRange, vectorRange, linearRange, centreRange}
 use Rattle.tables.specs.Matrix.{Matrix}
 use Rattle.tables.specs.Checks.{all, within, allWithin, nowhereCrossed, same, symmetric, tableChecks, problemChecks}
-use Rattle.tables.proofs.Matrix.{at-most-64, nth-padded, at-padded}
+use Rattle.tables.proofs.Matrix.{inside, at-most-64, nth-padded, at-padded}
 use Rattle.residual.specs.FactorTest.{factorAnswer}
 use Rattle.vectors.specs.VectorTest.{vectorShape, vectorAnswer}
 use Rattle.verdict.specs.Judge.{judgement}
@@ -67,6 +67,11 @@ module _ {m k : ℕ} (s : List ℕ) {x : List ℤ} (e : Loaded m k s x) (h : k �
 
   pub room : k ≤ length x
   room = omega (arith, ap length padded ∙ length-append (numbersOf w64 s k) (zeros (m - k)), length-numbersOf w64 s k)
+
+-- a buffer that has room for a table has room for a vector
+pub own-square : (n : ℕ) → n ≤ n * n
+own-square zero = omega arith
+own-square (suc m) = omega (arith, inside {i = 0} {j = m} {n = suc m} (omega arith) (omega arith))
 
 -- the acts on what was loaded
 module _ (n : ℕ) (h : n ≤ greatestOrder) (l u : List ℕ) {x y : List ℤ} (ex : Loaded 64 (n * n) l x) (ey : Loaded 64 (n * n) u y) where

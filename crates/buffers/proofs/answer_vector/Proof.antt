@@ -2,7 +2,7 @@ use mathlib.Core.Path.{refl, _∙_}
 use native.Mathlib.Omega.{arith}
 use borrow.Author.Needs.{needs}
 use Rattle.tables.proofs.Matrix.{at-most-64}
-use Rattle.buffers.proofs.Padded.{room, vector-loaded}
+use Rattle.buffers.proofs.Padded.{room, own-square, vector-loaded}
 use Rattle.buffers.proofs.answer_vector.Statement.{statement}
 use Rattle.buffers.proofs.answer_vector.Tie as tie
 
@@ -26,7 +26,9 @@ answer-vector-spec =
     (λ c. search needs)
     (λ c κs. let p = c .before .before .before .before .before .before .before .pre in (refl, p .2, at-most-64 (p .0)))
     (λ c. search needs)
-    (λ c κs. let p = c .before .before .before .before .before .before .before .before .before .before .pre in (refl, omega arith, p .0))
+    (λ c κs.
+    let s = c .before .before .before .before .before .before .before .before .before .before in
+    (refl, omega (arith, s .pre, own-square (s .args .n)), s .pre .0))
     (λ c. search needs)
     (λ c. search needs)
     (λ c. search needs)

@@ -59,7 +59,7 @@ hb-box-spec =
     (λ c κs.
     let s = start (c .before .before .before .before) in
     let z = box-sizes-of _ _ _ _ _ _ _ _ (sizes-held (entry s) (c .before .before .sizes-ok .ensures) (c .before .if2 .left)) in
-    rw (clean (s .fits .n)) (order-of (ordered (c .before .before .before)) .1, z .0, z .1, z .2, z .3, z .4))
+    rw (clean (s .fits .n)) (order-of (ordered (c .before .before .before)) .1, omega (arith, z), omega (arith, z), omega (arith, z), omega (arith, z), omega (arith, z)))
     (λ c κs. search needs)
     (λ c. search needs)
     (λ c.

@@ -1,6 +1,7 @@
 use mathlib.Core.Path.{refl, ap}
 use mathlib.Core.List.{List}
 use Prim.Native.Nat.{ℕ, _*_}
+use native.Mathlib.Omega.{arith}
 use borrow.Author.Needs.{needs}
 use mir.Syntax.{w64}
 use mir.Val.{bytes}
@@ -56,7 +57,7 @@ hb-judge-spec =
     let s = start (c .before .before .before .before .before) in
     let z = judge-sizes-of _ _ _ _ _ _ (sizes-held (entry s) (c .before .before .before .sizes-ok .ensures) (c .before .before .if2 .left)) in
     let o = ordered (c .before .before .before .before) in
-    rw (clean (s .fits .n)) (order-of o .1, order-positive _ o, z .0, z .1, z .2, z .3))
+    rw (clean (s .fits .n)) (order-of o .1, order-positive _ o, omega (arith, z), omega (arith, z), omega (arith, z), omega (arith, z)))
     (λ c κs. search needs)
     (λ c. search needs)
     (λ c. search needs)

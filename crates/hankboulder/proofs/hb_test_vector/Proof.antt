@@ -1,4 +1,5 @@
 use mathlib.Core.Path.{ap, _∙_}
+use native.Mathlib.Omega.{arith}
 use borrow.Author.Needs.{needs}
 use lib.ListN.{length}
 use Rattle.integers.proofs.Machine.{clean, clean-result}
@@ -48,7 +49,8 @@ hb-test-vector-spec =
     (λ c. rw (clean-result (c .answer-code2)) (sizes-failed (entry (start (c .before .before .before .before))) (c .before .before .sizes-ok .ensures) (ordered (c .before .before .before)) (c .before .if2 .taken) _ (c .answer-code2 .ensures)))
     (λ c κs.
     let s = start (c .before .before .before) in
-    rw (clean (s .fits .n)) (let z = sizes-of _ _ _ _ _ (sizes-held (entry s) (c .before .sizes-ok .ensures) (c .if2 .left)) in (order-of (ordered (c .before .before)) .1, z .0, z .1, z .2)))
+    let z = sizes-of _ _ _ _ _ (sizes-held (entry s) (c .before .sizes-ok .ensures) (c .if2 .left)) in
+    rw (clean (s .fits .n)) (order-of (ordered (c .before .before)) .1, omega (arith, z), omega (arith, z), omega (arith, z)))
     (λ c κs. search needs)
     (λ c.
     let e = c .before .before in
