@@ -7,14 +7,14 @@ use mathlib.Core.Option.{Option, none, some}
 use Prim.Native.Nat.{ℕ, zero, suc, _+_, _≤_, _<_}
 use native.Mathlib.Omega.{arith}
 use native.Mathlib.Numerals.{add-one}
-use lib.IntN.{ℤ, pos, negsuc, negℤ, natAbs, _+ℤ_, _*ℤ_, +ℤ-idl, +ℤ-idr, zero-*ℤ}
+use lib.IntN.{ℤ, pos, negsuc, negℤ, natAbs, _+ℤ_, _*ℤ_, +ℤ-idr, zero-*ℤ}
 use lib.Signed.{leZ}
 use lib.ListN.{length, length-append, List·getD-append, List·getD-map}
 use lib.Seq.{getD-append-seam}
 use Rattle.integers.specs.Sum.{sum}
 use Rattle.integers.proofs.Solver.{ring, order, solver}
 use Rattle.integers.proofs.Sums.{sum-zero, sum-suc, sum-ext, sum-none}
-use Rattle.tables.specs.Matrix.{at, nth}
+use Rattle.tables.specs.Matrix.{Matrix, at, nth}
 use Rattle.tables.specs.Bounds.{Bounds}
 use Rattle.tables.specs.Checks.{all, same}
 use Rattle.tables.proofs.Checks.{all-of, same-true}
@@ -23,8 +23,9 @@ use Rattle.vectors.specs.Least.{leastValue, nonzero, shows}
 use Rattle.vectors.specs.LeastShares.{leastTerm, leastPair, leastRow, leastShare}
 use Rattle.vectors.proofs.Values.{shares-add}
 use Rattle.vectors.proofs.Showing.{nonzero-true}
+use Rattle.lookahead.specs.Pairs.{more}
 use Rattle.tried.specs.Tried.{tried, first}
-use Rattle.tried.specs.Search.{front, orElse, reached, more, times, seek, seekHalf}
+use Rattle.tried.specs.Search.{front, orElse, reached, seek, seekHalf}
 use Rattle.tried.proofs.TriedList.{first-ext, tried-zero, tried-suc, part, first-negated}
 use Rattle.tried.proofs.Negated.{shows-negated}
 
@@ -59,6 +60,10 @@ opposite [] z y (suc i) =
     order (nth y i ∷ nth (map negℤ y) i ∷ []) (List·getD-map negℤ y i (pos 0)) (search solver depth 40 fits 20000) (omega arith)
 opposite (a ∷ xs) z y zero = rw (z 0) refl
 opposite (a ∷ xs) z y (suc i) = opposite xs (λ j. z (suc j)) y i
+
+-- each entry of a matrix, times a factor
+abbrev pub times : ℤ → Matrix → Matrix
+times c T i j = c *ℤ T i j
 
 one-not-zero : pos 1 ≡ pos 0 → ⊥
 one-not-zero e = let z : _≡_ {A = ℕ} 1 0 = ap natAbs e in absurd (omega arith)
@@ -216,7 +221,7 @@ module _ (n : ℕ) (l u : List ℤ) where
         (ap (front (pos 0)) (first-ext _ _ (λ y. ap (λ (v : List ℤ). shows n (at n l) (at n u) (nth v)) (sym (append-assoc xs (pos 0 ∷ []) y))) (tried k)
         ∙ half-agrees k (suc d) (xs ++ (pos 0 ∷ [])) p (longer (pos 0)) (omega arith) (λ i. ap (λ (g : ℕ → ℤ). g i) (nth-padded xs 1) ∙ z i) (choose-zero c h)))
         (half-choices k xs z
-        ∙ ap (front (pos 1)) (with-one k xs h ∙ agrees k (suc d) (xs ++ (pos 1 ∷ [])) _ _ _ (longer (pos 1)) (omega arith) (rw (+ℤ-idl (p (length xs)), e) at (choose-one c h))))
+        ∙ ap (front (pos 1)) (with-one k xs h ∙ agrees k (suc d) (xs ++ (pos 1 ∷ [])) _ _ _ (longer (pos 1)) (omega arith) (rw e at (choose-one c h))))
       where
         h : length xs < n
         h = omega arith

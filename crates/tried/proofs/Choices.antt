@@ -35,18 +35,19 @@ module _ (x : List ℤ) (d k : ℕ) (a : ℤ) (h : d < length x) where
   front-found false = refl
 
 -- the entry is put in front, whatever was found after it
-module _ {x : List ℤ} {d k : ℕ} (a : ℤ) (h : d < 8) {s : Option (List ℤ)} where
-  pub chosen : {r : Bool} → Searched s r (suc d) k x → Searched (front a s) r d (suc k) (set x d a)
-  chosen {r} f =
-      record { answer = ap (front a) (f .answer) ∙ front-found x d k a (omega (arith, f .size)) r; size = length-set x d a ∙ f .size }
+pub chosen : {x : List ℤ} {d k : ℕ} (a : ℤ) → d < 8 → {s : Option (List ℤ)} {r : Bool} → Searched s r (suc d) k x → Searched (front a s) r d (suc k) (set x d a)
+chosen {x} {d} {k} a h {r = r} f =
+    record { answer = ap (front a) (f .answer) ∙ front-found x d k a (omega (arith, f .size)) r; size = length-set x d a ∙ f .size }
 
-  pub chosen-hit : (t : Option (List ℤ)) → Searched s true (suc d) k x → Searched (orElse (front a s) t) true d (suc k) (set x d a)
+-- one choice, or else another
+module _ {s : Option (List ℤ)} (t : Option (List ℤ)) {d k : ℕ} where
+  pub found-first : {x : List ℤ} → Searched s true d k x → Searched (orElse s t) true d k x
   unfolding orElse found
-  chosen-hit t f = let c = chosen f in record { answer = ap (λ (z : Option (List ℤ)). orElse z t) (c .answer); size = c .size }
+  found-first f = record { answer = ap (λ (z : Option (List ℤ)). orElse z t) (f .answer); size = f .size }
 
-pub chosen-miss : {x : List ℤ} {d k : ℕ} (a : ℤ) {s : Option (List ℤ)} (t : Option (List ℤ)) → Searched s false d k x → orElse (front a s) t ≡ t
-unfolding orElse front found
-chosen-miss a t f = rw (f .answer) refl
+  pub found-next : {x₀ x : List ℤ} {r : Bool} → Searched s false d k x₀ → Searched t r d k x → Searched (orElse s t) r d k x
+  unfolding orElse found
+  found-next f g = record { answer = ap (λ (z : Option (List ℤ)). orElse z t) (f .answer) ∙ g .answer; size = g .size }
 
 -- nothing is left to choose
 pub reached-is : (x : List ℤ) (d : ℕ) (s : ℤ) {r : Bool} → length x ≡ 8 → leZ s (pos 0) ≡ r → Searched (reached s) r d 0 x

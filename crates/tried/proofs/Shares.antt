@@ -1,14 +1,15 @@
 -- What the open entries would add: how a row of a table is added to it, entry by entry, and how large it gets.
-use mathlib.Core.Path.{_≡_, refl, _∙_}
+use mathlib.Core.Path.{_≡_, refl, sym, ap, _∙_}
+use mathlib.Core.Bool.{true, false}
 use mathlib.Core.List.{List}
 use Prim.Native.Nat.{ℕ, suc, _+_, _*_, _/_, _%_, _^_, _≤_, _<_}
-use native.Mathlib.Nat.{mul-le-mul}
 use native.Mathlib.Omega.{arith}
 use native.Mathlib.Decide.{ℕ-discrete}
 use native.Mathlib.Numerals.{add-one}
-use lib.IntN.{ℤ, pos, _+ℤ_, _*ℤ_, +ℤ-idl}
-use lib.ListN.{length, set, replicate, length-set, length-replicate, getD-replicate}
-use lib.Seq.{getD-set-same, getD-set-other}
+use lib.IntN.{ℤ, pos, negsuc, _+ℤ_, _*ℤ_}
+use lib.Signed.{ltZ}
+use lib.ListN.{length, drop, set, replicate, length-drop, length-set, length-replicate, getD-replicate}
+use lib.Seq.{getD-set-same, getD-set-other, drop-set-add, drop-set-lt}
 use mir.Syntax.{w64}
 use mir.Val.{SFits}
 use Rattle.integers.specs.Numbers.{Within}
@@ -17,7 +18,10 @@ use Rattle.tables.specs.Matrix.{at, nth}
 use Rattle.tables.specs.Ranges.{greatestOrder, entryRange}
 use Rattle.tables.proofs.Buffers.{entry-more}
 use Rattle.tables.proofs.Matrix.{inside, at-most-64, row-inside, column-inside, nth-at}
-use Rattle.tried.specs.Search.{Table, Doubled, Open, Searching, Multiplied, Added, Chosen, Diagonal}
+use Rattle.lookahead.specs.Pairs.{sameSign, otherSign, Doubled, Open, Searching}
+use Rattle.lookahead.proofs.Sizes.{row-small, at-most-8}
+use Rattle.tried.specs.Search.{bySign, after, Table, Doubling, Added, Chosen, Diagonal}
+use Rattle.tried.proofs.Signs.{by-sign, sign-above, sign-below}
 
 -- entries of a list that are small, with another put among them
 small-more : (t : List ℤ) (m : ℕ) (v : ℤ) {b : ℕ} (k : ℕ) → m < length t → Within b v → Within b (nth t k) → Within b (nth (set t m v) k)
@@ -31,65 +35,93 @@ zero-within : {m : ℕ} → Within m (pos 0)
 zero-within = record { size = omega arith }
 
 -- ---- the tables that the search reads
-module _ {n : ℕ} (o : n ≤ greatestOrder) where
-  pub doubled-zeros : Doubled n (replicate 64 (pos 0))
-  doubled-zeros = record { order = o; size = length-replicate 64 (pos 0); small = λ k h. rw (getD-replicate 64 k (pos 0) (pos 0) h) zero-within }
+pub doubled-zeros : {n : ℕ} → n ≤ greatestOrder → Doubled n (replicate 128 (pos 0))
+doubled-zeros o = record { order = o; size = length-replicate 128 (pos 0); small = λ k h. rw (getD-replicate 128 k (pos 0) (pos 0) h) zero-within }
 
-  -- row d, and what stands after it
-  pub run-inside : {d k : ℕ} → d < n → k < 8 → d * n + k < 64
-  run-inside {d} {k} h l = let e : d ≤ 7 = omega arith in omega (arith, mul-le-mul e o)
+doubled-more : {n : ℕ} {t : List ℤ} {k : ℕ} {v : ℤ} → k < 128 → Within (2 ^ 21) v → Doubled n t → Doubled n (set t k v)
+doubled-more {n} {t} {k} h w d =
+    let i : k < length t = omega (arith, d .size) in
+    record { order = d .order; size = length-set t k _ ∙ d .size; small = λ j l. small-more t k _ j i w (d .small j l) }
 
-module _ {n : ℕ} {t : List ℤ} where
-  pub row-small : Doubled n t → {d k : ℕ} → d < n → k < 8 → Within (2 ^ 21) (at n t d k)
-  unfolding at
-  row-small g h l = g .small _ (run-inside (g .order) h l)
+-- an entry, doubled
+module _ {n : ℕ} {t : List ℤ} (g : Table n t) {c : ℤ} (w : Within 2 c) {k : ℕ} (h : k < n * n) where
+  twice-within : Within (2 ^ 21) (c *ℤ nth t k)
+  twice-within =
+      let e : Within entryRange (nth t k) = rw (nth-at n k t) (g .range (k / n) (k % n) (row-inside n k h) (column-inside n k h)) in
+      within-more (omega arith) (within-* w e)
 
-  module _ {c : ℤ} (g : Table n t) (w : Within 2 c) {k : ℕ} (h : k < n * n) where
-    multiple-within : Within (2 ^ 21) (c *ℤ nth t k)
-    multiple-within =
-        let e : Within entryRange (nth t k) = rw (nth-at n k t) (g .range (k / n) (k % n) (row-inside n k h) (column-inside n k h)) in
-        within-more (omega arith) (within-* w e)
+  pub twice-fits : SFits w64 (c *ℤ nth t k)
+  twice-fits = fits-within twice-within (omega arith)
 
-    pub multiple-fits : SFits w64 (c *ℤ nth t k)
-    multiple-fits = fits-within multiple-within (omega arith)
+module _ {n : ℕ} {l u : List ℤ} where
+  pub doubling-start : {t : List ℤ} → Doubled n t → Doubling n l u t 0
+  doubling-start d = record { doubled = d; same = λ k h. absurd (omega arith); other = λ k h. absurd (omega arith) }
 
-    pub multiplied-more : {t′ : List ℤ} → Multiplied n t c t′ k → Multiplied n t c (set t′ k (c *ℤ nth t k)) (suc k)
-    multiplied-more {t′} a =
+  module _ (f : Table n l) (g : Table n u) {k : ℕ} (h : k < n * n) {t : List ℤ} (a : Doubling n l u t k) where
+    pub doubling-more : Doubling n l u (set (set t k (pos 2 *ℤ nth l k)) (64 + k) (negsuc 1 *ℤ nth u k)) (suc k)
+    doubling-more =
+        let b : k < 64 = omega (arith, at-most-64 (f .order)) in
         let d = a .doubled in
-        let i : k < length t′ = omega (arith, d .size, at-most-64 (g .order)) in
+        let i : k < length t = omega (arith, d .size) in
+        let j : k < length (drop 64 t) = omega (arith, d .size, length-drop 64 t) in
+        let e = drop-set-add 64 (set t k (pos 2 *ℤ nth l k)) k (negsuc 1 *ℤ nth u k) ∙ ap (λ (z : List ℤ). set z k (negsuc 1 *ℤ nth u k)) (drop-set-lt 64 t k (pos 2 *ℤ nth l k) b) in
         record {
-          doubled = record { order = d .order; size = length-set t′ k _ ∙ d .size; small = λ j l. small-more t′ k _ j i multiple-within (d .small j l) };
-          entries = λ j l. entry-more t′ k _ (λ z. c *ℤ nth t z) i refl j l (a .entries j);
+          doubled = doubled-more {k = 64 + k} (omega arith) (twice-within g {c = negsuc 1} (record { size = omega arith }) h) (doubled-more {k = k} (omega arith) (twice-within f {c = pos 2} (record { size = omega arith }) h) d);
+          same = λ m q. getD-set-other (set t k (pos 2 *ℤ nth l k)) (64 + k) m (negsuc 1 *ℤ nth u k) (pos 0) (omega arith) ∙ entry-more t k _ (λ z. pos 2 *ℤ nth l z) i refl m q (a .same m);
+          other = λ m q. rw e (entry-more (drop 64 t) k _ (λ z. negsuc 1 *ℤ nth u z) j refl m q (a .other m));
         }
 
-  pub multiplied-start : {c : ℤ} {t′ : List ℤ} → Doubled n t′ → Multiplied n t c t′ 0
-  multiplied-start d = record { doubled = d; entries = λ k l. absurd (omega arith) }
-
-  pub multiplied-at : {c : ℤ} {t′ : List ℤ} → Multiplied n t c t′ (n * n) → (i j : ℕ) → i < n → j < n → at n t′ i j ≡ c *ℤ at n t i j
+-- what the code reads, of the tables L and U
+module _ {n : ℕ} {l u t : List ℤ} (a : Doubling n l u t (n * n)) (i j : ℕ) (h : i < n) (k : j < n) where
+  pub same-at : sameSign n t i j ≡ pos 2 *ℤ at n l i j
   unfolding at
-  multiplied-at a i j h l = a .entries (i * n + j) (inside h l)
+  same-at = a .same (i * n + j) (inside h k)
+
+  pub other-at : otherSign n t i j ≡ negsuc 1 *ℤ at n u i j
+  unfolding at
+  other-at = a .other (i * n + j) (inside h k)
 
 -- ---- a row of a table is added
-module _ {n : ℕ} {t : List ℤ} {d : ℕ} {p : List ℤ} where
-  pub added-start : {p′ : List ℤ} → length p′ ≡ 8 → Added n t d p p′ 0
+module _ {n : ℕ} {t : List ℤ} {f d : ℕ} {p : List ℤ} where
+  pub added-start : {p′ : List ℤ} → length p′ ≡ 8 → Added n t f d p p′ 0
   added-start h = record { size = h; entries = λ k l. absurd (omega arith) }
 
-  pub added-more : {p′ : List ℤ} {m : ℕ} → m < 8 → Added n t d p p′ m → Added n t d p (set p′ m (nth p m +ℤ at n t d m)) (suc m)
+  pub added-more : {p′ : List ℤ} {m : ℕ} → m < 8 → Added n t f d p p′ m → Added n t f d p (set p′ m (nth p m +ℤ at n (drop f t) d m)) (suc m)
   added-more {p′} {m} h a = record {
     size = length-set p′ m _ ∙ a .size;
-    entries = λ k l. entry-more p′ m _ (λ i. nth p i +ℤ at n t d i) (omega (arith, a .size)) refl k l (a .entries k);
+    entries = λ k l. entry-more p′ m _ (λ i. nth p i +ℤ at n (drop f t) d i) (omega (arith, a .size)) refl k l (a .entries k);
   }
 
   -- sizes
-  module _ (g : Doubled n t) (h : d < n) (o : Open d p) where
-    sum-within : {k : ℕ} → k < 8 → Within (2 ^ 20 + suc d * 2 ^ 21) (nth p k +ℤ at n t d k)
-    sum-within l = within-more (omega arith) (within-+ (o .small _ l) (row-small g h l))
+  module _ (g : Doubled n t) (b : f ≤ 64) (h : d < n) (o : Open d p) where
+    sum-within : {k : ℕ} → k < 8 → Within (2 ^ 20 + suc d * 2 ^ 21) (nth p k +ℤ at n (drop f t) d k)
+    sum-within l = within-more (omega arith) (within-+ (o .small _ l) (row-small g b h l))
 
-    pub sum-fits : {k : ℕ} → k < 8 → SFits w64 (nth p k +ℤ at n t d k)
+    pub sum-fits : {k : ℕ} → k < 8 → SFits w64 (nth p k +ℤ at n (drop f t) d k)
     sum-fits l = fits-within (sum-within l) (omega (arith, g .order))
 
-    pub added-open : {p′ : List ℤ} → Added n t d p p′ 8 → Open (suc d) p′
+    pub added-open : {p′ : List ℤ} → Added n t f d p p′ 8 → Open (suc d) p′
     added-open a = record { size = a .size; small = λ k l. rw (a .entries k l) (sum-within l) }
+
+-- entry d is chosen, and not 0
+module _ {n : ℕ} {t : List ℤ} {d : ℕ} (g : Doubled n t) (h : d < n) {p q p′ q′ : List ℤ} (o : Open d p) (o′ : Open d q) {e : ℤ} where
+  pub chosen-one : ltZ (pos 0) e ≡ true → Added n t 0 d p p′ 8 → Added n t 64 d q q′ 8 → Chosen n t d e p q p′ q′
+  unfolding after
+  chosen-one s a b = let order = g .order in record {
+    plus = added-open g (omega arith) h o a;
+    minus = added-open g (omega arith) h o′ b;
+    plus-is = λ k l. a .entries k (omega arith) ∙ sym (ap (λ (f : ℕ → ℤ). f k) (sign-above e _ _ _ s));
+    minus-is = λ k l. b .entries k (omega arith) ∙ sym (ap (λ (f : ℕ → ℤ). f k) (sign-above e _ _ _ s));
+  }
+
+  pub chosen-minus-one : ltZ (pos 0) e ≡ false → (e ≡ pos 0 → ⊥) → Added n t 64 d p p′ 8 → Added n t 0 d q q′ 8 → Chosen n t d e p q p′ q′
+  unfolding after
+  chosen-minus-one s z a b = let order = g .order in record {
+    plus = added-open g (omega arith) h o a;
+    minus = added-open g (omega arith) h o′ b;
+    plus-is = λ k l. a .entries k (omega arith) ∙ sym (ap (λ (f : ℕ → ℤ). f k) (sign-below e _ _ _ s z));
+    minus-is = λ k l. b .entries k (omega arith) ∙ sym (ap (λ (f : ℕ → ℤ). f k) (sign-below e _ _ _ s z));
+  }
 
 -- ---- what each entry adds by itself
 pub open-zeros : Open 0 (replicate 8 (pos 0))
@@ -108,58 +140,20 @@ module _ {n : ℕ} {t : List ℤ} where
       }
 
 -- ---- from entry d to entry d + 1
-open-more : {d : ℕ} {p : List ℤ} → Open d p → Open (d + 1) p
+pub open-more : {d : ℕ} {p : List ℤ} → Open d p → Open (suc d) p
 open-more o = record { size = o .size; small = λ k h. within-more (omega arith) (o .small k h) }
 
-module _ {n : ℕ} {l u : List ℤ} {d : ℕ} where
-  module _ {s : ℤ} {p q : List ℤ} (g : Searching n l u d s p q) where
-    pub below-8 : d < 8
-    below-8 = omega (arith, g .same .order, g .inside)
+pub next : {n : ℕ} {t : List ℤ} {d : ℕ} {s : ℤ} {p q : List ℤ} → Doubled n t → d < n → Within (suc d * 2 ^ 25) s → Open (suc d) p → Open (suc d) q → Searching n t (d + 1) s p q
+next g h w o o′ = rw add-one (record { pairs = g; inside = h; sum = w; plus = o; minus = o′ })
 
-    module _ {r : List ℤ} (o : Open d r) where
-      next-within : Within ((d + 1) * 2 ^ 25) (s +ℤ nth r d)
-      next-within = within-more (omega (arith, below-8)) (within-+ (g .sum) (o .small d below-8))
+module _ {n : ℕ} {t : List ℤ} {d : ℕ} {s : ℤ} {p q : List ℤ} (g : Searching n t d s p q) (h : d < n) where
+  entry-within : {r : List ℤ} → Open d r → Within (suc d * 2 ^ 25) (s +ℤ nth r d)
+  entry-within o = let b = at-most-8 g in let order = g .pairs .order in within-more (omega arith) (within-+ (g .sum) (o .small d (omega arith)))
 
-      pub next-fits : SFits w64 (s +ℤ nth r d)
-      next-fits = fits-within next-within (omega (arith, below-8))
-
-      pub open-within : {k : ℕ} → k < 8 → Within (2 ^ 30) (nth r k)
-      open-within h = within-more (omega (arith, below-8)) (o .small _ h)
-
-      pub last-within : Within (2 ^ 30) (nth r d)
-      last-within = open-within below-8
-
-    pub sum-last : Within (2 ^ 30) s
-    sum-last = within-more (omega (arith, below-8)) (g .sum)
-
-    module _ (h : d + 1 < n) where
-      pub next-zero : Searching n l u (d + 1) s p q
-      next-zero = record { same = g .same; other = g .other; inside = h; sum = within-more (omega arith) (g .sum); plus = open-more (g .plus); minus = open-more (g .minus) }
-
-      pub next-one : {p′ q′ : List ℤ} → Chosen n l u d p q p′ q′ → Searching n l u (d + 1) (s +ℤ nth p d) p′ q′
-      next-one c = record {
-        same = g .same;
-        other = g .other;
-        inside = h;
-        sum = next-within (g .plus);
-        plus = rw add-one (added-open (g .same) (g .inside) (g .plus) (c .same));
-        minus = rw add-one (added-open (g .other) (g .inside) (g .minus) (c .other));
-      }
-
-      pub next-minus-one : {p′ q′ : List ℤ} → Chosen n l u d q p q′ p′ → Searching n l u (d + 1) (s +ℤ nth q d) p′ q′
-      next-minus-one c = record {
-        same = g .same;
-        other = g .other;
-        inside = h;
-        sum = next-within (g .minus);
-        plus = rw add-one (added-open (g .other) (g .inside) (g .plus) (c .other));
-        minus = rw add-one (added-open (g .same) (g .inside) (g .minus) (c .same));
-      }
+  -- the sum with an entry
+  pub next-within : (e : ℤ) → Within (suc d * 2 ^ 25) (bySign e s (s +ℤ nth p d) (s +ℤ nth q d))
+  next-within e = by-sign e (Within (suc d * 2 ^ 25)) (within-more (omega arith) (g .sum)) (entry-within (g .plus)) (entry-within (g .minus))
 
 -- ---- where all entries before d are 0
-module _ {n : ℕ} {l u : List ℤ} where
-  pub half-start : {t p : List ℤ} → Doubled n l → Doubled n u → 0 < n → Diagonal n t p n → Searching n l u 0 (pos 0) p p
-  half-start a b h d = let o = d .start in record { same = a; other = b; inside = h; sum = zero-within; plus = o; minus = o }
-
-  pub next-half : {d : ℕ} {p p′ q′ : List ℤ} → Searching n l u d (pos 0) p p → d + 1 < n → Chosen n l u d p p p′ q′ → Searching n l u (d + 1) (nth p d) p′ q′
-  next-half {d} {p} g h c = rw (+ℤ-idl (nth p d)) at (next-one g h c)
+pub next-half : {n : ℕ} {t : List ℤ} {d : ℕ} {p : List ℤ} → Searching n t d (pos 0) p p → d < n → Searching n t (d + 1) (pos 0) p p
+next-half g h = let o = open-more (g .plus) in next (g .pairs) h zero-within o o

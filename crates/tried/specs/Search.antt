@@ -4,13 +4,14 @@ use mathlib.Core.Bool.{Bool, true, false}
 use mathlib.Core.List.{List, [], _∷_}
 use mathlib.Core.Option.{Option, none, some}
 use mathlib.Core.Path.{_≡_}
-use Prim.Native.Nat.{ℕ, zero, suc, _+_, _*_, _^_, _≤_, _<_}
+use Prim.Native.Nat.{ℕ, zero, suc, _+_, _*_, _≤_, _<_}
 use lib.IntN.{ℤ, pos, negsuc, _+ℤ_, _*ℤ_}
-use lib.Signed.{leZ}
-use lib.ListN.{length}
+use lib.Signed.{ltZ, leZ}
+use lib.ListN.{length, drop}
 use Rattle.integers.specs.Numbers.{Within}
 use Rattle.tables.specs.Ranges.{greatestOrder, entryRange}
 use Rattle.tables.specs.Matrix.{Matrix, at, nth, tabulate}
+use Rattle.lookahead.specs.Pairs.{sameSign, otherSign, more, Doubled, Open}
 
 -- the vector that was found, with an entry put in front
 unfoldable pub front : ℤ → Option (List ℤ) → Option (List ℤ)
@@ -20,14 +21,6 @@ front a (some x) = some (a ∷ x)
 unfoldable pub orElse : Option (List ℤ) → Option (List ℤ) → Option (List ℤ)
 orElse none b = b
 orElse (some x) b = some x
-
--- what the open entries would add, once entry d is chosen: a row of a table more
-abbrev pub more : Matrix → ℕ → (ℕ → ℤ) → ℕ → ℤ
-more T d p k = p k +ℤ T d k
-
--- the two tables that the search reads: what a pair of entries adds where they have the same sign, 2 L, and where they have not, -2 U
-abbrev pub times : ℤ → Matrix → Matrix
-times c T i j = c *ℤ T i j
 
 -- no entry is left to choose: the sum is 0 or less, or not
 unfoldable pub reached : ℤ → Option (List ℤ)
@@ -42,15 +35,27 @@ seek S O d (suc k) p q s =
     (orElse (front (pos 1) (seek S O (suc d) k (more S d p) (more O d q) (s +ℤ p d)))
     (front (negsuc 0) (seek S O (suc d) k (more O d p) (more S d q) (s +ℤ q d))))
 
--- the choice of one entry, which would add p or q
-abbrev pub lastChoice : ℤ → ℤ → ℤ → Option (List ℤ)
-lastChoice s p q = orElse (front (pos 0) (reached s)) (orElse (front (pos 1) (reached (s +ℤ p))) (front (negsuc 0) (reached (s +ℤ q))))
+-- one of three by an entry's sign: x for 0, y for 1, z for -1
+unfoldable pub bySign : {A : Type 0} → ℤ → A → A → A → A
+bySign e x y z = elim (ltZ (pos 0) e) [ true ↦ y | false ↦ elim (ltZ e (pos 0)) [ true ↦ z | false ↦ x ] ]
 
--- the same where all entries before d are 0: the zero vector is skipped, and so is x where -x stood earlier: its first entry that is not 0 is -1
+-- what the open entries would add once entry d is e: S is for 1, O for -1
+unfoldable pub after : Matrix → Matrix → ℕ → ℤ → (ℕ → ℤ) → ℕ → ℤ
+after S O d e p = bySign e p (more S d p) (more O d p)
+
+-- the first choice of the k entries after entry d, which is e; s is the sum with it
+abbrev pub seekAfter : Matrix → Matrix → ℕ → ℕ → ℤ → (ℕ → ℤ) → (ℕ → ℤ) → ℤ → Option (List ℤ)
+seekAfter S O d k e p q s = seek S O (suc d) k (after S O d e p) (after O S d e q) s
+
+-- the same with e in front; `seek` takes the first of these for 0, 1 and -1
+unfoldable pub inFront : Matrix → Matrix → ℕ → ℕ → ℤ → (ℕ → ℤ) → (ℕ → ℤ) → ℤ → Option (List ℤ)
+inFront S O d k e p q s = front e (seekAfter S O d k e p q (bySign e s (s +ℤ p d) (s +ℤ q d)))
+
+-- `seek` where all entries before d are 0: the zero vector is skipped, and so is x where -x stood earlier: its first entry that is not 0 is -1
 unfoldable pub seekHalf : Matrix → Matrix → ℕ → ℕ → (ℕ → ℤ) → Option (List ℤ)
 seekHalf S O d zero p = none
 seekHalf S O d (suc k) p =
-    orElse (front (pos 0) (seekHalf S O (suc d) k p)) (front (pos 1) (seek S O (suc d) k (more S d p) (more O d p) (p d)))
+    orElse (front (pos 0) (seekHalf S O (suc d) k p)) (front (pos 1) (seek S O (suc d) k (more S d p) (more O d p) (pos 0 +ℤ p d)))
 
 -- what the code answers: the entries of x from d on, or that there are none
 unfoldable pub found : Bool → ℕ → ℕ → List ℤ → Option (List ℤ)
@@ -61,47 +66,30 @@ pub record Searched (o : Option (List ℤ)) (r : Bool) (d k : ℕ) (x : List ℤ
   pub answer : o ≡ found r d k x
   pub size : length x ≡ 8
 
--- ---- what the code asks of its numbers, so that every sum fits 64 bits
+-- ---- what the code asks of its numbers, and how it makes them
 -- a table of order n, its entries in their range
 pub record Table (n : ℕ) (t : List ℤ) : Type 0 where
   pub order : n ≤ greatestOrder
   pub size : n * n ≤ length t
   pub range : (i j : ℕ) → i < n → j < n → Within entryRange (at n t i j)
 
--- a table that the search reads. Rows are added 8 entries wide, so what stands behind the table is small too
-pub record Doubled (n : ℕ) (t : List ℤ) : Type 0 where
-  pub order : n ≤ greatestOrder
-  pub size : length t ≡ 64
-  pub small : (k : ℕ) → k < 64 → Within (2 ^ 21) (nth t k)
+-- the first entries, to m, of the two tables that the search reads: 2 L and -2 U
+pub record Doubling (n : ℕ) (l u t : List ℤ) (m : ℕ) : Type 0 where
+  pub doubled : Doubled n t
+  pub same : (k : ℕ) → k < m → nth t k ≡ pos 2 *ℤ nth l k
+  pub other : (k : ℕ) → k < m → nth (drop 64 t) k ≡ negsuc 1 *ℤ nth u k
 
--- what an open entry would add, after d entries: its diagonal entry, and at most twice an entry for each of them
-pub record Open (d : ℕ) (p : List ℤ) : Type 0 where
-  pub size : length p ≡ 8
-  pub small : (k : ℕ) → k < 8 → Within (2 ^ 20 + d * 2 ^ 21) (nth p k)
-
--- the entries from d on are to be chosen
-pub record Searching (n : ℕ) (t u : List ℤ) (d : ℕ) (s : ℤ) (p q : List ℤ) : Type 0 where
-  pub same : Doubled n t
-  pub other : Doubled n u
-  pub inside : d < n
-  pub sum : Within (d * 2 ^ 25) s
-  pub plus : Open d p
-  pub minus : Open d q
-
--- the first entries, to m, of a table of which each is c times that of another
-pub record Multiplied (n : ℕ) (t : List ℤ) (c : ℤ) (t′ : List ℤ) (m : ℕ) : Type 0 where
-  pub doubled : Doubled n t′
-  pub entries : (k : ℕ) → k < m → nth t′ k ≡ c *ℤ nth t k
-
--- the first entries, to m, of what the open entries would add: with row d of a table more
-pub record Added (n : ℕ) (t : List ℤ) (d : ℕ) (p p′ : List ℤ) (m : ℕ) : Type 0 where
+-- the first entries, to m, of what the open entries would add: with row d more of the table from f on
+pub record Added (n : ℕ) (t : List ℤ) (f d : ℕ) (p p′ : List ℤ) (m : ℕ) : Type 0 where
   pub size : length p′ ≡ 8
-  pub entries : (k : ℕ) → k < m → nth p′ k ≡ nth p k +ℤ at n t d k
+  pub entries : (k : ℕ) → k < m → nth p′ k ≡ nth p k +ℤ at n (drop f t) d k
 
--- entry d is chosen: what the entries after it would add with its sign, p, and with the other one, q
-pub record Chosen (n : ℕ) (t u : List ℤ) (d : ℕ) (p q p′ q′ : List ℤ) : Type 0 where
-  pub same : Added n t d p p′ 8
-  pub other : Added n u d q q′ 8
+-- entry d is e, and not 0: what the entries would then add if they were 1, p′, and if they were -1, q′
+pub record Chosen (n : ℕ) (t : List ℤ) (d : ℕ) (e : ℤ) (p q p′ q′ : List ℤ) : Type 0 where
+  pub plus : Open (suc d) p′
+  pub minus : Open (suc d) q′
+  pub plus-is : (k : ℕ) → k < n → nth p′ k ≡ after (sameSign n t) (otherSign n t) d e (nth p) k
+  pub minus-is : (k : ℕ) → k < n → nth q′ k ≡ after (otherSign n t) (sameSign n t) d e (nth q) k
 
 -- the first entries, to m, of what an entry adds by itself
 pub record Diagonal (n : ℕ) (t p : List ℤ) (m : ℕ) : Type 0 where

@@ -1,146 +1,167 @@
 // Document 01, "Showing a vector": the tried vectors, and the first of them that shows 'not definite'.
 // Entries are chosen from the first on. The entries chosen have a least value, the sum so far, and each open entry has what it would add to that.
-// The search reads two tables: 2 L, what two entries of the same sign add, and -2 U, what two of different signs do.
+// What two entries add stands in one array: 2 L, for two of the same sign, and from entry OTHER on -2 U, for two of different signs.
 ghost use mathlib.Core.Path.{_≡_};
-ghost use Prim.Native.Nat.{_-_, _*_, _^_, _<_};
-ghost use lib.IntN.{pos};
+ghost use Prim.Native.Nat.{suc, _-_, _*_, _^_, _≤_, _<_};
+ghost use lib.IntN.{pos, _+ℤ_};
 ghost use lib.ListN.{length};
 ghost use Rattle.integers.specs.Numbers.{Within};
 ghost use Rattle.tables.specs.Bounds.{Bounds};
 ghost use Rattle.tables.specs.Matrix.{at, nth};
 ghost use Rattle.vectors.specs.Least.{shows};
+ghost use Rattle.lookahead.specs.Pairs.{sameSign, otherSign, Doubled, Open, Searching};
 ghost use Rattle.tried.specs.Tried.{tried, first};
-ghost use Rattle.tried.specs.Search.{lastChoice, seek, seekHalf, Searched, Table, Doubled, Open, Searching, Multiplied, Added, Chosen, Diagonal};
-use crate::ahead::passed_over;
-use crate::ahead::row_entry;
+ghost use Rattle.tried.specs.Search.{seek, bySign, seekAfter, inFront, seekHalf, Searched, Table, Doubling, Added, Chosen, Diagonal};
+use lookahead::ahead::OTHER;
+use lookahead::ahead::passed_over;
+use lookahead::ahead::row_entry;
 
-mod ahead;
-mod least;
-
-// Chooses the last entry, entry d: the first of 0, 1 and -1 with which the sum is 0 or less.
-fn last(d: usize, sum: i64, plus: i64, minus: i64, v: &mut [i64; 8]) -> bool
-    requires { ⌜ (d < 8) × Within (2 ^ 30) sum × Within (2 ^ 30) plus × Within (2 ^ 30) minus × (length (now v) ≡ 8) ⌝ }
-    ensures { λ r. ⌜ Searched (lastChoice sum plus minus) r d 1 (now (v .exit)) ⌝ }
-{
-    let one = sum + plus;
-    let minus_one = sum + minus;
-    if sum <= 0 {
-        v[d] = 0;
-        return true;
-    }
-    if one <= 0 {
-        v[d] = 1;
-        return true;
-    }
-    v[d] = -1;
-    minus_one <= 0
-}
-
-// Adds row d of a table to what the entries would add. All 8 are added, which takes fewer steps than a count does: those from n on are never read.
-fn add_row(n: usize, table: &[i64; 64], d: usize, from: &[i64; 8], to: &mut [i64; 8])
-    requires { ⌜ Doubled n (now table) × (d < n) × Open d (now from) × (length (now to) ≡ 8) ⌝ }
-    ensures { λ r. ⌜ Added n (now (table .entry)) d (now (from .entry)) (now (to .exit)) 8 ⌝ }
+// Adds row d of the table from `start` on to what the entries would add. All 8 are added, which takes fewer steps than a count does: those from n on are never read.
+fn add_row(n: usize, pairs: &[i64; 128], start: usize, d: usize, from: &[i64; 8], to: &mut [i64; 8])
+    requires { ⌜ Doubled n (now pairs) × (start ≤ 64) × (d < n) × Open d (now from) × (length (now to) ≡ 8) ⌝ }
+    ensures { λ r. ⌜ Added n (now (pairs .entry)) start d (now (from .entry)) (now (to .exit)) 8 ⌝ }
 {
     let mut k = 0;
     while k < 8 {
-        to[k] = from[k] + row_entry(n, table, d, k);
+        to[k] = from[k] + row_entry(n, pairs, start, d, k);
         k += 1;
     }
 }
 
-// What the entries would add once entry d is chosen: with its sign, and with the other one.
+// What the entries after entry d would add, once it is chosen and not 0.
 fn choose(
     n: usize,
-    same: &[i64; 64],
-    other: &[i64; 64],
+    pairs: &[i64; 128],
     d: usize,
-    alike: &[i64; 8],
-    opposed: &[i64; 8],
+    entry: i64,
+    plus: &[i64; 8],
+    minus: &[i64; 8],
     p: &mut [i64; 8],
     q: &mut [i64; 8],
 )
-    requires { ⌜ Doubled n (now same) × Doubled n (now other) × (d < n) × Open d (now alike) × Open d (now opposed) × (length (now p) ≡ 8) × (length (now q) ≡ 8) ⌝ }
-    ensures { λ r. ⌜ Chosen n (now (same .entry)) (now (other .entry)) d (now (alike .entry)) (now (opposed .entry)) (now (p .exit)) (now (q .exit)) ⌝ }
+    requires { ⌜ Doubled n (now pairs) × (d < n) × (entry ≡ pos 0 → ⊥) × Open d (now plus) × Open d (now minus) × (length (now p) ≡ 8) × (length (now q) ≡ 8) ⌝ }
+    ensures { λ r. ⌜ Chosen n (now (pairs .entry)) d entry (now (plus .entry)) (now (minus .entry)) (now (p .exit)) (now (q .exit)) ⌝ }
 {
-    add_row(n, same, d, alike, p);
-    add_row(n, other, d, opposed, q);
+    if 0 < entry {
+        add_row(n, pairs, 0, d, plus, p);
+        add_row(n, pairs, OTHER, d, minus, q);
+        return;
+    }
+    add_row(n, pairs, OTHER, d, plus, p);
+    add_row(n, pairs, 0, d, minus, q);
 }
 
-// Chooses the entries from d on: tries 0, 1 and -1 for entry d, each with all choices of the entries after it. The last three or four are passed over
-// where none of their choices brings the sum to 0 or less.
+// The sum with an entry that would add `plus` if it were 1, and `minus` if it were -1.
+fn sum_with(entry: i64, sum: i64, plus: i64, minus: i64) -> i64
+    requires { ⌜ Within (2 ^ 30) sum × Within (2 ^ 30) plus × Within (2 ^ 30) minus ⌝ }
+    ensures { λ r. ⌜ r ≡ bySign entry sum (sum +ℤ plus) (sum +ℤ minus) ⌝ }
+{
+    if 0 < entry {
+        return sum + plus;
+    }
+    if entry < 0 {
+        return sum + minus;
+    }
+    sum
+}
+
+// Chooses the entries after entry d. What they would add is as before where that entry is 0, and is not worked out where there are none.
+fn search_after(
+    n: usize,
+    pairs: &[i64; 128],
+    d: usize,
+    entry: i64,
+    sum: i64,
+    plus: &[i64; 8],
+    minus: &[i64; 8],
+    x: &mut [i64; 8],
+) -> bool
+    requires { ⌜ Doubled n (now pairs) × (d < n) × Within (suc d * 2 ^ 25) sum × Open d (now plus) × Open d (now minus) × (length (now x) ≡ 8) ⌝ }
+    ensures { λ r. ⌜ Searched (seekAfter (sameSign n (now (pairs .entry))) (otherSign n (now (pairs .entry))) d (n - suc d) entry (nth (now (plus .entry))) (nth (now (minus .entry))) sum) r (suc d) (n - suc d) (now (x .exit)) ⌝ }
+{
+    if entry == 0 || d + 1 == n {
+        return search(n, pairs, d + 1, sum, plus, minus, x);
+    }
+    let mut p = [0i64; 8];
+    let mut q = [0i64; 8];
+    choose(n, pairs, d, entry, plus, minus, &mut p, &mut q);
+    search(n, pairs, d + 1, sum, &p, &q, x)
+}
+
+// Chooses the entries from d on, with a given one in front.
+fn search_with(
+    n: usize,
+    pairs: &[i64; 128],
+    d: usize,
+    entry: i64,
+    sum: i64,
+    plus: &[i64; 8],
+    minus: &[i64; 8],
+    x: &mut [i64; 8],
+) -> bool
+    requires { ⌜ Searching n (now pairs) d sum (now plus) (now minus) × (d < n) × (length (now x) ≡ 8) ⌝ }
+    ensures { λ r. ⌜ Searched (inFront (sameSign n (now (pairs .entry))) (otherSign n (now (pairs .entry))) d (n - suc d) entry (nth (now (plus .entry))) (nth (now (minus .entry))) sum) r d (n - d) (now (x .exit)) ⌝ }
+{
+    let with = sum_with(entry, sum, plus[d], minus[d]);
+    let hit = search_after(n, pairs, d, entry, with, plus, minus, x);
+    x[d] = entry;
+    hit
+}
+
+// Chooses the entries from d on: tries 0, 1 and -1 in front, each with all choices of the entries after it, down to where no entry is left. The last
+// four are passed over where none of their choices brings the sum to 0 or less.
 fn search(
     n: usize,
-    same: &[i64; 64],
-    other: &[i64; 64],
+    pairs: &[i64; 128],
     d: usize,
     sum: i64,
     plus: &[i64; 8],
     minus: &[i64; 8],
     x: &mut [i64; 8],
 ) -> bool
-    requires { ⌜ Searching n (now same) (now other) d sum (now plus) (now minus) × (length (now x) ≡ 8) ⌝ }
-    ensures { λ r. ⌜ Searched (seek (at n (now (same .entry))) (at n (now (other .entry))) d (n - d) (nth (now (plus .entry))) (nth (now (minus .entry))) sum) r d (n - d) (now (x .exit)) ⌝ }
+    requires { ⌜ Searching n (now pairs) d sum (now plus) (now minus) × (length (now x) ≡ 8) ⌝ }
+    ensures { λ r. ⌜ Searched (seek (sameSign n (now (pairs .entry))) (otherSign n (now (pairs .entry))) d (n - d) (nth (now (plus .entry))) (nth (now (minus .entry))) sum) r d (n - d) (now (x .exit)) ⌝ }
 {
-    if d + 1 == n {
-        return last(d, sum, plus[d], minus[d], x);
+    if d == n {
+        return sum <= 0;
     }
-    if passed_over(n, same, other, d, sum, plus, minus) {
+    if passed_over(n, pairs, d, sum, plus, minus) {
         return false;
     }
-    if search(n, same, other, d + 1, sum, plus, minus, x) {
-        x[d] = 0;
+    if search_with(n, pairs, d, 0, sum, plus, minus, x) {
         return true;
     }
-    let mut p = [0i64; 8];
-    let mut q = [0i64; 8];
-    choose(n, same, other, d, plus, minus, &mut p, &mut q);
-    if search(n, same, other, d + 1, sum + plus[d], &p, &q, x) {
-        x[d] = 1;
+    if search_with(n, pairs, d, 1, sum, plus, minus, x) {
         return true;
     }
-    choose(n, same, other, d, minus, plus, &mut q, &mut p);
-    let hit = search(n, same, other, d + 1, sum + minus[d], &p, &q, x);
-    x[d] = -1;
-    hit
+    search_with(n, pairs, d, -1, sum, plus, minus, x)
 }
 
 // The same where all entries before d are 0: not all are, and the first that is not is 1.
-fn search_half(
-    n: usize,
-    same: &[i64; 64],
-    other: &[i64; 64],
-    d: usize,
-    plus: &[i64; 8],
-    x: &mut [i64; 8],
-) -> bool
-    requires { ⌜ Searching n (now same) (now other) d (pos 0) (now plus) (now plus) × (length (now x) ≡ 8) ⌝ }
-    ensures { λ r. ⌜ Searched (seekHalf (at n (now (same .entry))) (at n (now (other .entry))) d (n - d) (nth (now (plus .entry)))) r d (n - d) (now (x .exit)) ⌝ }
+fn search_half(n: usize, pairs: &[i64; 128], d: usize, plus: &[i64; 8], x: &mut [i64; 8]) -> bool
+    requires { ⌜ Searching n (now pairs) d (pos 0) (now plus) (now plus) × (length (now x) ≡ 8) ⌝ }
+    ensures { λ r. ⌜ Searched (seekHalf (sameSign n (now (pairs .entry))) (otherSign n (now (pairs .entry))) d (n - d) (nth (now (plus .entry)))) r d (n - d) (now (x .exit)) ⌝ }
 {
-    if d + 1 == n {
-        x[d] = 1;
-        return plus[d] <= 0;
+    if d == n {
+        return false;
     }
-    if search_half(n, same, other, d + 1, plus, x) {
+    if search_half(n, pairs, d + 1, plus, x) {
         x[d] = 0;
         return true;
     }
-    let mut p = [0i64; 8];
-    let mut q = [0i64; 8];
-    choose(n, same, other, d, plus, plus, &mut p, &mut q);
-    let hit = search(n, same, other, d + 1, plus[d], &p, &q, x);
-    x[d] = 1;
-    hit
+    search_with(n, pairs, d, 1, 0, plus, plus, x)
 }
 
-// Each entry of a table of order n, times a factor.
-fn multiply(n: usize, table: &[i64], factor: i64, to: &mut [i64; 64])
-    requires { ⌜ Table n (now table) × Within 2 factor × Doubled n (now to) ⌝ }
-    ensures { λ r. ⌜ Multiplied n (now (table .entry)) factor (now (to .exit)) (n * n) ⌝ }
+// What two entries add, from the tables of order n.
+fn double(n: usize, low: &[i64], high: &[i64], pairs: &mut [i64; 128])
+    requires { ⌜ Table n (now low) × Table n (now high) × Doubled n (now pairs) ⌝ }
+    ensures { λ r. ⌜ Doubling n (now (low .entry)) (now (high .entry)) (now (pairs .exit)) (n * n) ⌝ }
 {
     let count = n * n;
     let mut k = 0;
     while k < count {
-        to[k] = factor * table[k];
+        pairs[k] = 2 * low[k];
+        pairs[OTHER + k] = -2 * high[k];
         k += 1;
     }
 }
@@ -162,11 +183,9 @@ pub fn first_tried(n: usize, low: &[i64], high: &[i64], x: &mut [i64; 8]) -> boo
     requires { ⌜ Table n (now low) × Table n (now high) × Bounds n (at n (now low)) (at n (now high)) × (0 < n) × (length (now x) ≡ 8) ⌝ }
     ensures { λ r. ⌜ Searched (first (λ v. shows n (at n (now (low .entry))) (at n (now (high .entry))) (nth v)) (tried n)) r 0 n (now (x .exit)) ⌝ }
 {
-    let mut same = [0i64; 64];
-    let mut other = [0i64; 64];
+    let mut pairs = [0i64; 128];
     let mut p = [0i64; 8];
-    multiply(n, low, 2, &mut same);
-    multiply(n, high, -2, &mut other);
+    double(n, low, high, &mut pairs);
     diagonal(n, low, &mut p);
-    search_half(n, &same, &other, 0, &p, x)
+    search_half(n, &pairs, 0, &p, x)
 }

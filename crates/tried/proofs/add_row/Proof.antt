@@ -10,15 +10,15 @@ use Rattle.tried.proofs.add_row.Statement.{statement}
 use Rattle.tried.proofs.add_row.Tie as tie
 
 abbrev Inv-loop : tie.InvT-loop
-Inv-loop n table d from to₀ k₀ to k = (k ≤ 8) × Added n table d from to k
+Inv-loop n pairs start d from to₀ k₀ to k = (k ≤ 8) × Added n pairs start d from to k
 
 abbrev μ-loop : tie.MeasureT-loop
-μ-loop n table d from to₀ k₀ to k = 8 - k
+μ-loop n pairs start d from to₀ k₀ to k = 8 - k
 
 add-to : tie.Need-add-to Inv-loop μ-loop
 add-to c =
     let p = c .before .before .before .before .pre in
-    rw (clean-result (c .row-entry), c .row-entry .ensures, clean-element _ (c .before .to .given)) (sum-fits (p .0) (p .1) (p .2) (c .before .before .loop-test .taken))
+    rw (clean-result (c .row-entry), c .row-entry .ensures, clean-element _ (c .before .to .given)) (sum-fits (p .0) (p .1) (p .2) (p .3) (c .before .before .loop-test .taken))
 
 loop-again : tie.Need-loop-again Inv-loop μ-loop
 loop-again c = (
@@ -31,10 +31,10 @@ pub add-row-spec : {M : Type 1} → statement M
 add-row-spec =
     tie.close
     (tie.spec Inv-loop μ-loop
-    (λ c. (omega arith, added-start (c .pre .3)))
+    (λ c. (omega arith, added-start (c .pre .4)))
     (λ c. omega arith)
     (λ c. omega arith)
-    (λ c κs. let s = c .before .before .before in (s .pre .0, s .pre .1, c .before .loop-test .taken))
+    (λ c κs. let s = c .before .before .before in (s .pre .0, s .pre .1, s .pre .2, c .before .loop-test .taken))
     add-to
     (λ c. omega arith)
     (λ c. omega arith)

@@ -1,0 +1,59 @@
+-- The loop's invariant: the entries passed are doubled.
+use mathlib.Core.Path.{_≡_}
+use Prim.Native.Nat.{_*_, _-_, _≤_}
+use native.Mathlib.Omega.{arith}
+use native.Mathlib.Numerals.{add-one}
+use lib.IntN.{pos, negsuc}
+use Rattle.integers.proofs.Machine.{clean, clean-element}
+use Rattle.tables.specs.Matrix.{nth}
+use Rattle.tables.proofs.Matrix.{at-most-64}
+use Rattle.tried.specs.Search.{Doubling}
+use Rattle.tried.proofs.Shares.{doubling-start, doubling-more, twice-fits}
+use Rattle.tried.proofs.double.Statement.{statement}
+use Rattle.tried.proofs.double.Tie as tie
+
+abbrev Inv-loop : tie.InvT-loop
+Inv-loop n low high pairs₀ count k₀ pairs k = (k ≤ n * n) × Doubling n low high pairs k
+
+abbrev μ-loop : tie.MeasureT-loop
+μ-loop n low high pairs₀ count k₀ pairs k = count - k
+
+mul-pairs-2 : tie.Need-mul-pairs-2 Inv-loop μ-loop
+mul-pairs-2 c =
+    let s = c .before .before .before in
+    rw (clean-element _ (c .pairs .given)) (twice-fits (s .pre .0) {c = pos 2} (record { size = omega arith }) (c .before .loop-test .taken))
+
+mul-pairs-5 : tie.Need-mul-pairs-5 Inv-loop μ-loop
+mul-pairs-5 c =
+    let s = c .before .before .before .before in
+    rw (clean-element _ (c .pairs2 .given)) (twice-fits (s .pre .1) {c = negsuc 1} (record { size = omega arith }) (c .before .before .loop-test .taken))
+
+loop-again : tie.Need-loop-again Inv-loop μ-loop
+loop-again c =
+    let s = c .before .before .before .before in (
+      omega arith,
+      rw (clean (mul-pairs-2 (c .before)), clean-element (nth (s .args .low .now) (c .before .before .before .loop .k)) (c .before .pairs .given), clean (mul-pairs-5 c), clean-element _ (c .pairs2 .given), add-one)
+          (doubling-more (s .pre .0) (s .pre .1) (c .before .before .loop-test .taken) (c .before .before .before .loop .inv .1)),
+    )
+
+pub double-spec : {M : Type 1} → statement M
+double-spec =
+    tie.close
+    (tie.spec Inv-loop μ-loop
+    (λ c. omega (arith, at-most-64 (c .pre .0 .order)))
+    (λ c. (omega arith, doubling-start (c .pre .2)))
+    (λ c. omega (arith, at-most-64 (c .before .before .pre .0 .order)))
+    (λ c. omega (arith, c .before .before .pre .0 .size, c .before .before .pre .1 .size))
+    mul-pairs-2
+    (λ c. omega (arith, at-most-64 (c .before .before .before .pre .0 .order)))
+    (λ c. omega (arith, at-most-64 (c .before .before .before .pre .0 .order)))
+    (λ c. omega (arith, at-most-64 (c .before .before .before .pre .0 .order)))
+    (λ c. omega (arith, c .before .before .before .pre .0 .size, c .before .before .before .pre .1 .size))
+    mul-pairs-5
+    (λ c. omega (arith, at-most-64 (c .before .before .before .before .pre .0 .order)))
+    (λ c. omega (arith, at-most-64 (c .before .before .before .before .pre .0 .order)))
+    (λ c. omega (arith, at-most-64 (c .before .before .before .before .pre .0 .order)))
+    (λ c. omega (arith, at-most-64 (c .before .before .before .before .pre .0 .order)))
+    (λ c. omega arith)
+    loop-again
+    (λ c. let e : c .before .loop .k ≡ c .before .before .args .n * c .before .before .args .n = omega arith in rw e at (c .before .loop .inv .1)))
