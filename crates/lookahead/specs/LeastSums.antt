@@ -59,6 +59,6 @@ leastFour s a b c d ab ac ad bc bd cd =
     (a .plus +ℤ leastThree s (added b ab) (added c ac) (added d ad) bc bd cd)
     (a .minus +ℤ leastThree s (opposed b ab) (opposed c ac) (opposed d ad) bc bd cd)
 
--- the two numbers of entry k, of two rows of numbers
+-- the share of entry k, where p and q have what each entry adds
 abbrev pub shareAt : (ℕ → ℤ) → (ℕ → ℤ) → ℕ → Share
 shareAt p q k = record { plus = p k; minus = q k }

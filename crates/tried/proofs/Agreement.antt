@@ -1,7 +1,7 @@
 -- The search finds the first tried vector that shows 'not definite': with the entries before d chosen, the sum is their least value, and each
 -- open entry has the share that it would add.
 use mathlib.Core.Path.{_≡_, refl, sym, ap, ap₂, _∙_}
-use mathlib.Core.Bool.{Bool, true, false, not}
+use mathlib.Core.Bool.{Bool, true, false}
 use mathlib.Core.List.{List, [], _∷_, _++_, map, append-nil, append-assoc}
 use mathlib.Core.Option.{Option, none, some}
 use Prim.Native.Nat.{ℕ, zero, suc, _+_, _≤_, _<_}
@@ -16,7 +16,7 @@ use Rattle.integers.proofs.Solver.{ring, order, solver}
 use Rattle.integers.proofs.Sums.{sum-zero, sum-suc, sum-ext, sum-none}
 use Rattle.tables.specs.Matrix.{Matrix, at, nth}
 use Rattle.tables.specs.Bounds.{Bounds}
-use Rattle.tables.specs.Checks.{all, same}
+use Rattle.tables.specs.Checks.{same}
 use Rattle.tables.proofs.Checks.{all-of, same-true}
 use Rattle.tables.proofs.Matrix.{nth-padded}
 use Rattle.vectors.specs.Least.{leastValue, nonzero, shows}

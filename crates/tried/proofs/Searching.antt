@@ -1,5 +1,5 @@
 -- The search's steps, as the code takes them: the choices of entry d, of order n, each with what was found from entry d + 1 on.
-use mathlib.Core.Path.{_≡_, refl, sym, ap, ap₂, _∙_}
+use mathlib.Core.Path.{_≡_, refl, ap, ap₂, _∙_}
 use mathlib.Core.Logic.{_⊎_, inl, inr}
 use mathlib.Core.Bool.{Bool, true, false}
 use mathlib.Core.List.{List}
@@ -79,11 +79,11 @@ module _ {n d : ℕ} (h : d < n) (t : List ℤ) where
   kept-found p q e (inr l) s w = after-found p q p q e (λ i a b. absurd (omega arith)) (λ i a b. absurd (omega arith)) s w
 
   -- an entry in front
-  pub front-found : n ≤ 8 → (e : ℤ) (p q : ℕ → ℤ) (s : ℤ) {r : Bool} {x : List ℤ} →
+  pub with-found : n ≤ 8 → (e : ℤ) (p q : ℕ → ℤ) (s : ℤ) {r : Bool} {x : List ℤ} →
       Searched (seekAfter S O d (n - suc d) e p q (bySign e s (s +ℤ p d) (s +ℤ q d))) r (suc d) (n - suc d) x →
       Searched (inFront S O d (n - suc d) e p q s) r d (n - d) (set x d e)
   unfolding inFront
-  front-found b e p q s f = rw left (chosen e (omega arith) f)
+  with-found b e p q s f = rw left (chosen e (omega arith) f)
 
   -- the choices of entry d
   module _ (p q : ℕ → ℤ) (s : ℤ) where

@@ -14,7 +14,7 @@ use Rattle.lookahead.proofs.Sizes.{open-within, sum-within}
 use Rattle.tried.proofs.Choices.{nothing-found}
 use Rattle.tried.proofs.Shares.{open-more, next, next-within}
 use Rattle.tried.proofs.Passed.{passed-none}
-use Rattle.tried.proofs.Searching.{none-left, after-found, kept-found, front-found, zero-hit, one-hit, minus-one}
+use Rattle.tried.proofs.Searching.{none-left, after-found, kept-found, with-found, zero-hit, one-hit, minus-one}
 use Rattle.tried.proofs.search.Reads as search′
 use Rattle.tried.proofs.search.Kinds as search-kinds
 use Rattle.tried.proofs.+search+search_after+search_with.Lts-search as search-lts
@@ -155,4 +155,4 @@ pub +search+search-after+search-with-spec : {M : Type 1} → statement M
     let s = c .before .before .before .before .before in
     let b = c .before .before in
     let e = rw (clean-result (b .sum-with), b .sum-with .ensures, clean (s .fits .entry), clean (s .fits .sum), clean-element (nth (s .args .plus .now) (s .args .d)) (b .before .before .sum-with-arg .given), clean-element _ (b .before .sum-with-arg2 .given)) at (c .search-after .ensures) in
-    rw (clean (s .fits .entry)) (front-found (s .pre .1 .1) _ (s .pre .1 .0 .pairs .order) _ _ _ _ e))
+    rw (clean (s .fits .entry)) (with-found (s .pre .1 .1) _ (s .pre .1 .0 .pairs .order) _ _ _ _ e))

@@ -1,5 +1,4 @@
 -- By recursion over the remaining order, n - d: 0 in front, then 1.
-use mathlib.Core.Path.{refl}
 use Prim.Native.Nat.{ℕ, _-_, _<_}
 use native.Mathlib.Omega.{arith}
 use borrow.Fn.Kinds.{In}

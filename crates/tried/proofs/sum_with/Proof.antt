@@ -1,5 +1,5 @@
 -- By the sign of the entry.
-use mathlib.Core.Path.{sym, _∙_}
+use mathlib.Core.Path.{sym}
 use native.Mathlib.Omega.{arith}
 use Rattle.integers.proofs.Machine.{clean, within-+, fits-within}
 use Rattle.tried.proofs.Signs.{sign-above, sign-under, sign-none}
