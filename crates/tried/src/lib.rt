@@ -108,8 +108,8 @@ fn search_with(
     hit
 }
 
-// Chooses the entries from d on: tries 0, 1 and -1 in front, each with all choices of the entries after it, down to where no entry is left. The last
-// four are passed over where none of their choices brings the sum to 0 or less.
+// Chooses the entries from d on: tries 0, 1 and -1 in front, each with all choices of the entries after it, down to where no entry is left. Where at
+// most four are left, and none of their choices brings the sum to 0 or less, they are passed over.
 fn search(
     n: usize,
     pairs: &[i64; 128],
