@@ -67,7 +67,7 @@ extern "C" {
 
 /*
  * The stack that a call needs, in bytes, at any order, its arguments and return address included. Measured and not proved: bench/stack painted the stack
- * below 2000 calls of each function at each order. At most 5872 bytes were overwritten by hb_judge, 1824 by hb_test_factor, 1264 by hb_test_vector and
+ * below 2000 calls of each function at each order. At most 5896 bytes were overwritten by hb_judge, 1832 by hb_test_factor, 1272 by hb_test_vector and
  * 2864 by hb_box; they are rounded up here by a third or more. That is the archive which rattle-kit-5b compiles with LLVM 22 for x86-64, with
  * memcpy and memset of glibc 2.36: with any other compiler or processor, measure again. What an interrupt puts on the same stack comes on top.
  */
