@@ -1,4 +1,4 @@
--- Zeros behind a table change no check and no answer: the code loads a buffer's n² numbers into 64.
+-- Zeros behind a table change no check and no answer: the code loads a buffer's n² numbers into arrays of the greatest order.
 use mathlib.Core.Path.{_≡_, ap, ap₂, _∙_}
 use mathlib.Core.List.{List, _++_}
 use Prim.Native.Nat.{ℕ, zero, suc, _*_, _-_, _≤_}
@@ -10,10 +10,10 @@ use lib.Signed.{leZ}
 use Rattle.words.specs.Numbers.{numbersOf}
 use Rattle.words.proofs.Lists.{drop-replicate}
 use Rattle.words.proofs.Laws.{length-numbersOf}
-use Rattle.tables.specs.Ranges.{greatestOrder, entryRange, vectorRange, linearRange, centreRange}
+use Rattle.tables.specs.Ranges.{greatestOrder, tableRoom, entryRange, vectorRange, linearRange, centreRange}
 use Rattle.tables.specs.Matrix.{Matrix}
 use Rattle.tables.specs.Checks.{all, within, allWithin, nowhereCrossed, same, symmetric, tableChecks, problemChecks}
-use Rattle.tables.proofs.Matrix.{inside, at-most-64, nth-padded, at-padded}
+use Rattle.tables.proofs.Matrix.{inside, table-fits, nth-padded, at-padded}
 use Rattle.residual.specs.FactorTest.{factorAnswer}
 use Rattle.vectors.specs.VectorTest.{vectorShape, vectorAnswer}
 use Rattle.verdict.specs.Judge.{judgement}
@@ -74,16 +74,16 @@ own-square zero = omega arith
 own-square (suc m) = omega (arith, inside {i = 0} {j = m} {n = suc m} (omega arith) (omega arith))
 
 -- the acts on what was loaded
-module _ (n : ℕ) (h : n ≤ greatestOrder) (l u : List ℕ) {x y : List ℤ} (ex : Loaded 64 (n * n) l x) (ey : Loaded 64 (n * n) u y) where
-  pub factor-loaded : (f : List ℕ) {z : List ℤ} → Loaded 64 (n * n) f z → factorAnswer n x y z ≡ factorAnswer n (tableOf n l) (tableOf n u) (tableOf n f)
-  factor-loaded f ez = let m = at-most-64 h in rw (padded l ex m, padded u ey m, padded f ez m) (factor-padded n (64 - n * n) (64 - n * n) (64 - n * n) _ _ _)
+module _ (n : ℕ) (h : n ≤ greatestOrder) (l u : List ℕ) {x y : List ℤ} (ex : Loaded tableRoom (n * n) l x) (ey : Loaded tableRoom (n * n) u y) where
+  pub factor-loaded : (f : List ℕ) {z : List ℤ} → Loaded tableRoom (n * n) f z → factorAnswer n x y z ≡ factorAnswer n (tableOf n l) (tableOf n u) (tableOf n f)
+  factor-loaded f ez = let m = table-fits h in rw (padded l ex m, padded u ey m, padded f ez m) (factor-padded n (tableRoom - n * n) (tableRoom - n * n) (tableRoom - n * n) _ _ _)
 
-  pub vector-loaded : (v : List ℕ) {z : List ℤ} → Loaded 8 n v z → vectorAnswer n x y z ≡ vectorAnswer n (tableOf n l) (tableOf n u) (vectorOf n v)
-  vector-loaded v ez = let m = at-most-64 h in rw (padded l ex m, padded u ey m, padded v ez h) (vector-padded n (64 - n * n) (64 - n * n) (8 - n) _ _ _)
+  pub vector-loaded : (v : List ℕ) {z : List ℤ} → Loaded greatestOrder n v z → vectorAnswer n x y z ≡ vectorAnswer n (tableOf n l) (tableOf n u) (vectorOf n v)
+  vector-loaded v ez = let m = table-fits h in rw (padded l ex m, padded u ey m, padded v ez h) (vector-padded n (tableRoom - n * n) (tableRoom - n * n) (greatestOrder - n) _ _ _)
 
   pub judgement-loaded : judgement n x y ≡ judgement n (tableOf n l) (tableOf n u)
-  judgement-loaded = let m = at-most-64 h in rw (padded l ex m, padded u ey m) (judgement-padded n (64 - n * n) (64 - n * n) _ _)
+  judgement-loaded = let m = table-fits h in rw (padded l ex m, padded u ey m) (judgement-padded n (tableRoom - n * n) (tableRoom - n * n) _ _)
 
-  pub box-loaded : (a c : List ℕ) (α : ℤ) {v w : List ℤ} → Loaded 8 n a v → Loaded 8 n c w →
+  pub box-loaded : (a c : List ℕ) (α : ℤ) {v w : List ℤ} → Loaded greatestOrder n a v → Loaded greatestOrder n c w →
       boxAnswer n x y v α w ≡ boxAnswer n (tableOf n l) (tableOf n u) (vectorOf n a) α (vectorOf n c)
-  box-loaded a c α ev ew = let m = at-most-64 h in rw (padded l ex m, padded u ey m, padded a ev h, padded c ew h) (box-padded n (64 - n * n) (64 - n * n) (8 - n) (8 - n) _ _ _ _ _)
+  box-loaded a c α ev ew = let m = table-fits h in rw (padded l ex m, padded u ey m, padded a ev h, padded c ew h) (box-padded n (tableRoom - n * n) (tableRoom - n * n) (greatestOrder - n) (greatestOrder - n) _ _ _ _ _)

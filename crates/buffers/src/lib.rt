@@ -6,7 +6,7 @@ ghost use lib.ListN.{length};
 ghost use mir.Syntax.{w64};
 ghost use mir.Val.{bytes};
 ghost use Rattle.words.specs.Numbers.{bytesOf};
-ghost use Rattle.tables.specs.Ranges.{greatestOrder};
+ghost use Rattle.tables.specs.Ranges.{greatestOrder, sidesRoom};
 ghost use Rattle.tables.specs.Matrix.{table};
 ghost use Rattle.cholesky.specs.Store.{triangle};
 ghost use Rattle.residual.specs.FactorTest.{factorAnswer};
@@ -18,6 +18,11 @@ ghost use Rattle.enclosure.specs.Stating.{Stated};
 ghost use Rattle.buffers.specs.Buffers.{tableOf, vectorOf, stored, Front, storedSides};
 use enclosure::enclose::BoxAnswer;
 use tables::Answer;
+use tables::GREATEST_ORDER;
+use tables::SIDES_ROOM;
+use tables::Sides;
+use tables::TABLE_ROOM;
+use tables::Table;
 use verdict::judge::Verdict;
 use words::SIZE;
 
@@ -27,11 +32,11 @@ pub fn answer_factor(n: usize, low: &[u8], high: &[u8], factor: &[u8]) -> Answer
     ensures { λ r. ⌜ r ≡ factorAnswer n (tableOf n (now (low .entry))) (tableOf n (now (high .entry))) (tableOf n (now (factor .entry))) ⌝ }
 {
     let count = n * n;
-    let mut l = [0i64; 64];
+    let mut l = [0i64; TABLE_ROOM];
     words::load_numbers(low, &mut l, count, SIZE);
-    let mut u = [0i64; 64];
+    let mut u = [0i64; TABLE_ROOM];
     words::load_numbers(high, &mut u, count, SIZE);
-    let mut f = [0i64; 64];
+    let mut f = [0i64; TABLE_ROOM];
     words::load_numbers(factor, &mut f, count, SIZE);
     residual::factor_test::answer(n, &l, &u, &f)
 }
@@ -42,17 +47,17 @@ pub fn answer_vector(n: usize, low: &[u8], high: &[u8], vector: &[u8]) -> Answer
     ensures { λ r. ⌜ r ≡ vectorAnswer n (tableOf n (now (low .entry))) (tableOf n (now (high .entry))) (vectorOf n (now (vector .entry))) ⌝ }
 {
     let count = n * n;
-    let mut l = [0i64; 64];
+    let mut l = [0i64; TABLE_ROOM];
     words::load_numbers(low, &mut l, count, SIZE);
-    let mut u = [0i64; 64];
+    let mut u = [0i64; TABLE_ROOM];
     words::load_numbers(high, &mut u, count, SIZE);
-    let mut x = [0i64; 8];
+    let mut x = [0i64; GREATEST_ORDER];
     words::load_numbers(vector, &mut x, n, SIZE);
     vectors::vector_test::answer(n, &l, &u, &x)
 }
 
 // Stores row i of the factor whose columns stand in t, behind the rows before it.
-fn store_row(n: usize, t: &[i64; 64], i: usize, factor: &mut [u8])
+fn store_row(n: usize, t: &Table, i: usize, factor: &mut [u8])
     requires { ⌜ (n ≤ greatestOrder) × (i < n) × (n * n * bytes w64 ≤ length (now factor)) × Front n (triangle (now t)) (now factor) (i * n) ⌝ }
     ensures { λ r. ⌜ Front n (triangle (now (t .entry))) (now (factor .exit)) (suc i * n) ⌝ }
 {
@@ -66,7 +71,7 @@ fn store_row(n: usize, t: &[i64; 64], i: usize, factor: &mut [u8])
 }
 
 // Stores the factor whose columns stand in t: n² numbers.
-fn store_factor(n: usize, t: &[i64; 64], factor: &mut [u8])
+fn store_factor(n: usize, t: &Table, factor: &mut [u8])
     requires { ⌜ (n ≤ greatestOrder) × (length (now factor) ≡ n * n * bytes w64) ⌝ }
     ensures { λ r. ⌜ now (factor .exit) ≡ bytesOf w64 (table n (triangle (now (t .entry)))) (n * n) ⌝ }
 {
@@ -89,12 +94,12 @@ pub fn judge_buffers(
     ensures { λ r. ⌜ _≡_ {A = Judged (List ℕ)} (record { verdict = r; factor = now (factor .exit); vector = now (vector .exit) }) (stored n (judgement n (tableOf n (now (low .entry))) (tableOf n (now (high .entry)))) (now (factor .entry)) (now (vector .entry))) ⌝ }
 {
     let count = n * n;
-    let mut l = [0i64; 64];
+    let mut l = [0i64; TABLE_ROOM];
     words::load_numbers(low, &mut l, count, SIZE);
-    let mut u = [0i64; 64];
+    let mut u = [0i64; TABLE_ROOM];
     words::load_numbers(high, &mut u, count, SIZE);
-    let mut t = [0i64; 64];
-    let mut x = [0i64; 8];
+    let mut t = [0i64; TABLE_ROOM];
+    let mut x = [0i64; GREATEST_ORDER];
     let verdict = verdict::judge::decide(n, &l, &u, &mut t, &mut x);
     match verdict {
         Verdict::Definite => {
@@ -118,19 +123,19 @@ fn box_numbers(
     linear: &[u8],
     limit: i64,
     centre: &[u8],
-    x: &mut [i64; 16],
+    x: &mut Sides,
 ) -> BoxAnswer
-    requires { ⌜ (n ≤ greatestOrder) × (n * n * bytes w64 ≤ length (now low)) × (n * n * bytes w64 ≤ length (now high)) × (n * bytes w64 ≤ length (now linear)) × (n * bytes w64 ≤ length (now centre)) × (length (now x) ≡ 16) ⌝ }
+    requires { ⌜ (n ≤ greatestOrder) × (n * n * bytes w64 ≤ length (now low)) × (n * n * bytes w64 ≤ length (now high)) × (n * bytes w64 ≤ length (now linear)) × (n * bytes w64 ≤ length (now centre)) × (length (now x) ≡ sidesRoom) ⌝ }
     ensures { λ r. ⌜ Stated (boxAnswer n (tableOf n (now (low .entry))) (tableOf n (now (high .entry))) (vectorOf n (now (linear .entry))) limit (vectorOf n (now (centre .entry)))) n r (now (x .exit)) ⌝ }
 {
     let count = n * n;
-    let mut l = [0i64; 64];
+    let mut l = [0i64; TABLE_ROOM];
     words::load_numbers(low, &mut l, count, SIZE);
-    let mut u = [0i64; 64];
+    let mut u = [0i64; TABLE_ROOM];
     words::load_numbers(high, &mut u, count, SIZE);
-    let mut a = [0i64; 8];
+    let mut a = [0i64; GREATEST_ORDER];
     words::load_numbers(linear, &mut a, n, SIZE);
-    let mut c = [0i64; 8];
+    let mut c = [0i64; GREATEST_ORDER];
     words::load_numbers(centre, &mut c, n, SIZE);
     enclosure::enclose::answer(n, &l, &u, &a, limit, &c, x)
 }
@@ -148,7 +153,7 @@ pub fn box_buffers(
     requires { ⌜ (n ≤ greatestOrder) × (n * n * bytes w64 ≤ length (now low)) × (n * n * bytes w64 ≤ length (now high)) × (n * bytes w64 ≤ length (now linear)) × (n * bytes w64 ≤ length (now centre)) × (length (now sides) ≡ (n + n) * bytes w64) ⌝ }
     ensures { λ r. ⌜ _≡_ {A = Enclosed (List ℕ)} (record { answer = r; sides = now (sides .exit) }) (storedSides n (boxAnswer n (tableOf n (now (low .entry))) (tableOf n (now (high .entry))) (vectorOf n (now (linear .entry))) limit (vectorOf n (now (centre .entry)))) (now (sides .entry))) ⌝ }
 {
-    let mut x = [0i64; 16];
+    let mut x = [0i64; SIDES_ROOM];
     let given = box_numbers(n, low, high, linear, limit, centre, &mut x);
     match given {
         BoxAnswer::Sides => {

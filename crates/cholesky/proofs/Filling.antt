@@ -12,12 +12,12 @@ use mir.Val.{SFits, toZ, ofZ}
 use Rattle.integers.specs.Numbers.{Within}
 use Rattle.integers.proofs.Machine.{within-more, within-+, within--, within-*, within-sum, fits-within, clean-element}
 use Rattle.integers.proofs.Sums.{only-by}
-use Rattle.tables.specs.Ranges.{greatestOrder}
+use Rattle.tables.specs.Ranges.{greatestOrder, tableRoom}
 use Rattle.tables.specs.Matrix.{Matrix, rowWidth}
 use Rattle.tables.specs.Bounds.{Bounds, CheckedTables}
-use Rattle.tables.proofs.Matrix.{inside, at-most-64}
+use Rattle.tables.proofs.Matrix.{inside, table-fits}
 use Rattle.cholesky.specs.Scale.{halfScale, takeOff, scaled}
-use Rattle.cholesky.specs.Store.{upper}
+use Rattle.cholesky.specs.Store.{upper, stride}
 use Rattle.cholesky.specs.Scaling.{Ranged, Lent, Scaled}
 use Rattle.cholesky.specs.Rows.{Sized}
 use Rattle.cholesky.proofs.ScaledMatrix.{take-off-suffices, scaled-top}
@@ -27,12 +27,12 @@ use Rattle.cholesky.proofs.Store.{upper-same, upper-other}
 pub record Placed (n i j : ℕ) (l u : List ℤ) : Type 0 where
   pub low : i * n + j < length l
   pub high : i * n + j < length u
-  pub small : i * n + j < 64
+  pub small : i * n + j < tableRoom
 
 pub placed : {n i j : ℕ} {l u : List ℤ} → Lent n l u → i < n → j < n → Placed n i j l u
 placed {n} {i} {j} a h k =
     let p : i * n + j < n * n = inside h k in
-    record { low = omega (arith, a .low-length); high = omega (arith, a .high-length); small = omega (arith, at-most-64 (a .order)) }
+    record { low = omega (arith, a .low-length); high = omega (arith, a .high-length); small = omega (arith, table-fits (a .order)) }
 
 -- two entries that were just read, added up
 pub clean-sum : (x y : ℤ) → mag x < 2 ^ 63 → mag y < 2 ^ 63 → toZ w64 (ofZ w64 x) +ℤ toZ w64 (ofZ w64 y) ≡ x +ℤ y
@@ -101,7 +101,7 @@ module _ {n : ℕ} {L U : Matrix} (o : n ≤ greatestOrder) (r : Ranged n L U) w
 pub bounds-ranged : {n : ℕ} {L U : Matrix} → Bounds n L U → Ranged n L U
 bounds-ranged b = record { low = λ i j h k. record { size = b .low-range i j h k }; high = λ i j h k. record { size = b .high-range i j h k } }
 
-pub sized-scaled : {n : ℕ} {L U : Matrix} {h : List ℤ} → Bounds n L U → n ≤ 8 → Scaled n L U h n → Sized h n 0
+pub sized-scaled : {n : ℕ} {L U : Matrix} {h : List ℤ} → Bounds n L U → n ≤ greatestOrder → Scaled n L U h n → Sized h n 0
 sized-scaled {n} {L} {U} {h} b o w =
     record {
       size = w .size;
@@ -127,17 +127,17 @@ module _ {n : ℕ} {L U : Matrix} {h : List ℤ} {j : ℕ} where
   pub filling-start : Scaled n L U h j → Filling n L U h j 0
   filling-start s = record { before = s; here = λ k l. absurd (omega arith) }
 
-  pub filling-row : {i : ℕ} {v : ℤ} → i ≤ j → j < 8 → v ≡ scaled takeOff n L U i j → Filling n L U h j i → Filling n L U (set h (8 * j + i) v) j (suc i)
+  pub filling-row : {i : ℕ} {v : ℤ} → i ≤ j → j < greatestOrder → v ≡ scaled takeOff n L U i j → Filling n L U h j i → Filling n L U (set h (stride * j + i) v) j (suc i)
   filling-row {i} {v} l m e f =
       record {
         before = record {
-          size = length-set h (8 * j + i) v ∙ f .before .size;
+          size = length-set h (stride * j + i) v ∙ f .before .size;
           entries = λ k c p q. upper-other h i j v k c (omega arith) ∙ f .before .entries k c p q;
         };
         here = λ k p. at k p (decLt k i);
       }
     where
-      at : (k : ℕ) → k < suc i → Dec (k < i) → upper (set h (8 * j + i) v) k j ≡ scaled takeOff n L U k j
+      at : (k : ℕ) → k < suc i → Dec (k < i) → upper (set h (stride * j + i) v) k j ≡ scaled takeOff n L U k j
       at k p (yes q) = upper-other h i j v k j (omega arith) ∙ f .here k q
       at k p (no q) =
           let s = f .before .size in

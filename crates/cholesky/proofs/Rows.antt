@@ -17,12 +17,12 @@ use Rattle.integers.specs.Root.{wholeRoot}
 use Rattle.integers.proofs.Parts.{≤ℤ-trans}
 use Rattle.integers.proofs.Solver.{order, solver}
 use Rattle.integers.proofs.Machine.{within-more, within--, within-*, within-in, fits-within}
-use Rattle.tables.specs.Ranges.{factorRange}
+use Rattle.tables.specs.Ranges.{greatestOrder, tableRoom, factorRange}
 use Rattle.tables.specs.Matrix.{Matrix}
 use Rattle.tables.specs.Checks.{within}
 use Rattle.tables.proofs.Checks.{of-true, and-first-false}
 use Rattle.cholesky.specs.Factoring.{goesOn}
-use Rattle.cholesky.specs.Store.{upper}
+use Rattle.cholesky.specs.Store.{upper, stride}
 use Rattle.cholesky.specs.Reduced.{rowEntry, reduced}
 use Rattle.cholesky.specs.Rows.{Sized, Rowed, TakenOff, ColumnTaken, RowDone, ColumnsTaken, RowTaken}
 use Rattle.cholesky.proofs.Loops.{passes}
@@ -31,24 +31,24 @@ use Rattle.cholesky.proofs.Reduced.{reduced-≤}
 
 -- ---- entries of a column, one by one
 module _ {s : List ℤ} {i j : ℕ} {r : ℤ} where
-  pub taken-start : length s ≡ 64 → TakenOff s i j r (suc i) s
+  pub taken-start : length s ≡ tableRoom → TakenOff s i j r (suc i) s
   taken-start h = record { size = h; taken = λ k l m. absurd (omega arith); kept = λ k l h f. refl }
 
   module _ {m : ℕ} {s′ : List ℤ} (w : TakenOff s i j r m s′) where
     -- entry (m,j) and r(i,m) are as they were
-    pub taken-reads : i < m → m < 8 → upper s′ m j -ℤ upper s′ i m *ℤ r ≡ upper s m j -ℤ upper s i m *ℤ r
+    pub taken-reads : i < m → m < greatestOrder → upper s′ m j -ℤ upper s′ i m *ℤ r ≡ upper s m j -ℤ upper s i m *ℤ r
     taken-reads h k =
         ap₂ (λ (x y : ℤ). x -ℤ y *ℤ r) (w .kept m j k (λ e p q. absurd (omega arith))) (w .kept i m (omega arith) (λ e p q. absurd (omega arith)))
 
-    pub taken-more : i < m → m ≤ j → j < 8 → {v : ℤ} → v ≡ upper s m j -ℤ upper s i m *ℤ r → TakenOff s i j r (suc m) (set s′ (8 * j + m) v)
+    pub taken-more : i < m → m ≤ j → j < greatestOrder → {v : ℤ} → v ≡ upper s m j -ℤ upper s i m *ℤ r → TakenOff s i j r (suc m) (set s′ (stride * j + m) v)
     taken-more h k l {v} e =
         record {
-          size = length-set s′ (8 * j + m) v ∙ w .size;
+          size = length-set s′ (stride * j + m) v ∙ w .size;
           taken = λ a p q. go a p q (ℕ-discrete a m);
           kept = λ a b p f. upper-other s′ m j v a b (λ q. f (omega arith) (omega arith) (omega arith)) ∙ w .kept a b p (λ q g u. f q g (omega arith));
         }
       where
-        go : (a : ℕ) → i < a → a < suc m → Dec (a ≡ m) → upper (set s′ (8 * j + m) v) a j ≡ upper s a j -ℤ upper s i a *ℤ r
+        go : (a : ℕ) → i < a → a < suc m → Dec (a ≡ m) → upper (set s′ (stride * j + m) v) a j ≡ upper s a j -ℤ upper s i a *ℤ r
         go a p q (yes u) = rw u (upper-same s′ m j v (omega (arith, w .size)) ∙ e)
         go a p q (no u) = upper-other s′ m j v a j (omega arith) ∙ w .taken a p (omega arith)
 
@@ -67,12 +67,12 @@ module _ {s : List ℤ} {i j : ℕ} {r : ℤ} where
 -- ---- a column
 module _ {s : List ℤ} {i j : ℕ} (d : Rowed s i j j) (r : ℤ) where
   abbrev stored : List ℤ
-  stored = set s (8 * j + i) r
+  stored = set s (stride * j + i) r
 
   same : upper stored i j ≡ r
   same = upper-same s i j r (omega (arith, d .size, d .inside, d .before))
 
-  other : (k l : ℕ) → k < 8 → (l ≡ j → i ≤ k → ⊥) → upper stored k l ≡ upper s k l
+  other : (k l : ℕ) → k < greatestOrder → (l ≡ j → i ≤ k → ⊥) → upper stored k l ≡ upper s k l
   other k l h f = upper-other s i j r k l (λ e. let inside = d .inside in let before = d .before in f (omega arith) (omega arith))
 
   -- the entry is stored
@@ -80,7 +80,7 @@ module _ {s : List ℤ} {i j : ℕ} (d : Rowed s i j j) (r : ℤ) where
   column-rowed h =
       let before = d .before in
       record {
-        size = length-set s (8 * j + i) r ∙ d .size;
+        size = length-set s (stride * j + i) r ∙ d .size;
         inside = d .inside;
         before = d .before;
         row = λ k p q. go k p q (ℕ-discrete k j);
@@ -97,7 +97,7 @@ module _ {s : List ℤ} {i j : ℕ} (d : Rowed s i j j) (r : ℤ) where
   column-out e =
       record {
         answered = sym (and-first-false _ e);
-        size = length-set s (8 * j + i) r ∙ d .size;
+        size = length-set s (stride * j + i) r ∙ d .size;
         stored = same;
         taken = λ q. absurd (subst T (sym q) tt);
         kept = other;
@@ -226,7 +226,7 @@ module _ {s : List ℤ} {e i : ℕ} (z : Sized s e i) where
             }
 
   -- the root is stored
-  pub row-taken : {r : ℕ} {s′ : List ℤ} {v : ℤ} → i < e → v ≡ wholeRoot (S i i) → ColumnsTaken s i e r s′ → RowTaken s i e r (set s′ (8 * i + i) v)
+  pub row-taken : {r : ℕ} {s′ : List ℤ} {v : ℤ} → i < e → v ≡ wholeRoot (S i i) → ColumnsTaken s i e r s′ → RowTaken s i e r (set s′ (stride * i + i) v)
   row-taken {r} {s′} {v} h x c =
       let order = z .order in
       let w = c .done in
@@ -235,7 +235,7 @@ module _ {s : List ℤ} {e i : ℕ} (z : Sized s e i) where
           past = c .past;
           bound = c .bound;
           done = record {
-            size = length-set s′ (8 * i + i) v ∙ w .size;
+            size = length-set s′ (stride * i + i) v ∙ w .size;
             row = λ k p q. upper-other s′ i i v i k (omega arith) ∙ w .row k p q;
             tests = w .tests;
             left = λ a b p q l. upper-other s′ i i v a b (omega (arith, c .bound)) ∙ w .left a b p q l;

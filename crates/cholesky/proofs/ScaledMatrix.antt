@@ -59,7 +59,7 @@ module _ (τ : ℤ) (n : ℕ) (L U : Matrix) (b : Bounds n L U) where
         (scaled-on τ n L U j & s .enough & order-positive h & width-nonneg j h & b .ordered j j h h & high)
         (search solver depth 40 fits 20000) (omega arith)
 
--- ---- document 01's orders, to 8, and its take-off: 2^29 is 8 ρ
+-- ---- the orders and the take-off of the rules: 2^29 is 8 ρ
 pub take-off-suffices : (n : ℕ) → n ≤ greatestOrder → Suffices takeOff n
 take-off-suffices n h = record {
   enough = order (pos n ∷ []) (≤-in {x = pos n} {y = pos greatestOrder} (omega arith)) (search solver depth 40 fits 20000) (omega arith);

@@ -14,7 +14,7 @@ use Rattle.tables.proofs.Matrix.{length-tabulate, getD-tabulate, nth-tabulate, 
 use Rattle.cholesky.specs.Factoring.{Factoring, entries}
 use Rattle.cholesky.specs.declared.factoring.Outcome.{Outcome}
 use Rattle.cholesky.specs.declared.factoring.Outcome.the-variants.{Ends, Stops}
-use Rattle.cholesky.specs.Store.{upper, triangle, columnOf, columnsOf, outcomeOf}
+use Rattle.cholesky.specs.Store.{upper, triangle, columnOf, columnsOf, outcomeOf, stride}
 
 -- ---- what is read
 pub triangle-on : (t : List ℤ) (i j : ℕ) → i ≤ j → triangle t i j ≡ upper t i j
@@ -51,13 +51,13 @@ columnOf-suc t j m = tabulate-suc m _
 
 -- ---- what a store changes
 module _ (t : List ℤ) (i j : ℕ) (v : ℤ) where
-  pub upper-same : 8 * j + i < length t → upper (set t (8 * j + i) v) i j ≡ v
+  pub upper-same : stride * j + i < length t → upper (set t (stride * j + i) v) i j ≡ v
   unfolding upper
-  upper-same h = getD-set-same t (8 * j + i) v (pos 0) h
+  upper-same h = getD-set-same t (stride * j + i) v (pos 0) h
 
-  pub upper-other : (k l : ℕ) → 8 * l + k ≢ 8 * j + i → upper (set t (8 * j + i) v) k l ≡ upper t k l
+  pub upper-other : (k l : ℕ) → stride * l + k ≢ stride * j + i → upper (set t (stride * j + i) v) k l ≡ upper t k l
   unfolding upper
-  upper-other k l h = getD-set-other t (8 * j + i) (8 * l + k) v (pos 0) h
+  upper-other k l h = getD-set-other t (stride * j + i) (stride * l + k) v (pos 0) h
 
 -- ---- the outcome tells whether factoring ended
 pub outcome-ends : (f : Factoring) → outcomeOf f ≡ Ends → true ≡ f .ends

@@ -1,4 +1,4 @@
--- A row step on a table of 64 numbers, entry (i, j) at 8 j + i, of which rows and columns from i on are left: row i is replaced by the factor's, and the
+-- A row step on a table of entry (i, j) at stride j + i, of which rows and columns from i on are left: row i is replaced by the factor's, and the
 -- rows after it by the Schur complement.
 use mathlib.Core.Path.{_≡_}
 use mathlib.Core.Bool.{Bool, true, false}
@@ -9,14 +9,14 @@ use lib.Signed.{_≤ℤ_, leZ}
 use lib.ListN.{length}
 use Rattle.integers.specs.Numbers.{Within}
 use Rattle.integers.specs.Root.{wholeRoot}
-use Rattle.tables.specs.Ranges.{greatestOrder, factorRange}
+use Rattle.tables.specs.Ranges.{greatestOrder, tableRoom, factorRange}
 use Rattle.cholesky.specs.Factoring.{goesOn}
 use Rattle.cholesky.specs.Store.{upper}
 use Rattle.cholesky.specs.Reduced.{rowEntry, reduced}
 
 -- what is left of a matrix after i rows: so large at most that 64 bits hold all that follows
 pub record Sized (s : List ℤ) (n i : ℕ) : Type 0 where
-  pub size : length s ≡ 64
+  pub size : length s ≡ tableRoom
   pub order : n ≤ greatestOrder
   pub off : (a b : ℕ) → i ≤ a → a < b → b < n → Within (2 ^ 56 + i * 2 ^ 52) (upper s a b)
   pub on : (a : ℕ) → i ≤ a → a < n → Within (2 ^ 57) (upper s a a)
@@ -25,30 +25,30 @@ pub record Sized (s : List ℤ) (n i : ℕ) : Type 0 where
 -- ---- one column of a row
 -- the entries of row i after column i and before column m are within a factor's range, and column j has room below 2^60
 pub record Rowed (s : List ℤ) (i j m : ℕ) : Type 0 where
-  pub size : length s ≡ 64
-  pub inside : j < 8
+  pub size : length s ≡ tableRoom
+  pub inside : j < greatestOrder
   pub before : i < j
   pub row : (k : ℕ) → i < k → k < m → Within factorRange (upper s i k)
   pub heights : (k : ℕ) → i < k → k ≤ j → Within (2 ^ 60) (upper s k j)
 
 -- r(i,k) r was taken off entry (k,j) for each k from i + 1 to m - 1
 pub record TakenOff (s : List ℤ) (i j : ℕ) (r : ℤ) (m : ℕ) (s′ : List ℤ) : Type 0 where
-  pub size : length s′ ≡ 64
+  pub size : length s′ ≡ tableRoom
   pub taken : (k : ℕ) → i < k → k < m → upper s′ k j ≡ upper s k j -ℤ upper s i k *ℤ r
-  pub kept : (k l : ℕ) → k < 8 → (l ≡ j → i < k → k < m → ⊥) → upper s′ k l ≡ upper s k l
+  pub kept : (k l : ℕ) → k < greatestOrder → (l ≡ j → i < k → k < m → ⊥) → upper s′ k l ≡ upper s k l
 
 -- column j of row i, whose entry is r, was worked out: where it goes on, r(i,k) r was taken off each entry (k,j) after row i
 pub record ColumnTaken (s : List ℤ) (i j : ℕ) (r : ℤ) (answer : Bool) (s′ : List ℤ) : Type 0 where
   pub answered : answer ≡ goesOn r (upper s j j -ℤ r *ℤ r)
-  pub size : length s′ ≡ 64
+  pub size : length s′ ≡ tableRoom
   pub stored : upper s′ i j ≡ r
   pub taken : answer ≡ true → (k : ℕ) → i < k → k ≤ j → upper s′ k j ≡ upper s k j -ℤ upper s′ i k *ℤ r
-  pub kept : (k l : ℕ) → k < 8 → (l ≡ j → i ≤ k → ⊥) → upper s′ k l ≡ upper s k l
+  pub kept : (k l : ℕ) → k < greatestOrder → (l ≡ j → i ≤ k → ⊥) → upper s′ k l ≡ upper s k l
 
 -- ---- a row
 -- row i was worked out in the columns before j, all of which go on
 pub record RowDone (s : List ℤ) (i j : ℕ) (s′ : List ℤ) : Type 0 where
-  pub size : length s′ ≡ 64
+  pub size : length s′ ≡ tableRoom
   pub row : (k : ℕ) → i < k → k < j → upper s′ i k ≡ rowEntry (upper s) i k
   pub tests : (k : ℕ) → i < k → k < j → goesOn (rowEntry (upper s) i k) (reduced (upper s) i k k) ≡ true
   pub left : (a b : ℕ) → i < a → a ≤ b → b < j → upper s′ a b ≡ reduced (upper s) i a b

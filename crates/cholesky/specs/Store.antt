@@ -1,4 +1,4 @@
--- How the code keeps an upper triangular matrix: 64 numbers, entry (i, j) at 8 j + i, so that a column lies in one piece.
+-- How the code keeps an upper triangular matrix: entry (i, j) at stride j + i, so that a column lies in one piece.
 use mathlib.Core.Bool.{true, false}
 use mathlib.Core.Path.{_≡_}
 use mathlib.Core.List.{List}
@@ -7,14 +7,17 @@ use lib.Dec.{leb}
 use lib.IntN.{ℤ, pos}
 use lib.ListN.{length}
 use Rattle.integers.specs.Numbers.{Within}
-use Rattle.tables.specs.Ranges.{factorRange}
+use Rattle.tables.specs.Ranges.{greatestOrder, factorRange}
 use Rattle.tables.specs.Matrix.{Matrix, nth, tabulate}
 use Rattle.cholesky.specs.Factoring.{Factoring}
 use Rattle.cholesky.specs.declared.factoring.Outcome.{Outcome}
 use Rattle.cholesky.specs.declared.factoring.Outcome.the-variants.{Ends, Stops}
 
+abbrev pub stride : ℕ
+stride = greatestOrder
+
 unfoldable pub upper : List ℤ → Matrix
-upper t i j = nth t (8 * j + i)
+upper t i j = nth t (stride * j + i)
 
 -- the upper triangular matrix: 0 below the diagonal
 unfoldable pub triangle : List ℤ → Matrix

@@ -1,12 +1,15 @@
 // Document 01, "Factoring": the matrix H that is factored, from the tables of L and U.
-// L and U lie row by row, entry (i, j) at n i + j. H lies column by column, entry (i, j) at 8 j + i, down to the diagonal.
+// L and U lie row by row, entry (i, j) at n i + j. H lies column by column, entry (i, j) at STRIDE j + i, down to the diagonal.
 ghost use mathlib.Core.Path.{_≡_};
 ghost use Prim.Native.Nat.{suc, _<_};
 ghost use lib.IntN.{_+ℤ_, _*ℤ_};
 ghost use lib.ListN.{length};
+ghost use Rattle.tables.specs.Ranges.{tableRoom};
 ghost use Rattle.tables.specs.Matrix.{at, rowWidth};
 ghost use Rattle.cholesky.specs.Scale.{halfScale, takeOff, scaled};
 ghost use Rattle.cholesky.specs.Scaling.{Lent, Scaled};
+use crate::STRIDE;
+use tables::Table;
 
 // A factor R is held against 2^32 M.
 pub const SCALE: i64 = 1 << 32;
@@ -50,21 +53,21 @@ fn diagonal(n: usize, low: &[i64], high: &[i64], j: usize) -> i64
 }
 
 // Fills column j of h, after the columns before it.
-fn scale_column(n: usize, low: &[i64], high: &[i64], j: usize, h: &mut [i64; 64])
+fn scale_column(n: usize, low: &[i64], high: &[i64], j: usize, h: &mut Table)
     requires { ⌜ Lent n (now low) (now high) × (j < n) × Scaled n (at n (now low)) (at n (now high)) (now h) j ⌝ }
     ensures { λ r. ⌜ Scaled n (at n (now (low .entry))) (at n (now (high .entry))) (now (h .exit)) (suc j) ⌝ }
 {
     let mut i = 0;
     while i < j {
-        h[8 * j + i] = middle(n, low, high, i, j);
+        h[STRIDE * j + i] = middle(n, low, high, i, j);
         i += 1;
     }
-    h[8 * j + j] = diagonal(n, low, high, j);
+    h[STRIDE * j + j] = diagonal(n, low, high, j);
 }
 
 // Fills h with the matrix H of order n: each entry once, down to the diagonal.
-pub fn scale(n: usize, low: &[i64], high: &[i64], h: &mut [i64; 64])
-    requires { ⌜ Lent n (now low) (now high) × (length (now h) ≡ 64) ⌝ }
+pub fn scale(n: usize, low: &[i64], high: &[i64], h: &mut Table)
+    requires { ⌜ Lent n (now low) (now high) × (length (now h) ≡ tableRoom) ⌝ }
     ensures { λ r. ⌜ Scaled n (at n (now (low .entry))) (at n (now (high .entry))) (now (h .exit)) n ⌝ }
 {
     let mut j = 0;

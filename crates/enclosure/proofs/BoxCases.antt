@@ -10,7 +10,7 @@ use lib.ListN.{length}
 use borrow.Author.Tests.{eqb-true}
 use lib.Dec.{eqb}
 use Rattle.integers.specs.Numbers.{Within}
-use Rattle.tables.specs.Ranges.{greatestOrder, linearRange, limitRange, centreRange}
+use Rattle.tables.specs.Ranges.{greatestOrder, sidesRoom, linearRange, limitRange, centreRange}
 use Rattle.tables.specs.Matrix.{Matrix, at, nth, tabulate}
 use Rattle.tables.specs.Checks.{all, sizesOk, within, allWithin, firstRefusal, problemChecks}
 use Rattle.tables.specs.declared.Checked.the-variants.{Passed, Refused}
@@ -72,7 +72,7 @@ module _ {b o : Box} {n : ℕ} {x : List ℤ} (e : b ≡ o) where
   unfolding stated boxIn
   stated-empty a = record { box = e ∙ a .answer; size = a .size }
 
-pub stated-refused : {b : Box} {r : Refusal} (n : ℕ) {x : List ℤ} → b ≡ refused r → length x ≡ 16 → Stated b n (BoxAnswer.Refused r) x
+pub stated-refused : {b : Box} {r : Refusal} (n : ℕ) {x : List ℤ} → b ≡ refused r → length x ≡ sidesRoom → Stated b n (BoxAnswer.Refused r) x
 unfolding stated
 stated-refused n e h = record { box = e; size = h }
 

@@ -40,9 +40,9 @@ Fitting n (sides s) = Sized (n + n) (2 ^ 31) s
 Fitting n empty = Unit {0}
 Fitting n (refused r) = Unit {0}
 
--- the first n of 8 entries
-filled : (n : ℕ) → n ≤ greatestOrder → (f : ℕ → ℤ) → Filled 8 n f (tabulate 8 f)
-filled n o f = record { size = length-tabulate 8 f; entries = λ k h. nth-tabulate 8 f k (omega arith) }
+-- the first n entries of an array
+filled : (n : ℕ) → n ≤ greatestOrder → (f : ℕ → ℤ) → Filled greatestOrder n f (tabulate greatestOrder f)
+filled n o f = record { size = length-tabulate greatestOrder f; entries = λ k h. nth-tabulate greatestOrder f k (omega arith) }
 
 -- ---- sides c(k) - h(k) and c(k) + h(k)
 module _ (n : ℕ) (c h : ℕ → ℤ) (v : (k : ℕ) → k < n → Within centreRange (c k)) (w : (k : ℕ) → k < n → Within (2 ^ 30) (h k)) where
@@ -69,7 +69,7 @@ module _ {n : ℕ} {c : List ℤ} {d t : ℤ} {g : List ℤ} (q : Ready n c d t 
   abbrev halves : ℕ → ℤ
   halves k = ceilDiv (nth g k) t +ℤ leastRoot t (bound n d t (nth g))
 
-  halves-filled : Filled 8 n halves (tabulate 8 halves)
+  halves-filled : Filled greatestOrder n halves (tabulate greatestOrder halves)
   halves-filled = filled n (q .near .order) halves
 
   first-bound : Within boundRange (bound n d t (nth g))
@@ -83,7 +83,7 @@ module _ {n : ℕ} {c : List ℤ} {d t : ℤ} {g : List ℤ} (q : Ready n c d t 
   half-small : (k : ℕ) → k < n → Within (2 ^ 30) (halfSide n d t (nth g) tk k)
   half-small k h =
       subst (Within (2 ^ 30)) (half-is n (nth c) d t tk (nth g) halves-filled k h)
-      (smaller-within (nth (tabulate 8 halves) k) (tk k) (secondBound n d t (nth g)) (halves-within (q .near) first-bound halves-filled k h) second-bound)
+      (smaller-within (nth (tabulate greatestOrder halves) k) (tk k) (secondBound n d t (nth g)) (halves-within (q .near) first-bound halves-filled k h) second-bound)
 
   box-of-fitting : Fitting n (boxOf n (nth c) d t tk (nth g))
   unfolding boxOf
@@ -109,9 +109,9 @@ module _ {n : ℕ} {l u a c : List ℤ} (q : Centred n l u a c) {α : ℤ} (w : 
   gradients = gradient n L U (nth a) (nth c)
 
   abbrev g : List ℤ
-  g = tabulate 8 gradients
+  g = tabulate greatestOrder gradients
 
-  gradients-filled : Filled 8 n gradients g
+  gradients-filled : Filled greatestOrder n gradients g
   gradients-filled = filled n (q .tables .order) gradients
 
   boxed-fitting : Fitting n (boxed n L U (nth a) α (nth c))

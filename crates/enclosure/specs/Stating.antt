@@ -4,6 +4,7 @@ use mathlib.Core.List.{List}
 use Prim.Native.Nat.{ℕ, _+_}
 use lib.IntN.{ℤ}
 use lib.ListN.{length}
+use Rattle.tables.specs.Ranges.{sidesRoom}
 use Rattle.tables.specs.Matrix.{nth, tabulate}
 use Rattle.enclosure.specs.Box.{Box, sides, empty, refused}
 use Rattle.enclosure.specs.declared.enclose.BoxAnswer.{BoxAnswer}
@@ -18,4 +19,4 @@ stated n (BoxAnswer.Refused r) o = refused r
 -- the box is the one that the code states
 pub record Stated (b : Box) (n : ℕ) (r : BoxAnswer) (o : List ℤ) : Type 0 where
   pub box : b ≡ stated n r o
-  pub size : length o ≡ 16
+  pub size : length o ≡ sidesRoom

@@ -5,7 +5,7 @@ ghost use Prim.Native.Nat.{_+_, _*_, _≤_};
 ghost use lib.IntN.{ℤ, natAbs};
 ghost use lib.ListN.{length};
 ghost use Rattle.integers.specs.Numbers.{Within};
-ghost use Rattle.tables.specs.Ranges.{greatestOrder, limitRange};
+ghost use Rattle.tables.specs.Ranges.{greatestOrder, sidesRoom, limitRange};
 ghost use Rattle.tables.specs.Matrix.{at, nth};
 ghost use Rattle.enclosure.specs.Box.{boxed, boxAnswer};
 ghost use Rattle.sides.specs.Contracts.{Centred};
@@ -16,7 +16,10 @@ use sides::centre::at_centre;
 use sides::centre::gradients;
 use sides::centre::near;
 use tables::Checked;
+use tables::GREATEST_ORDER;
 use tables::Refusal;
+use tables::SIDES_ROOM;
+use tables::Sides;
 
 // What the box act answers: sides, or that there is no point.
 pub enum BoxAnswer {
@@ -44,13 +47,13 @@ fn bounded(
     linear: &[i64],
     limit: i64,
     centre: &[i64],
-    out: &mut [i64; 16],
+    out: &mut Sides,
 ) -> BoxAnswer
-    requires { ⌜ Centred n (now low) (now high) (now linear) (now centre) × Within limitRange limit × (length (now out) ≡ 16) ⌝ }
+    requires { ⌜ Centred n (now low) (now high) (now linear) (now centre) × Within limitRange limit × (length (now out) ≡ sidesRoom) ⌝ }
     ensures { λ r. ⌜ Stated (boxed n (at n (now (low .entry))) (at n (now (high .entry))) (nth (now (linear .entry))) limit (nth (now (centre .entry)))) n r (now (out .exit)) ⌝ }
 {
     let t = steps::step(n, low, high);
-    let mut g = [0i64; 8];
+    let mut g = [0i64; GREATEST_ORDER];
     gradients(n, low, high, linear, centre, &mut g);
     let close = near(n, &g);
     if t <= 0 {
@@ -59,7 +62,7 @@ fn bounded(
     if !close {
         return BoxAnswer::Refused(Refusal::Far);
     }
-    let mut tk = [0i64; 8];
+    let mut tk = [0i64; GREATEST_ORDER];
     steps::steps_at(n, low, high, &mut tk);
     let d = at_centre(n, low, high, linear, limit, centre);
     if box_of(n, centre, d, t, &tk, &g, out) {
@@ -76,9 +79,9 @@ pub fn answer(
     linear: &[i64],
     limit: i64,
     centre: &[i64],
-    out: &mut [i64; 16],
+    out: &mut Sides,
 ) -> BoxAnswer
-    requires { ⌜ (n ≤ greatestOrder) × (n * n ≤ length (now low)) × (n * n ≤ length (now high)) × (n ≤ length (now linear)) × (n ≤ length (now centre)) × (length (now out) ≡ 16) ⌝ }
+    requires { ⌜ (n ≤ greatestOrder) × (n * n ≤ length (now low)) × (n * n ≤ length (now high)) × (n ≤ length (now linear)) × (n ≤ length (now centre)) × (length (now out) ≡ sidesRoom) ⌝ }
     ensures { λ r. ⌜ Stated (boxAnswer n (now (low .entry)) (now (high .entry)) (now (linear .entry)) limit (now (centre .entry))) n r (now (out .exit)) ⌝ }
 {
     let checked = tables::check_problem(n, low, high, linear, limit, centre);
@@ -101,7 +104,7 @@ fn enclose_tables(
     requires { ⌜ (n ≤ greatestOrder) × (n * n ≤ length (now low)) × (n * n ≤ length (now high)) × (n ≤ length (now linear)) × (n ≤ length (now centre)) × (length (now sides) ≡ n + n) ⌝ }
     ensures { λ r. ⌜ _≡_ {A = Enclosed (List ℤ)} (record { answer = r; sides = now (sides .exit) }) (handed (λ s. s) (boxAnswer n (now (low .entry)) (now (high .entry)) (now (linear .entry)) limit (now (centre .entry))) (now (sides .entry))) ⌝ }
 {
-    let mut x = [0i64; 16];
+    let mut x = [0i64; SIDES_ROOM];
     let given = answer(n, low, high, linear, limit, centre, &mut x);
     match given {
         BoxAnswer::Sides => {

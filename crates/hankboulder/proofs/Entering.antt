@@ -14,7 +14,7 @@ use Rattle.tables.specs.declared.Refusal.{Refusal}
 use Rattle.tables.specs.declared.Refusal.the-variants.{Order, Length}
 use Rattle.tables.specs.declared.Checked.{Checked}
 use Rattle.tables.specs.declared.Checked.the-variants.{Passed, Refused}
-use Rattle.tables.proofs.Matrix.{at-most-64}
+use Rattle.tables.proofs.Matrix.{table-fits}
 use Rattle.tables.proofs.Checks.{call-false, call-true, first-passed, rest-passed, order-of}
 use Rattle.tables.proofs.Answers.{order-refused, size-refused, entry-passed, exactly}
 
@@ -48,7 +48,7 @@ module _ {n : ℤ} (f : SFits w64 n) where
   pub order-fits : Ordered n → let k = natAbs (read n) in Fits w64 (k * k) × Fits w64 (k * k * bytes w64) × Fits w64 (k * bytes w64)
   order-fits o =
       let b = order-of o .1 in
-      rw (clean f) (record { fits = omega (arith, at-most-64 b) }, record { fits = omega (arith, at-most-64 b) }, record { fits = omega (arith, b) })
+      rw (clean f) (record { fits = omega (arith, table-fits b) }, record { fits = omega (arith, table-fits b) }, record { fits = omega (arith, b) })
 
   -- an entry, by its refusals and by what is given for an answer: its check of the sizes and its act, both of the order, and what is meant
   pub record Entry {A B : Type 0} (refused : Refusal → A) (given : ℕ → A → B) : Type 1 where

@@ -19,7 +19,7 @@ unfoldable pub endsCode : ℕ → List ℤ → List ℤ → Checked → ℤ
 endsCode n l u (Refused r) = pos (refusalNumber r)
 endsCode n l u Passed = elim (factoring n (scaled takeOff n (at n l) (at n u)) .ends) [ true ↦ pos 0 | false ↦ negsuc 0 ]
 
--- 2 where n is above 8, or a table has fewer than n² numbers
+-- 2 where n is above the greatest order, or a table has fewer than n² numbers
 unfoldable pub timed : ℕ → List ℤ → List ℤ → ℤ
 timed n l u =
     elim (leb n greatestOrder && (leb (n * n) (length l) && leb (n * n) (length u))) [

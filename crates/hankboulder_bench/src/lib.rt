@@ -6,6 +6,7 @@ ghost use Rattle.tables.specs.Ranges.{greatestOrder};
 ghost use Rattle.tables.specs.Checks.{firstRefusal, tableChecks};
 ghost use Rattle.hankboulder_bench.specs.Timed.{endsCode, timed};
 use tables::Checked;
+use tables::GREATEST_ORDER;
 
 // Checks 3 to 5, and factoring: 0 where it ends, -1 where it stops, else the refusal's number.
 fn ends_code(n: usize, low: &[i64], high: &[i64]) -> i64
@@ -23,12 +24,12 @@ fn ends_code(n: usize, low: &[i64], high: &[i64]) -> i64
     }
 }
 
-// The same of any n and any lengths: 2 where n is above 8, or a table has fewer than n² numbers.
+// The same of any n and any lengths: 2 where n is above the greatest order, or a table has fewer than n² numbers.
 #[no_mangle]
 pub extern "C" fn hb_bench_factor(n: usize, low: &[i64], high: &[i64]) -> i64
     ensures { λ r. ⌜ r ≡ timed n (now (low .entry)) (now (high .entry)) ⌝ }
 {
-    if 8 < n {
+    if GREATEST_ORDER < n {
         return 2;
     }
     let count = n * n;

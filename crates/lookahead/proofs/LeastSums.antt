@@ -14,6 +14,7 @@ use Rattle.integers.specs.Numbers.{Within, minℤ}
 use Rattle.integers.proofs.Machine.{within-more, within-+, fits-within, clean}
 use Rattle.integers.proofs.Order.{min-by, min-≤ˡ, min-≤ʳ}
 use Rattle.integers.proofs.Solver.{_&_, ring, order, solver}
+use Rattle.tables.specs.Ranges.{greatestOrder, tableRoom}
 use Rattle.tables.specs.Matrix.{Matrix, nth}
 use Rattle.lookahead.specs.declared.least.Share.{Share}
 use Rattle.lookahead.specs.Pairs.{sameSign, otherSign, more, Searching}
@@ -167,15 +168,15 @@ module _ {n : ℕ} {t : List ℤ} {d : ℕ} {s : ℤ} {p q : List ℤ} (g : Sear
   pub sum-sized : Within m s
   sum-sized = within-more (omega arith) (sum-within g)
 
-  pub share-sized : (k : ℕ) → k < 8 → Sized m (shareAt (nth p) (nth q) k)
+  pub share-sized : (k : ℕ) → k < greatestOrder → Sized m (shareAt (nth p) (nth q) k)
   share-sized k i = record { plus = within-more (omega arith) (open-within g (g .plus) i); minus = within-more (omega arith) (open-within g (g .minus) i) }
 
-  pub raised-share : (k : ℕ) → k < 8 → Sized m (raised s (shareAt (nth p) (nth q) k))
+  pub raised-share : (k : ℕ) → k < greatestOrder → Sized m (raised s (shareAt (nth p) (nth q) k))
   raised-share k i =
       sized-more h (sized-more {m = 2 ^ 30 + 2 ^ 30} (omega arith) (raised-sized (sum-within g) (record { plus = open-within g (g .plus) i; minus = open-within g (g .minus) i })))
 
-  pub pair-sized : (i k : ℕ) → i < n → k < 8 → Sized m (shareAt (sameSign n t i) (otherSign n t i) k)
-  pair-sized i k a b = record { plus = within-more (omega arith) (row-small (g .pairs) {f = 0} (omega arith) a b); minus = within-more (omega arith) (row-small (g .pairs) {f = 64} (omega arith) a b) }
+  pub pair-sized : (i k : ℕ) → i < n → k < greatestOrder → Sized m (shareAt (sameSign n t i) (otherSign n t i) k)
+  pair-sized i k a b = record { plus = within-more (omega arith) (row-small (g .pairs) {f = 0} (omega arith) a b); minus = within-more (omega arith) (row-small (g .pairs) {f = tableRoom} (omega arith) a b) }
 
 -- ---- where the least sum is above 0
 module _ (x y z : ℤ) where

@@ -10,15 +10,15 @@ use lib.Seq.{getD-drop}
 use Rattle.integers.specs.Numbers.{Within}
 use Rattle.integers.proofs.Machine.{within-more}
 use Rattle.tables.specs.Matrix.{at, nth}
-use Rattle.tables.specs.Ranges.{greatestOrder}
-use Rattle.lookahead.specs.Pairs.{Doubled, Open, Searching}
+use Rattle.tables.specs.Ranges.{greatestOrder, tableRoom}
+use Rattle.lookahead.specs.Pairs.{Doubled, Open, Searching, pairsRoom}
 
 -- row d, and what stands after it
-run-inside : {n : ℕ} → n ≤ greatestOrder → {d k : ℕ} → d < n → k < 8 → d * n + k < 64
+run-inside : {n : ℕ} → n ≤ greatestOrder → {d k : ℕ} → d < n → k < greatestOrder → d * n + k < tableRoom
 run-inside o {d} h l = let e : d ≤ 7 = omega arith in omega (arith, mul-le-mul e o)
 
-module _ {n : ℕ} {t : List ℤ} (g : Doubled n t) {f d k : ℕ} (b : f ≤ 64) (h : d < n) (l : k < 8) where
-  pub row-inside : f + d * n + k < 128
+module _ {n : ℕ} {t : List ℤ} (g : Doubled n t) {f d k : ℕ} (b : f ≤ tableRoom) (h : d < n) (l : k < greatestOrder) where
+  pub row-inside : f + d * n + k < pairsRoom
   row-inside = omega (arith, run-inside (g .order) h l)
 
   pub row-at : nth t (f + d * n + k) ≡ at n (drop f t) d k
@@ -29,11 +29,11 @@ module _ {n : ℕ} {t : List ℤ} (g : Doubled n t) {f d k : ℕ} (b : f ≤ 64)
   row-small = rw (← row-at) (g .small _ row-inside)
 
 module _ {n : ℕ} {t : List ℤ} {d : ℕ} {s : ℤ} {p q : List ℤ} (g : Searching n t d s p q) where
-  pub at-most-8 : d ≤ 8
-  at-most-8 = omega (arith, g .pairs .order, g .inside)
+  pub inside-order : d ≤ greatestOrder
+  inside-order = omega (arith, g .pairs .order, g .inside)
 
-  pub open-within : {r : List ℤ} → Open d r → {k : ℕ} → k < 8 → Within (2 ^ 30) (nth r k)
-  open-within o h = within-more (omega (arith, at-most-8)) (o .small _ h)
+  pub open-within : {r : List ℤ} → Open d r → {k : ℕ} → k < greatestOrder → Within (2 ^ 30) (nth r k)
+  open-within o h = within-more (omega (arith, inside-order)) (o .small _ h)
 
   pub sum-within : Within (2 ^ 30) s
-  sum-within = within-more (omega (arith, at-most-8)) (g .sum)
+  sum-within = within-more (omega (arith, inside-order)) (g .sum)

@@ -3,6 +3,7 @@
 ghost use mathlib.Core.Path.{_≡_};
 ghost use Prim.Native.Nat.{_+_, _-_, _≤_, _<_};
 ghost use lib.ListN.{drop};
+ghost use Rattle.tables.specs.Ranges.{greatestOrder, tableRoom};
 ghost use Rattle.tables.specs.Matrix.{at, nth};
 ghost use Rattle.lookahead.specs.Pairs.{sameSign, otherSign, Doubled, Searching};
 ghost use Rattle.lookahead.specs.LeastSums.{least, passedOver, shareAt};
@@ -12,20 +13,27 @@ use crate::least::least_one;
 use crate::least::least_three;
 use crate::least::least_two;
 use crate::least::raised;
+use tables::TABLE_ROOM;
+use tables::Vector;
 
-pub const OTHER: usize = 64;
+pub const OTHER: usize = TABLE_ROOM;
+
+// Both tables, in room for the greatest order.
+pub const PAIRS_ROOM: usize = 2 * TABLE_ROOM;
+
+pub type Pairs = [i64; PAIRS_ROOM];
 
 // Entry (d, k) of the table from `start` on. From n on it is of a later row, or 0.
-pub fn row_entry(n: usize, pairs: &[i64; 128], start: usize, d: usize, k: usize) -> i64
-    requires { ⌜ Doubled n (now pairs) × (start ≤ 64) × (d < n) × (k < 8) ⌝ }
+pub fn row_entry(n: usize, pairs: &Pairs, start: usize, d: usize, k: usize) -> i64
+    requires { ⌜ Doubled n (now pairs) × (start ≤ tableRoom) × (d < n) × (k < greatestOrder) ⌝ }
     ensures { λ r. ⌜ r ≡ at n (drop start (now (pairs .entry))) d k ⌝ }
 {
     pairs[start + d * n + k]
 }
 
 // What entry k would add.
-fn share_at(plus: &[i64; 8], minus: &[i64; 8], k: usize) -> Share
-    requires { ⌜ k < 8 ⌝ }
+fn share_at(plus: &Vector, minus: &Vector, k: usize) -> Share
+    requires { ⌜ k < greatestOrder ⌝ }
     ensures { λ r. ⌜ r ≡ shareAt (nth (now (plus .entry))) (nth (now (minus .entry))) k ⌝ }
 {
     Share {
@@ -35,8 +43,8 @@ fn share_at(plus: &[i64; 8], minus: &[i64; 8], k: usize) -> Share
 }
 
 // What entry i, if it is 1, adds to what entry k would add.
-fn pair_at(n: usize, pairs: &[i64; 128], i: usize, k: usize) -> Share
-    requires { ⌜ Doubled n (now pairs) × (i < n) × (k < 8) ⌝ }
+fn pair_at(n: usize, pairs: &Pairs, i: usize, k: usize) -> Share
+    requires { ⌜ Doubled n (now pairs) × (i < n) × (k < greatestOrder) ⌝ }
     ensures { λ r. ⌜ r ≡ shareAt (sameSign n (now (pairs .entry)) i) (otherSign n (now (pairs .entry)) i) k ⌝ }
 {
     Share {
@@ -46,14 +54,7 @@ fn pair_at(n: usize, pairs: &[i64; 128], i: usize, k: usize) -> Share
 }
 
 // The least sum over the choices of the entries from d on, where two are left.
-fn two_left(
-    n: usize,
-    pairs: &[i64; 128],
-    d: usize,
-    sum: i64,
-    plus: &[i64; 8],
-    minus: &[i64; 8],
-) -> i64
+fn two_left(n: usize, pairs: &Pairs, d: usize, sum: i64, plus: &Vector, minus: &Vector) -> i64
     requires { ⌜ Searching n (now pairs) d sum (now plus) (now minus) × (d + 2 ≡ n) ⌝ }
     ensures { λ r. ⌜ r ≡ least (sameSign n (now (pairs .entry))) (otherSign n (now (pairs .entry))) d 2 (nth (now (plus .entry))) (nth (now (minus .entry))) sum ⌝ }
 {
@@ -65,14 +66,7 @@ fn two_left(
 }
 
 // The same where three are left.
-fn three_left(
-    n: usize,
-    pairs: &[i64; 128],
-    d: usize,
-    sum: i64,
-    plus: &[i64; 8],
-    minus: &[i64; 8],
-) -> i64
+fn three_left(n: usize, pairs: &Pairs, d: usize, sum: i64, plus: &Vector, minus: &Vector) -> i64
     requires { ⌜ Searching n (now pairs) d sum (now plus) (now minus) × (d + 3 ≡ n) ⌝ }
     ensures { λ r. ⌜ r ≡ least (sameSign n (now (pairs .entry))) (otherSign n (now (pairs .entry))) d 3 (nth (now (plus .entry))) (nth (now (minus .entry))) sum ⌝ }
 {
@@ -88,14 +82,7 @@ fn three_left(
 }
 
 // The same where four are left.
-fn four_left(
-    n: usize,
-    pairs: &[i64; 128],
-    d: usize,
-    sum: i64,
-    plus: &[i64; 8],
-    minus: &[i64; 8],
-) -> i64
+fn four_left(n: usize, pairs: &Pairs, d: usize, sum: i64, plus: &Vector, minus: &Vector) -> i64
     requires { ⌜ Searching n (now pairs) d sum (now plus) (now minus) × (d + 4 ≡ n) ⌝ }
     ensures { λ r. ⌜ r ≡ least (sameSign n (now (pairs .entry))) (otherSign n (now (pairs .entry))) d 4 (nth (now (plus .entry))) (nth (now (minus .entry))) sum ⌝ }
 {
@@ -116,14 +103,7 @@ fn four_left(
 }
 
 // The same where one to four are left.
-fn least_left(
-    n: usize,
-    pairs: &[i64; 128],
-    d: usize,
-    sum: i64,
-    plus: &[i64; 8],
-    minus: &[i64; 8],
-) -> i64
+fn least_left(n: usize, pairs: &Pairs, d: usize, sum: i64, plus: &Vector, minus: &Vector) -> i64
     requires { ⌜ Searching n (now pairs) d sum (now plus) (now minus) × (d < n) × (n ≤ d + 4) ⌝ }
     ensures { λ r. ⌜ r ≡ least (sameSign n (now (pairs .entry))) (otherSign n (now (pairs .entry))) d (n - d) (nth (now (plus .entry))) (nth (now (minus .entry))) sum ⌝ }
 {
@@ -142,11 +122,11 @@ fn least_left(
 // Whether at most four entries are left, from d on, and no choice of them brings the sum to 0 or less.
 pub fn passed_over(
     n: usize,
-    pairs: &[i64; 128],
+    pairs: &Pairs,
     d: usize,
     sum: i64,
-    plus: &[i64; 8],
-    minus: &[i64; 8],
+    plus: &Vector,
+    minus: &Vector,
 ) -> bool
     requires { ⌜ Searching n (now pairs) d sum (now plus) (now minus) × (d < n) ⌝ }
     ensures { λ r. ⌜ r ≡ passedOver n (sameSign n (now (pairs .entry))) (otherSign n (now (pairs .entry))) d (nth (now (plus .entry))) (nth (now (minus .entry))) sum ⌝ }

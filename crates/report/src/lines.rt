@@ -10,7 +10,12 @@ ghost use Rattle.enclosure.specs.Box.{boxAnswer};
 ghost use Rattle.text.specs.Putting.{Put};
 ghost use Rattle.report.specs.Lines.{numbered, numberRoom, verdictRoom, verdictText, boxRoom, boxText};
 use enclosure::enclose::BoxAnswer;
+use tables::GREATEST_ORDER;
 use tables::Refusal;
+use tables::SIDES_ROOM;
+use tables::TABLE_ROOM;
+use tables::Table;
+use tables::Vector;
 use text::put_line;
 use text::put_lines;
 use text::put_text;
@@ -26,19 +31,19 @@ pub fn put_refused(out: &mut [u8], at: usize, word: &[u8], r: Refusal) -> usize
 }
 
 // 'definite', and the rows of the factor whose columns stand in t.
-fn put_factor(out: &mut [u8], at: usize, n: usize, t: &[i64; 64]) -> usize
+fn put_factor(out: &mut [u8], at: usize, n: usize, t: &Table) -> usize
     requires { ⌜ (n ≤ greatestOrder) × (at + verdictRoom ≤ length (now out)) ⌝ }
     ensures { λ k. ⌜ Put (now (out .entry)) at (verdictText n (definite (table n (triangle (now (t .entry)))))) verdictRoom k (now (out .exit)) ⌝ }
 {
-    let mut f = [0i64; 64];
+    let mut f = [0i64; TABLE_ROOM];
     verdict::factor_table::write_factor(n, t, &mut f);
     let next = put_text(out, at, b"definite\n");
     put_lines(out, next, b"row", &f, n, n)
 }
 
 // 'not', and the vector that stands in x.
-fn put_vector(out: &mut [u8], at: usize, n: usize, x: &[i64; 8]) -> usize
-    requires { ⌜ (n ≤ greatestOrder) × (length (now x) ≡ 8) × (at + verdictRoom ≤ length (now out)) ⌝ }
+fn put_vector(out: &mut [u8], at: usize, n: usize, x: &Vector) -> usize
+    requires { ⌜ (n ≤ greatestOrder) × (length (now x) ≡ greatestOrder) × (at + verdictRoom ≤ length (now out)) ⌝ }
     ensures { λ k. ⌜ Put (now (out .entry)) at (verdictText n (notDefinite (tabulate n (nth (now (x .entry)))))) verdictRoom k (now (out .exit)) ⌝ }
 {
     let next = put_text(out, at, b"not\n");
@@ -50,8 +55,8 @@ pub fn put_verdict(out: &mut [u8], at: usize, n: usize, low: &[i64], high: &[i64
     requires { ⌜ (n ≤ greatestOrder) × (0 < n) × (n * n ≤ length (now low)) × (n * n ≤ length (now high)) × (at + verdictRoom ≤ length (now out)) ⌝ }
     ensures { λ k. ⌜ Put (now (out .entry)) at (verdictText n (judgement n (now (low .entry)) (now (high .entry)))) verdictRoom k (now (out .exit)) ⌝ }
 {
-    let mut t = [0i64; 64];
-    let mut x = [0i64; 8];
+    let mut t = [0i64; TABLE_ROOM];
+    let mut x = [0i64; GREATEST_ORDER];
     let verdict = verdict::judge::decide(n, low, high, &mut t, &mut x);
     match verdict {
         Verdict::Definite => put_factor(out, at, n, &t),
@@ -75,7 +80,7 @@ pub fn put_box(
     requires { ⌜ (n ≤ greatestOrder) × (n * n ≤ length (now low)) × (n * n ≤ length (now high)) × (n ≤ length (now linear)) × (n ≤ length (now centre)) × (at + boxRoom ≤ length (now out)) ⌝ }
     ensures { λ k. ⌜ Put (now (out .entry)) at (boxText n (boxAnswer n (now (low .entry)) (now (high .entry)) (now (linear .entry)) limit (now (centre .entry)))) boxRoom k (now (out .exit)) ⌝ }
 {
-    let mut x = [0i64; 16];
+    let mut x = [0i64; SIDES_ROOM];
     let answer = enclosure::enclose::answer(n, low, high, linear, limit, centre, &mut x);
     match answer {
         BoxAnswer::Sides => put_lines(out, at, b"side", &x, 2, n),

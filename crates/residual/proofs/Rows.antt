@@ -14,6 +14,7 @@ use Rattle.integers.proofs.Parts.{leZ-true}
 use Rattle.integers.proofs.Solver.{_&_, order, solver}
 use Rattle.integers.proofs.Sums.{sum-suc, sum-ext, sum-prefix, except-same, except-other}
 use Rattle.integers.proofs.Machine.{within-more, within--, within-sum}
+use Rattle.tables.specs.Ranges.{greatestOrder}
 use Rattle.tables.specs.Matrix.{Matrix, nth, at, gram}
 use Rattle.tables.specs.Checks.{all}
 use Rattle.tables.proofs.Checks.{bool-ext, le-of, all-ext}
@@ -103,5 +104,5 @@ module _ {n : ℕ} {f l u : List ℤ} (s : Offer n l u f) where
           (λ e. leZ-true {x = b} {y = a} (order (a ∷ b ∷ []) (le-of (pos 0) (a -ℤ b) e) (search solver depth 40 fits 20000) (omega arith)))
           (λ e. leZ-true {x = pos 0} {y = a -ℤ b} (order (a ∷ b ∷ []) (le-of b a e) (search solver depth 40 fits 20000) (omega arith)))
 
-pub rows-start : {n : ℕ} {f l u o : List ℤ} → length o ≡ 8 → Rows n f l u o 0
+pub rows-start : {n : ℕ} {f l u o : List ℤ} → length o ≡ greatestOrder → Rows n f l u o 0
 rows-start e = record { room = record { size = e; rows = λ i h. absurd (omega arith) }; rows = λ i h. absurd (omega arith) }

@@ -17,7 +17,7 @@ use Rattle.integers.proofs.Solver.{_&_, ring, order, solver}
 use Rattle.integers.proofs.Sums.{sum-zero, sum-suc}
 use Rattle.integers.proofs.Order.{abs-nonneg, ≤-abs, neg-≤-abs, abs-≤, max-≤, ≤-maxˡ, ≤-maxʳ}
 use Rattle.integers.proofs.Machine.{within-more, within-neg, within-+, within--, within-*, within-sum, within-in, within-high, fits-within}
-use Rattle.tables.specs.Ranges.{entryRange}
+use Rattle.tables.specs.Ranges.{greatestOrder, entryRange}
 use Rattle.tables.specs.Matrix.{nth, at}
 use Rattle.tables.proofs.CheckedTables.{low-within, high-within}
 use Rattle.cholesky.specs.Scale.{scale}
@@ -104,7 +104,7 @@ module _ {n : ℕ} {f l u : List ℤ} (s : Offer n l u f) where
 
 -- ---- column j is being charged: rows before i have lost their radius, rows from i on have not, and own is what is left of row j
 pub record Charging (n : ℕ) (f l u : List ℤ) (j : ℕ) (o₀ o : List ℤ) (own : ℤ) (i : ℕ) : Type 0 where
-  pub size : length o ≡ 8
+  pub size : length o ≡ greatestOrder
   pub done : (k : ℕ) → k < i → nth o k ≡ nth o₀ k -ℤ radiusAt n f l u k j
   pub rest : (k : ℕ) → i ≤ k → nth o k ≡ nth o₀ k
   pub own-is : own ≡ scale *ℤ at n l j j -ℤ gramAt (at n f) j j -ℤ sum i (λ k. radiusAt n f l u k j)

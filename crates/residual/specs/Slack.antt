@@ -37,11 +37,11 @@ radiusAt n f l u i j = spread (at n l i j) (at n u i j) (gramAt (at n f) i j)
 
 -- before column j: what the rows before it have over, of the columns before it, is within j times 2^56
 pub record Room (o : List ℤ) (j : ℕ) : Type 0 where
-  pub size : length o ≡ 8
+  pub size : length o ≡ greatestOrder
   pub rows : (i : ℕ) → i < j → Within (j * 2 ^ 56) (nth o i)
 
 -- column j is charged: each row i before it loses its radius at (i, j), and row j begins with its diagonal less all of those
 pub record Charged (n : ℕ) (f l u : List ℤ) (j : ℕ) (o o′ : List ℤ) : Type 0 where
-  pub size : length o′ ≡ 8
+  pub size : length o′ ≡ greatestOrder
   pub before : (i : ℕ) → i < j → nth o′ i ≡ nth o i -ℤ radiusAt n f l u i j
   pub own : nth o′ j ≡ scale *ℤ at n l j j -ℤ gramAt (at n f) j j -ℤ sum j (λ i. radiusAt n f l u i j)

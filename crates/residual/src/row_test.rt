@@ -12,6 +12,8 @@ ghost use Rattle.cholesky.specs.Scale.{scale};
 ghost use Rattle.residual.specs.Residual.{accepts};
 ghost use Rattle.residual.specs.Slack.{Shaped, Offer, gramAt, spread, radiusAt, Room, Charged};
 use cholesky::scaling::SCALE;
+use tables::GREATEST_ORDER;
+use tables::Vector;
 
 // The greater of |2^32 low - p| and |2^32 high - p|, where low is at most high.
 fn spread(low: i64, high: i64, p: i64) -> i64
@@ -57,7 +59,7 @@ fn diagonal(n: usize, low: &[i64], factor: &[i64], j: usize) -> i64
 }
 
 // Charges column j: each row i before it loses its radius at (i, j), and row j begins with what its diagonal has over all of those.
-fn charge(n: usize, low: &[i64], high: &[i64], factor: &[i64], j: usize, over: &mut [i64; 8])
+fn charge(n: usize, low: &[i64], high: &[i64], factor: &[i64], j: usize, over: &mut Vector)
     requires { ⌜ Offer n (now low) (now high) (now factor) × (j < n) × Room (now over) j ⌝ }
     ensures { λ _. ⌜ Charged n (now (factor .entry)) (now (low .entry)) (now (high .entry)) j (now (over .entry)) (now (over .exit)) ⌝ }
 {
@@ -73,7 +75,7 @@ fn charge(n: usize, low: &[i64], high: &[i64], factor: &[i64], j: usize, over: &
 }
 
 // Whether none of the first numbers, n of them, is negative.
-fn nonnegative(over: &[i64; 8], n: usize) -> bool
+fn nonnegative(over: &Vector, n: usize) -> bool
     requires { ⌜ n ≤ greatestOrder ⌝ }
     ensures { λ r. ⌜ r ≡ all n (λ i. leZ (pos 0) (nth (now (over .entry)) i)) ⌝ }
 {
@@ -92,7 +94,7 @@ pub fn accepted(n: usize, low: &[i64], high: &[i64], factor: &[i64]) -> bool
     requires { ⌜ Offer n (now low) (now high) (now factor) ⌝ }
     ensures { λ r. ⌜ r ≡ accepts n (at n (now (factor .entry))) (at n (now (low .entry))) (at n (now (high .entry))) ⌝ }
 {
-    let mut over = [0i64; 8];
+    let mut over = [0i64; GREATEST_ORDER];
     let mut j = 0;
     while j < n {
         charge(n, low, high, factor, j, &mut over);

@@ -17,7 +17,7 @@ use Rattle.integers.specs.Division.{ceilDiv}
 use Rattle.integers.specs.Root.{leastRoot}
 use Rattle.integers.proofs.Sums.{sum-ext}
 use Rattle.integers.proofs.Machine.{within-more, within-+, within--, within-*, fits-within}
-use Rattle.tables.specs.Ranges.{limitRange}
+use Rattle.tables.specs.Ranges.{greatestOrder, sidesRoom, limitRange}
 use Rattle.tables.specs.Matrix.{at, nth, tabulate}
 use Rattle.tables.specs.Checks.{all}
 use Rattle.sides.specs.Sides.{gradient, atCentre, gradientRange, bound, firstHalf, secondBound, smallerHalf, halfSide, sidesFrom, Box, sides, empty, boxOf}
@@ -30,7 +30,7 @@ use Rattle.arithmetic.proofs.Products.{terms-within}
 use Rattle.sides.proofs.Magnitudes.{two-within, centre-within, gradient-nonneg, near-within}
 
 -- ---- D and the g(k) of a centre, where each g(k) is let through
-module _ {n : ℕ} {l u a c : List ℤ} (q : Centred n l u a c) {t : ℤ} (s : pos 1 ≤ℤ t) {g : List ℤ} (f : Filled 8 n (gradient n (at n l) (at n u) (nth a) (nth c)) g)
+module _ {n : ℕ} {l u a c : List ℤ} (q : Centred n l u a c) {t : ℤ} (s : pos 1 ≤ℤ t) {g : List ℤ} (f : Filled greatestOrder n (gradient n (at n l) (at n u) (nth a) (nth c)) g)
     (e : all n (λ k. leZ (nth g k) (pos gradientRange)) ≡ true) where
   pub near-of : Near n t g
   near-of = record {
@@ -71,7 +71,7 @@ module _ {n : ℕ} {t : ℤ} {g : List ℤ} (q : Near n t g) where
     pub half-fits : {k : ℕ} → k < n → SFits w64 (ceilDiv (nth g k) t +ℤ leastRoot t b)
     half-fits h = fits-within (half-within h) (omega arith)
 
-    module _ {y : List ℤ} (f : Filled 8 n (λ k. ceilDiv (nth g k) t +ℤ leastRoot t b) y) where
+    module _ {y : List ℤ} (f : Filled greatestOrder n (λ k. ceilDiv (nth g k) t +ℤ leastRoot t b) y) where
       pub halves-within : (k : ℕ) → k < n → Within (2 ^ 30) (nth y k)
       halves-within k h = rw (f .entries k h) (half-within h)
 
@@ -114,10 +114,10 @@ module _ {n : ℕ} {c y : List ℤ} {b : ℤ} (q : Halved n c y b) (t : ℤ) {k 
 
 -- ---- the sides as they are written
 module _ {c h : ℕ → ℤ} {x : List ℤ} where
-  pub sides-none : length x ≡ 16 → SidesIn 0 c h x
+  pub sides-none : length x ≡ sidesRoom → SidesIn 0 c h x
   sides-none e = record { size = e; low = λ k l. absurd (omega arith); high = λ k l. absurd (omega arith) }
 
-  pub sides-more : {m : ℕ} → m < 8 → SidesIn m c h x → SidesIn (suc m) c h (set (set x (2 * m) (c m -ℤ h m)) (2 * m + 1) (c m +ℤ h m))
+  pub sides-more : {m : ℕ} → m < greatestOrder → SidesIn m c h x → SidesIn (suc m) c h (set (set x (2 * m) (c m -ℤ h m)) (2 * m + 1) (c m +ℤ h m))
   sides-more {m} l w = record {
     size = length-set (set x (2 * m) (c m -ℤ h m)) (2 * m + 1) (c m +ℤ h m) ∙ length-set x (2 * m) (c m -ℤ h m) ∙ w .size;
     low = λ k p. below k p (ℕ-discrete k m);
@@ -175,7 +175,7 @@ module _ (n : ℕ) (c : ℕ → ℤ) (d t : ℤ) (tk : ℕ → ℤ) (g : ℕ →
   unfolding boxOf
   second-decides e r f = ap first e ∙ ap second f
 
-  module _ {y : List ℤ} (f : Filled 8 n (λ k. ceilDiv (g k) t +ℤ leastRoot t (bound n d t g)) y) where
+  module _ {y : List ℤ} (f : Filled greatestOrder n (λ k. ceilDiv (g k) t +ℤ leastRoot t (bound n d t g)) y) where
     first-is : (k : ℕ) → k < n → nth y k ≡ firstHalf n d t g k
     unfolding firstHalf
     first-is k h = f .entries k h

@@ -7,7 +7,7 @@ use lib.IntN.{ℤ, pos, _+ℤ_, _-ℤ_}
 use lib.Signed.{_≤ℤ_}
 use lib.ListN.{length}
 use Rattle.integers.specs.Numbers.{Within}
-use Rattle.tables.specs.Ranges.{greatestOrder, entryRange, linearRange, centreRange}
+use Rattle.tables.specs.Ranges.{greatestOrder, sidesRoom, entryRange, linearRange, centreRange}
 use Rattle.tables.specs.Matrix.{at, nth, tabulate}
 use Rattle.tables.specs.Bounds.{CheckedTables}
 use Rattle.arithmetic.specs.Contracts.{boundRange}
@@ -34,7 +34,7 @@ pub record Factors (n : ℕ) (t c : List ℤ) (k j : ℕ) : Type 0 where
 -- t and the g(k) that were let through
 pub record Near (n : ℕ) (t : ℤ) (g : List ℤ) : Type 0 where
   pub order : n ≤ greatestOrder
-  pub size : length g ≡ 8
+  pub size : length g ≡ greatestOrder
   pub step : pos 1 ≤ℤ t
   pub entries : (k : ℕ) → k < n → Within gradientRange (nth g k)
 
@@ -53,9 +53,9 @@ pub record Halved (n : ℕ) (c y : List ℤ) (b : ℤ) : Type 0 where
   pub halves : (k : ℕ) → k < n → Within (2 ^ 30) (nth y k)
   pub bound : Within boundRange b
 
--- the sides before side n stand in x, which has room for 16 numbers
+-- the sides before side n stand in x, which has room for all of them
 pub record SidesIn (n : ℕ) (c h : ℕ → ℤ) (x : List ℤ) : Type 0 where
-  pub size : length x ≡ 16
+  pub size : length x ≡ sidesRoom
   pub low : (k : ℕ) → k < n → nth x (2 * k) ≡ c k -ℤ h k
   pub high : (k : ℕ) → k < n → nth x (2 * k + 1) ≡ c k +ℤ h k
 
@@ -66,4 +66,4 @@ boxIn n r x = elim r [ true ↦ sides (tabulate (n + n) (nth x)) | false ↦ emp
 -- the code's answer r and the sides in x are what o has
 pub record Answered (o : Box) (n : ℕ) (r : Bool) (x : List ℤ) : Type 0 where
   pub answer : o ≡ boxIn n r x
-  pub size : length x ≡ 16
+  pub size : length x ≡ sidesRoom

@@ -15,6 +15,7 @@ use arithmetic::absolute;
 use arithmetic::greater;
 use arithmetic::product_sum;
 use arithmetic::smaller;
+use tables::Vector;
 
 // The greatest g(k) that is let through.
 const GRADIENT_RANGE: i64 = 1 << 20;
@@ -50,9 +51,9 @@ fn gradient(n: usize, low: &[i64], high: &[i64], a: &[i64], c: &[i64], k: usize)
 }
 
 // Fills in g(k) for each k below n.
-pub fn gradients(n: usize, low: &[i64], high: &[i64], a: &[i64], c: &[i64], g: &mut [i64; 8])
-    requires { ⌜ Centred n (now low) (now high) (now a) (now c) × (length (now g) ≡ 8) ⌝ }
-    ensures { λ r. ⌜ Filled 8 n (gradient n (at n (now (low .entry))) (at n (now (high .entry))) (nth (now (a .entry))) (nth (now (c .entry)))) (now (g .exit)) ⌝ }
+pub fn gradients(n: usize, low: &[i64], high: &[i64], a: &[i64], c: &[i64], g: &mut Vector)
+    requires { ⌜ Centred n (now low) (now high) (now a) (now c) × (length (now g) ≡ greatestOrder) ⌝ }
+    ensures { λ r. ⌜ Filled greatestOrder n (gradient n (at n (now (low .entry))) (at n (now (high .entry))) (nth (now (a .entry))) (nth (now (c .entry)))) (now (g .exit)) ⌝ }
 {
     let mut k = 0;
     while k < n {
@@ -62,7 +63,7 @@ pub fn gradients(n: usize, low: &[i64], high: &[i64], a: &[i64], c: &[i64], g: &
 }
 
 // Whether each g(k) is let through.
-pub fn near(n: usize, g: &[i64; 8]) -> bool
+pub fn near(n: usize, g: &Vector) -> bool
     requires { ⌜ n ≤ greatestOrder ⌝ }
     ensures { λ r. ⌜ r ≡ all n (λ k. leZ (nth (now (g .entry)) k) (pos gradientRange)) ⌝ }
 {

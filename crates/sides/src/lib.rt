@@ -7,6 +7,7 @@ ghost use Rattle.integers.specs.Numbers.{Within};
 ghost use Rattle.integers.specs.Sum.{sum};
 ghost use Rattle.integers.specs.Division.{ceilDiv};
 ghost use Rattle.integers.specs.Root.{leastRoot};
+ghost use Rattle.tables.specs.Ranges.{greatestOrder, sidesRoom};
 ghost use Rattle.tables.specs.Matrix.{nth};
 ghost use Rattle.tables.specs.Buffers.{Filled};
 ghost use Rattle.arithmetic.specs.Contracts.{boundRange, Terms};
@@ -16,11 +17,14 @@ use arithmetic::ceil_div;
 use arithmetic::least_root;
 use arithmetic::product_sum;
 use arithmetic::smaller;
+use tables::GREATEST_ORDER;
+use tables::Sides;
+use tables::Vector;
 
 pub mod centre;
 
 // B
-fn bound(n: usize, d: i64, t: i64, g: &[i64; 8]) -> i64
+fn bound(n: usize, d: i64, t: i64, g: &Vector) -> i64
     requires { ⌜ Near n t (now g) × Within (2 ^ 56) d ⌝ }
     ensures { λ r. ⌜ r ≡ bound n d t (nth (now (g .entry))) ⌝ }
 {
@@ -29,9 +33,9 @@ fn bound(n: usize, d: i64, t: i64, g: &[i64; 8]) -> i64
 }
 
 // Fills in Y(k) for each k below n.
-fn first_halves(n: usize, t: i64, g: &[i64; 8], b: i64, y: &mut [i64; 8])
-    requires { ⌜ Near n t (now g) × Within boundRange b × (length (now y) ≡ 8) ⌝ }
-    ensures { λ r. ⌜ Filled 8 n (λ k. ceilDiv (nth (now (g .entry)) k) t +ℤ leastRoot t b) (now (y .exit)) ⌝ }
+fn first_halves(n: usize, t: i64, g: &Vector, b: i64, y: &mut Vector)
+    requires { ⌜ Near n t (now g) × Within boundRange b × (length (now y) ≡ greatestOrder) ⌝ }
+    ensures { λ r. ⌜ Filled greatestOrder n (λ k. ceilDiv (nth (now (g .entry)) k) t +ℤ leastRoot t b) (now (y .exit)) ⌝ }
 {
     let s = least_root(t, b);
     let mut k = 0;
@@ -42,7 +46,7 @@ fn first_halves(n: usize, t: i64, g: &[i64; 8], b: i64, y: &mut [i64; 8])
 }
 
 // B2
-fn second_bound(n: usize, d: i64, g: &[i64; 8], y: &[i64; 8]) -> i64
+fn second_bound(n: usize, d: i64, g: &Vector, y: &Vector) -> i64
     requires { ⌜ Terms n (now g) (now y) × Within (2 ^ 56) d ⌝ }
     ensures { λ r. ⌜ r ≡ d +ℤ pos 2 *ℤ sum n (λ k. nth (now (g .entry)) k *ℤ nth (now (y .entry)) k) ⌝ }
 {
@@ -63,8 +67,8 @@ fn half_side(y: i64, t: i64, b: i64) -> i64
 }
 
 // Writes the sides: low, then high, for each k.
-fn write_sides(n: usize, c: &[i64], tk: &[i64; 8], y: &[i64; 8], b: i64, out: &mut [i64; 16])
-    requires { ⌜ Halved n (now c) (now y) b × (length (now out) ≡ 16) ⌝ }
+fn write_sides(n: usize, c: &[i64], tk: &Vector, y: &Vector, b: i64, out: &mut Sides)
+    requires { ⌜ Halved n (now c) (now y) b × (length (now out) ≡ sidesRoom) ⌝ }
     ensures { λ r. ⌜ SidesIn n (nth (now (c .entry))) (λ k. smallerHalf (nth (now (y .entry)) k) (nth (now (tk .entry)) k) b) (now (out .exit)) ⌝ }
 {
     let mut k = 0;
@@ -80,23 +84,15 @@ fn write_sides(n: usize, c: &[i64], tk: &[i64; 8], y: &[i64; 8], b: i64, out: &m
 }
 
 // The box. Answers false where it is empty; else side k stands at 2 k and 2 k + 1.
-pub fn box_of(
-    n: usize,
-    c: &[i64],
-    d: i64,
-    t: i64,
-    tk: &[i64; 8],
-    g: &[i64; 8],
-    out: &mut [i64; 16],
-) -> bool
-    requires { ⌜ Ready n (now c) d t (now g) × (length (now out) ≡ 16) ⌝ }
+pub fn box_of(n: usize, c: &[i64], d: i64, t: i64, tk: &Vector, g: &Vector, out: &mut Sides) -> bool
+    requires { ⌜ Ready n (now c) d t (now g) × (length (now out) ≡ sidesRoom) ⌝ }
     ensures { λ r. ⌜ Answered (boxOf n (nth (now (c .entry))) d t (nth (now (tk .entry))) (nth (now (g .entry)))) n r (now (out .exit)) ⌝ }
 {
     let b = bound(n, d, t, g);
     if b < 0 {
         return false;
     }
-    let mut y = [0i64; 8];
+    let mut y = [0i64; GREATEST_ORDER];
     first_halves(n, t, g, b, &mut y);
     let b2 = second_bound(n, d, g, &y);
     if b2 < 0 {

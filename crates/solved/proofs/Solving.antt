@@ -12,7 +12,7 @@ use Rattle.integers.specs.Numbers.{Within}
 use Rattle.integers.specs.Sum.{sum}
 use Rattle.integers.specs.Division.{floorDiv}
 use Rattle.integers.proofs.Sums.{sum-ext, sum-prefix, only-by, only-same, only-other}
-use Rattle.tables.specs.Ranges.{vectorRange}
+use Rattle.tables.specs.Ranges.{greatestOrder, vectorRange}
 use Rattle.tables.specs.Matrix.{Matrix, nth, tabulate}
 use Rattle.tables.specs.Checks.{within}
 use Rattle.tables.proofs.Matrix.{length-tabulate, nth-tabulate, tabulate-ext}
@@ -24,21 +24,21 @@ use Rattle.solved.proofs.StoppedFactor.{factor, factor-at, factor-past}
 
 -- ---- the start: the entries before k are set to 0
 pub record Cleared (x : List ℤ) (k : ℕ) : Type 0 where
-  pub size : length x ≡ 8
+  pub size : length x ≡ greatestOrder
   pub zeros : (l : ℕ) → l < k → nth x l ≡ pos 0
 
-pub cleared-start : {x : List ℤ} → length x ≡ 8 → Cleared x 0
+pub cleared-start : {x : List ℤ} → length x ≡ greatestOrder → Cleared x 0
 cleared-start h = record { size = h; zeros = λ l k. absurd (omega arith) }
 
 module _ {x : List ℤ} where
-  pub cleared-more : {k : ℕ} → k < 8 → Cleared x k → Cleared (set x k (pos 0)) (suc k)
+  pub cleared-more : {k : ℕ} → k < greatestOrder → Cleared x k → Cleared (set x k (pos 0)) (suc k)
   cleared-more {k} h c = record { size = length-set x k (pos 0) ∙ c .size; zeros = λ l m. at l m (decLt l k) }
     where
       at : (l : ℕ) → l < suc k → Dec (l < k) → nth (set x k (pos 0)) l ≡ pos 0
       at l m (yes e) = getD-set-other x k l (pos 0) (pos 0) (omega arith) ∙ c .zeros l e
       at l m (no e) = let f : l ≡ k = omega arith in rw f (getD-set-same x k (pos 0) (pos 0) (omega (arith, c .size)))
 
-  pub cleared-end : {n j : ℕ} {s : ℤ} → j < 8 → Cleared x n → Started n (set x j s) j s
+  pub cleared-end : {n j : ℕ} {s : ℤ} → j < greatestOrder → Cleared x n → Started n (set x j s) j s
   cleared-end {n} {j} {s} h c =
       record {
         size = length-set x j s ∙ c .size;
@@ -80,7 +80,7 @@ from-more n x i v h l =
 
 -- ---- before the rows from i - 1 down
 pub record Solving (n : ℕ) (t : List ℤ) (j m : ℕ) (s : ℤ) (x : List ℤ) (i : ℕ) : Type 0 where
-  pub size : length x ≡ 8
+  pub size : length x ≡ greatestOrder
   pub small : (k : ℕ) → i ≤ k → k < j → Within vectorRange (nth x k)
   pub start : Within startRange (nth x j)
   pub here : solved n (stoppedAt t j m) s ≡ solvedRows (factor t j m) i (from n x i)

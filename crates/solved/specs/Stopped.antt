@@ -34,12 +34,12 @@ startRange = 64
 
 -- what stands in x before the first row: s at j, and 0 elsewhere
 pub record Started (n : ℕ) (x : List ℤ) (j : ℕ) (s : ℤ) : Type 0 where
-  pub size : length x ≡ 8
+  pub size : length x ≡ greatestOrder
   pub entries : (k : ℕ) → k < n → nth x k ≡ only k j s
 
 -- row i of the table, and the entries of x that it meets: those before column j are small, r(i,j) is within 2^55 and x(j) within the range of s
 pub record Ready (t x : List ℤ) (i j : ℕ) : Type 0 where
-  pub inside : j < 8
+  pub inside : j < greatestOrder
   pub before : i < j
   pub diagonal : pos 1 ≤ℤ upper t i i
   pub row : (k : ℕ) → i ≤ k → k < j → Within factorRange (upper t i k)
@@ -62,4 +62,4 @@ solvedOf n r x = elim r [ true ↦ tabulate n (nth x) ∷ [] | false ↦ [] ]
 -- the code's answer r and the vector in x are what o has
 pub record Answered (o : List (List ℤ)) (n : ℕ) (r : Bool) (x : List ℤ) : Type 0 where
   pub answer : o ≡ solvedOf n r x
-  pub size : length x ≡ 8
+  pub size : length x ≡ greatestOrder

@@ -1,5 +1,5 @@
 // Document 01, "Showing a vector": the solved vectors, from the table of a factoring that stopped.
-// Entry (i, k) of the table lies at 8 k + i. The vector's first n entries stand in x.
+// Entry (i, k) of the table lies at STRIDE k + i. The vector's first n entries stand in x.
 ghost use mathlib.Core.Path.{_≡_};
 ghost use Prim.Native.Nat.{suc, _≤_, _<_};
 ghost use lib.ListN.{length};
@@ -7,35 +7,38 @@ ghost use Rattle.integers.specs.Numbers.{Within};
 ghost use Rattle.tables.specs.Ranges.{greatestOrder};
 ghost use Rattle.solved.specs.Solved.{solved};
 ghost use Rattle.solved.specs.Stopped.{stoppedAt, Stopped, startRange, Started, Ready, rowSum, entryOf, Answered};
+use cholesky::STRIDE;
+use tables::Table;
 use tables::VECTOR_RANGE;
+use tables::Vector;
 
 // T: the sum of r(i,k) x(k) over k from i + 1 to j.
-fn row_sum(t: &[i64; 64], x: &[i64; 8], i: usize, j: usize) -> i64
+fn row_sum(t: &Table, x: &Vector, i: usize, j: usize) -> i64
     requires { ⌜ Ready (now t) (now x) i j ⌝ }
     ensures { λ r. ⌜ r ≡ rowSum (now (t .entry)) (now (x .entry)) i (suc j) ⌝ }
 {
     let mut s: i64 = 0;
     let mut k = i + 1;
     while k <= j {
-        s += t[8 * k + i] * x[k];
+        s += t[STRIDE * k + i] * x[k];
         k += 1;
     }
     s
 }
 
 // x(i): minus the rounded-down quotient of 2 T + r(i,i) by 2 r(i,i).
-fn entry(t: &[i64; 64], x: &[i64; 8], i: usize, j: usize) -> i64
+fn entry(t: &Table, x: &Vector, i: usize, j: usize) -> i64
     requires { ⌜ Ready (now t) (now x) i j ⌝ }
     ensures { λ r. ⌜ r ≡ entryOf (now (t .entry)) (now (x .entry)) i j ⌝ }
 {
     let sum = row_sum(t, x, i, j);
-    let diagonal = t[8 * i + i];
+    let diagonal = t[STRIDE * i + i];
     -integers::floor_div(2 * sum + diagonal, 2 * diagonal)
 }
 
 // Puts s at j, and 0 elsewhere.
-fn start(n: usize, j: usize, s: i64, x: &mut [i64; 8])
-    requires { ⌜ (n ≤ greatestOrder) × (j < n) × (length (now x) ≡ 8) ⌝ }
+fn start(n: usize, j: usize, s: i64, x: &mut Vector)
+    requires { ⌜ (n ≤ greatestOrder) × (j < n) × (length (now x) ≡ greatestOrder) ⌝ }
     ensures { λ r. ⌜ Started n (now (x .exit)) j s ⌝ }
 {
     let mut k = 0;
@@ -47,8 +50,8 @@ fn start(n: usize, j: usize, s: i64, x: &mut [i64; 8])
 }
 
 // The solved vector for s, of a factoring of order n that stopped in column j after m rows. Answers false where an entry passes ±2^15: there is none.
-pub fn solve(n: usize, t: &[i64; 64], j: usize, m: usize, s: i64, x: &mut [i64; 8]) -> bool
-    requires { ⌜ Stopped n (now t) j m × Within startRange s × (length (now x) ≡ 8) ⌝ }
+pub fn solve(n: usize, t: &Table, j: usize, m: usize, s: i64, x: &mut Vector) -> bool
+    requires { ⌜ Stopped n (now t) j m × Within startRange s × (length (now x) ≡ greatestOrder) ⌝ }
     ensures { λ r. ⌜ Answered (solved n (stoppedAt (now (t .entry)) j m) s) n r (now (x .exit)) ⌝ }
 {
     start(n, j, s, x);

@@ -16,11 +16,11 @@ use Rattle.integers.proofs.Parts.{leZ-true}
 use Rattle.integers.proofs.Solver.{_&_, order, solver}
 use Rattle.integers.proofs.Sums.{only-same, only-other}
 use Rattle.integers.proofs.Machine.{within-more, within-in}
-use Rattle.tables.specs.Ranges.{factorRange}
+use Rattle.tables.specs.Ranges.{greatestOrder, tableRoom, factorRange}
 use Rattle.tables.specs.Matrix.{Matrix}
 use Rattle.tables.specs.Checks.{all}
 use Rattle.tables.proofs.Checks.{false-of, all-of, all-at, le-of}
-use Rattle.cholesky.specs.Store.{upper}
+use Rattle.cholesky.specs.Store.{upper, stride}
 use Rattle.cholesky.specs.Reduced.{endsFrom}
 use Rattle.cholesky.proofs.Store.{upper-same, upper-other}
 use Rattle.cholesky.proofs.Reduced.{ends-diagonal, ends-ext}
@@ -71,17 +71,17 @@ lowered-ext d e M N i j h k = rw (h, k) refl
 
 -- ---- one diagonal entry after the other
 module _ {first : ℕ} {e : ℤ} {s : List ℤ} where
-  pub lower-start : length s ≡ 64 → Lowered first first e s s
+  pub lower-start : length s ≡ tableRoom → Lowered first first e s s
   lower-start h =
       record { size = h; entries = λ a b p q. sym (lowered-none _ (upper s) a b (taken-out first first e a (λ u v. absurd (omega arith)))) }
 
   -- the next entry is as it was
-  pub lower-reads : {i : ℕ} {s′ : List ℤ} → i < 8 → Lowered first i e s s′ → upper s′ i i ≡ upper s i i
+  pub lower-reads : {i : ℕ} {s′ : List ℤ} → i < greatestOrder → Lowered first i e s s′ → upper s′ i i ≡ upper s i i
   lower-reads {i} k w = w .entries i i k k ∙ lowered-none _ (upper s) i i (taken-out first i e i (λ u v. absurd (omega arith)))
 
-  pub lower-more : {i : ℕ} {s′ : List ℤ} → first ≤ i → i < 8 → Lowered first i e s s′ → Lowered first (suc i) e s (set s′ (8 * i + i) (upper s′ i i -ℤ e))
+  pub lower-more : {i : ℕ} {s′ : List ℤ} → first ≤ i → i < greatestOrder → Lowered first i e s s′ → Lowered first (suc i) e s (set s′ (stride * i + i) (upper s′ i i -ℤ e))
   lower-more {i} {s′} h k w =
-      record { size = length-set s′ (8 * i + i) (upper s′ i i -ℤ e) ∙ w .size; entries = λ a b p q. go a b p q (ℕ-discrete a i) (ℕ-discrete b i) }
+      record { size = length-set s′ (stride * i + i) (upper s′ i i -ℤ e) ∙ w .size; entries = λ a b p q. go a b p q (ℕ-discrete a i) (ℕ-discrete b i) }
     where
       -- the numbers taken off differ in entry i alone
       same : (a : ℕ) → (a ≡ i → ⊥) → taken first i e a ≡ taken first (suc i) e a
@@ -89,7 +89,7 @@ module _ {first : ℕ} {e : ℤ} {s : List ℤ} where
           taken-by first i e a (λ z. z ≡ taken first (suc i) e a) (λ u v. sym (taken-in first (suc i) e a u (omega arith)))
           (λ f. sym (taken-out first (suc i) e a (λ u v. f u (omega arith))))
 
-      go : (a b : ℕ) → a < 8 → b < 8 → Dec (a ≡ i) → Dec (b ≡ i) → upper (set s′ (8 * i + i) (upper s′ i i -ℤ e)) a b ≡ lowered (taken first (suc i) e) (upper s) a b
+      go : (a b : ℕ) → a < greatestOrder → b < greatestOrder → Dec (a ≡ i) → Dec (b ≡ i) → upper (set s′ (stride * i + i) (upper s′ i i -ℤ e)) a b ≡ lowered (taken first (suc i) e) (upper s) a b
       go a b p q (yes x) (yes y) =
           rw (x, y) (upper-same s′ i i (upper s′ i i -ℤ e) (omega (arith, w .size))
           ∙ rw (lower-reads k w, lowered-on (taken first (suc i) e) (upper s) i, taken-in first (suc i) e i h (omega arith)) refl)

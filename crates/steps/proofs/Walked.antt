@@ -14,6 +14,7 @@ use Rattle.integers.specs.Root.{wholeRoot}
 use Rattle.integers.proofs.Parts.{≤ℤ-trans, pos-nonneg, *ℤ-nonneg}
 use Rattle.integers.proofs.Solver.{_&_, order, ring, solver}
 use Rattle.integers.proofs.Sums.{only-by, only-other}
+use Rattle.tables.specs.Ranges.{greatestOrder}
 use Rattle.tables.specs.Matrix.{Matrix}
 use Rattle.tables.specs.Bounds.{Bounds}
 use Rattle.tables.proofs.Checks.{bool-ext, false-of}
@@ -32,7 +33,7 @@ use Rattle.steps.proofs.Diagonals.{taken-in, taken-out, lowered-on, low
 use Rattle.steps.proofs.Trials.{trial-is}
 
 -- ---- H, as it stands in the table
-module _ {n : ℕ} {L U : Matrix} {h : List ℤ} (b : Bounds n L U) (o : n ≤ 8) (w : Scaled n L U h n) where
+module _ {n : ℕ} {L U : Matrix} {h : List ℤ} (b : Bounds n L U) (o : n ≤ greatestOrder) (w : Scaled n L U h n) where
   pub scaled-triable : Triable n 0 n h
   scaled-triable = record { sized = sized-scaled b o w; inside = omega arith; ordered = omega arith; some = λ k. k }
 

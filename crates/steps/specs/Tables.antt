@@ -1,4 +1,4 @@
--- The tables of the code: 64 numbers, entry (i, j) at 8 j + i, of which rows and columns from i on are left.
+-- The tables of the code: entry (i, j) at stride j + i, of which rows and columns from i on are left.
 use mathlib.Core.Path.{_≡_}
 use mathlib.Core.Bool.{Bool, true, false, _&&_}
 use mathlib.Core.List.{List}
@@ -7,6 +7,7 @@ use lib.Dec.{leb, ltb}
 use lib.IntN.{ℤ, pos, _-ℤ_, _*ℤ_}
 use lib.Signed.{leZ}
 use lib.ListN.{length}
+use Rattle.tables.specs.Ranges.{greatestOrder, tableRoom}
 use Rattle.tables.specs.Matrix.{Matrix}
 use Rattle.cholesky.specs.Scale.{scale}
 use Rattle.cholesky.specs.Store.{upper}
@@ -34,8 +35,8 @@ stays S first e i = elim (leb first i) [ true ↦ leZ (pos 1) (S i i -ℤ e) | f
 
 -- s′ has the entries of s, with e taken off its diagonal entries first, .., last - 1
 pub record Lowered (first last : ℕ) (e : ℤ) (s s′ : List ℤ) : Type 0 where
-  pub size : length s′ ≡ 64
-  pub entries : (a b : ℕ) → a < 8 → b < 8 → upper s′ a b ≡ lowered (taken first last e) (upper s) a b
+  pub size : length s′ ≡ tableRoom
+  pub entries : (a b : ℕ) → a < greatestOrder → b < greatestOrder → upper s′ a b ≡ lowered (taken first last e) (upper s) a b
 
 -- a matrix of order n of which rows and columns from first on are left, and diagonal entries from first to last - 1 that can be lowered: one at least
 pub record Triable (n first last : ℕ) (s : List ℤ) : Type 0 where

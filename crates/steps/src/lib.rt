@@ -16,8 +16,12 @@ ghost use Rattle.cholesky.specs.Reduced.{endsFrom};
 ghost use Rattle.steps.specs.Steps.{lowered, step, stepAt};
 ghost use Rattle.cholesky.specs.Rows.{Sized};
 ghost use Rattle.steps.specs.Tables.{stepRange, taken, stays, Lowered, Triable, stepFrom};
+use cholesky::STRIDE;
 use cholesky::scaling::SCALE;
 use cholesky::scaling::scale;
+use tables::TABLE_ROOM;
+use tables::Table;
+use tables::Vector;
 
 pub mod reducing;
 
@@ -28,13 +32,13 @@ const STEP_BITS: usize = 20;
 const MOST_STEP: i64 = (1 << STEP_BITS) - 1;
 
 // Whether at least 1 is left of each diagonal entry from first to last - 1 with e taken off.
-fn stays(first: usize, last: usize, e: i64, s: &[i64; 64]) -> bool
+fn stays(first: usize, last: usize, e: i64, s: &Table) -> bool
     requires { ⌜ Sized (now s) last first × (first ≤ last) × Within stepRange e ⌝ }
     ensures { λ r. ⌜ r ≡ all last (stays (upper (now (s .entry))) first e) ⌝ }
 {
     let mut i = first;
     while i < last {
-        if s[8 * i + i] - e < 1 {
+        if s[STRIDE * i + i] - e < 1 {
             return false;
         }
         i += 1;
@@ -43,19 +47,19 @@ fn stays(first: usize, last: usize, e: i64, s: &[i64; 64]) -> bool
 }
 
 // Takes e off the diagonal entries first to last - 1.
-fn lower(first: usize, last: usize, e: i64, s: &mut [i64; 64])
+fn lower(first: usize, last: usize, e: i64, s: &mut Table)
     requires { ⌜ Sized (now s) last first × (first ≤ last) × Within stepRange e ⌝ }
     ensures { λ r. ⌜ Lowered first last e (now (s .entry)) (now (s .exit)) ⌝ }
 {
     let mut i = first;
     while i < last {
-        s[8 * i + i] -= e;
+        s[STRIDE * i + i] -= e;
         i += 1;
     }
 }
 
 // Whether factoring ends in the rows from first on, with e taken off the diagonal entries first to last - 1.
-fn trial(n: usize, first: usize, last: usize, e: i64, h: &[i64; 64]) -> bool
+fn trial(n: usize, first: usize, last: usize, e: i64, h: &Table) -> bool
     requires { ⌜ Triable n first last (now h) × (pos 0 ≤ℤ e) × Within stepRange e ⌝ }
     ensures { λ r. ⌜ r ≡ endsFrom (n - first) (lowered (taken first last e) (upper (now (h .entry)))) first ⌝ }
 {
@@ -71,11 +75,11 @@ fn trial(n: usize, first: usize, last: usize, e: i64, h: &[i64; 64]) -> bool
 }
 
 // The step of the last row, k: the greatest that leaves 1 of its diagonal entry.
-fn last_step(k: usize, h: &[i64; 64]) -> i64
+fn last_step(k: usize, h: &Table) -> i64
     requires { ⌜ k < greatestOrder ⌝ }
     ensures { λ r. ⌜ r ≡ stepFrom (suc k) k (suc k) (upper (now (h .entry))) ⌝ }
 {
-    let rest = h[8 * k + k];
+    let rest = h[STRIDE * k + k];
     if rest < 1 {
         return 0;
     }
@@ -84,7 +88,7 @@ fn last_step(k: usize, h: &[i64; 64]) -> i64
 }
 
 // The step of the diagonal entries first to last - 1, bit by bit: 2^b is added where factoring ends with it.
-fn search(n: usize, first: usize, last: usize, h: &[i64; 64]) -> i64
+fn search(n: usize, first: usize, last: usize, h: &Table) -> i64
     requires { ⌜ Triable n first last (now h) ⌝ }
     ensures { λ r. ⌜ r ≡ stepFrom n first last (upper (now (h .entry))) ⌝ }
 {
@@ -108,17 +112,17 @@ pub fn step(n: usize, low: &[i64], high: &[i64]) -> i64
     requires { ⌜ CheckedTables n (now low) (now high) ⌝ }
     ensures { λ r. ⌜ r ≡ step n (at n (now (low .entry))) (at n (now (high .entry))) ⌝ }
 {
-    let mut h = [0i64; 64];
+    let mut h = [0i64; TABLE_ROOM];
     scale(n, low, high, &mut h);
     search(n, 0, n, &h)
 }
 
 // t(k), of diagonal entry k only, for each k: on what is left after the rows before k. Where factoring stops in one of these, t(k) is 0.
-pub fn steps_at(n: usize, low: &[i64], high: &[i64], t: &mut [i64; 8])
-    requires { ⌜ CheckedTables n (now low) (now high) × (length (now t) ≡ 8) ⌝ }
-    ensures { λ r. ⌜ Filled 8 n (stepAt n (at n (now (low .entry))) (at n (now (high .entry)))) (now (t .exit)) ⌝ }
+pub fn steps_at(n: usize, low: &[i64], high: &[i64], t: &mut Vector)
+    requires { ⌜ CheckedTables n (now low) (now high) × (length (now t) ≡ greatestOrder) ⌝ }
+    ensures { λ r. ⌜ Filled greatestOrder n (stepAt n (at n (now (low .entry))) (at n (now (high .entry)))) (now (t .exit)) ⌝ }
 {
-    let mut h = [0i64; 64];
+    let mut h = [0i64; TABLE_ROOM];
     scale(n, low, high, &mut h);
     let mut goes_on = true;
     let mut next = 0;

@@ -1,21 +1,23 @@
-// Factoring row by row, of what is left of a matrix from a row on, in a table of 64 numbers, entry (i, j) at 8 j + i: whether it goes on.
+// Factoring row by row, of what is left of a matrix from a row on, in a table with entry (i, j) at STRIDE j + i: whether it goes on.
 ghost use mathlib.Core.Path.{_≡_};
 ghost use Prim.Native.Nat.{_-_, _<_};
 ghost use Rattle.cholesky.specs.Store.{upper};
 ghost use Rattle.cholesky.specs.Reduced.{endsFrom};
 ghost use Rattle.cholesky.specs.Rows.{Sized};
 ghost use Rattle.steps.specs.Tables.{RowPassed};
+use cholesky::STRIDE;
 use cholesky::factoring::take_columns;
+use tables::Table;
 
 // Row i, of order n: leaves the Schur complement in the rows after it. False where factoring stops in it.
-pub fn pass_row(s: &mut [i64; 64], n: usize, i: usize) -> bool
+pub fn pass_row(s: &mut Table, n: usize, i: usize) -> bool
     requires { ⌜ Sized (now s) n i × (i < n) ⌝ }
     ensures { λ x. ⌜ RowPassed (now (s .entry)) n i x (now (s .exit)) ⌝ }
 {
-    if s[8 * i + i] < 1 {
+    if s[STRIDE * i + i] < 1 {
         return false;
     }
-    let d = integers::whole_root(s[8 * i + i]);
+    let d = integers::whole_root(s[STRIDE * i + i]);
     if take_columns(s, i, n, d) < n {
         return false;
     }
@@ -23,7 +25,7 @@ pub fn pass_row(s: &mut [i64; 64], n: usize, i: usize) -> bool
 }
 
 // Whether factoring ends in the rows from first on, of order n.
-pub fn ends_from(s: &mut [i64; 64], n: usize, first: usize) -> bool
+pub fn ends_from(s: &mut Table, n: usize, first: usize) -> bool
     requires { ⌜ Sized (now s) n first × (first < n) ⌝ }
     ensures { λ x. ⌜ x ≡ endsFrom (n - first) (upper (now (s .entry))) first ⌝ }
 {
@@ -34,5 +36,5 @@ pub fn ends_from(s: &mut [i64; 64], n: usize, first: usize) -> bool
         }
         i += 1;
     }
-    1 <= s[8 * i + i]
+    1 <= s[STRIDE * i + i]
 }

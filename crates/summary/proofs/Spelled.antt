@@ -12,13 +12,13 @@ use mir.Syntax.{w32, w64}
 use mir.Val.{bytes}
 use borrow.Author.Tests.{le-leb, lt-leb, eq-eqb, ne-eqb, eqb-true}
 use Rattle.words.proofs.Laws.{length-paddedNumbersOf}
-use Rattle.tables.specs.Ranges.{greatestOrder}
+use Rattle.tables.specs.Ranges.{greatestOrder, tableRoom}
 use Rattle.tables.specs.Checks.{orderOk, firstRefusal, problemChecks}
 use Rattle.tables.specs.declared.Refusal.{Refusal}
 use Rattle.tables.specs.declared.Refusal.the-variants.{Long}
 use Rattle.tables.specs.declared.Checked.{Checked}
 use Rattle.tables.specs.declared.Checked.the-variants as Checked
-use Rattle.tables.proofs.Matrix.{at-most-64}
+use Rattle.tables.proofs.Matrix.{table-fits}
 use Rattle.tables.proofs.Checks.{and-left, and-right, first-passed, rest-passed, order-of}
 use Rattle.fields.specs.declared.field.Kind.{Kind}
 use Rattle.fields.specs.declared.field.Kind.the-variants as Kind
@@ -83,24 +83,24 @@ module _ (s : List ℕ) (l : Layout) (e : firstRefusal (fieldChecks s l) ≡ Che
 -- ---- a problem's sizes
 pub record Rooms (p : Problem) : Type 0 where
   pub order : p .order ≤ greatestOrder
-  pub low : length (p .low) ≡ 64
-  pub high : length (p .high) ≡ 64
-  pub linear : length (p .linear) ≡ 8
-  pub centre : length (p .centre) ≡ 8
+  pub low : length (p .low) ≡ tableRoom
+  pub high : length (p .high) ≡ tableRoom
+  pub linear : length (p .linear) ≡ greatestOrder
+  pub centre : length (p .centre) ≡ greatestOrder
 
 pub rooms-fit : {p : Problem} → Rooms p
     → let n = p .order in (n ≤ greatestOrder) × (n * n ≤ length (p .low)) × (n * n ≤ length (p .high)) × (n ≤ length (p .linear)) × (n ≤ length (p .centre))
-rooms-fit z = let t = at-most-64 (z .order) in (z .order, omega arith, omega arith, omega arith, omega arith)
+rooms-fit z = let t = table-fits (z .order) in (z .order, omega arith, omega arith, omega arith, omega arith)
 
 pub problem-rooms : (s : List ℕ) (l : Layout) → orderIn s l ≤ greatestOrder → Rooms (problemIn s l)
 unfolding problemIn
 problem-rooms s l h =
     record {
       order = h;
-      low = length-paddedNumbersOf w32 64 _ _ (at-most-64 h);
-      high = length-paddedNumbersOf w32 64 _ _ (at-most-64 h);
-      linear = length-paddedNumbersOf w64 8 _ _ h;
-      centre = length-paddedNumbersOf w64 8 _ _ h;
+      low = length-paddedNumbersOf w32 tableRoom _ _ (table-fits h);
+      high = length-paddedNumbersOf w32 tableRoom _ _ (table-fits h);
+      linear = length-paddedNumbersOf w64 greatestOrder _ _ h;
+      centre = length-paddedNumbersOf w64 greatestOrder _ _ h;
     }
 
 -- ---- the cases of a reading

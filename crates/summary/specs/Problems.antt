@@ -9,7 +9,7 @@ use lib.ListN.{length, getD, replicate}
 use mir.Syntax.{w32, w64}
 use mir.Val.{bytes}
 use Rattle.words.specs.Numbers.{signedAt, paddedNumbersOf}
-use Rattle.tables.specs.Ranges.{greatestOrder}
+use Rattle.tables.specs.Ranges.{greatestOrder, tableRoom}
 use Rattle.tables.specs.Checks.{Check, all, orderOk, firstRefusal, problemChecks}
 use Rattle.tables.specs.declared.Refusal.the-variants.{Order, Absent, Size, Long}
 use Rattle.tables.specs.declared.Checked.{Checked}
@@ -55,11 +55,11 @@ problemIn s l =
     let n : ℕ = orderIn s l in
     record {
       order = n;
-      low = paddedNumbersOf w32 64 (content s l Kind.Low) (n * n);
-      high = paddedNumbersOf w32 64 (content s l Kind.High) (n * n);
-      linear = paddedNumbersOf w64 8 (content s l Kind.Linear) n;
+      low = paddedNumbersOf w32 tableRoom (content s l Kind.Low) (n * n);
+      high = paddedNumbersOf w32 tableRoom (content s l Kind.High) (n * n);
+      linear = paddedNumbersOf w64 greatestOrder (content s l Kind.Linear) n;
       limit = signedAt w64 (content s l Kind.Limit) 0;
-      centre = paddedNumbersOf w64 8 (content s l Kind.Centre) n;
+      centre = paddedNumbersOf w64 greatestOrder (content s l Kind.Centre) n;
     }
 
 -- "A refusal hands back its number alone"
@@ -67,11 +67,11 @@ unfoldable pub noProblem : Problem
 noProblem =
     record {
       order = 0;
-      low = replicate 64 (pos 0);
-      high = replicate 64 (pos 0);
-      linear = replicate 8 (pos 0);
+      low = replicate tableRoom (pos 0);
+      high = replicate tableRoom (pos 0);
+      linear = replicate greatestOrder (pos 0);
       limit = pos 0;
-      centre = replicate 8 (pos 0);
+      centre = replicate greatestOrder (pos 0);
     }
 
 -- the problem where nothing refuses it, else the refusal
@@ -106,7 +106,7 @@ pub record Sized (s : List ℕ) (l : Layout) : Type 0 where
 pub record LetThrough (p : Problem) : Type 0 where
   pub order : orderOk (pos (p .order)) ≡ true
   pub checks : firstRefusal (problemChecks (p .order) (p .low) (p .high) (p .linear) (p .limit) (p .centre)) ≡ Checked.Passed
-  pub low-size : length (p .low) ≡ 64
-  pub high-size : length (p .high) ≡ 64
-  pub linear-size : length (p .linear) ≡ 8
-  pub centre-size : length (p .centre) ≡ 8
+  pub low-size : length (p .low) ≡ tableRoom
+  pub high-size : length (p .high) ≡ tableRoom
+  pub linear-size : length (p .linear) ≡ greatestOrder
+  pub centre-size : length (p .centre) ≡ greatestOrder

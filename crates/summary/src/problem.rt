@@ -4,7 +4,7 @@ ghost use Prim.Native.Nat.{_*_, _≤_};
 ghost use mir.Syntax.{w32, w64};
 ghost use mir.Val.{bytes};
 ghost use Rattle.words.specs.Numbers.{signedAt, paddedNumbersOf};
-ghost use Rattle.tables.specs.Ranges.{greatestOrder};
+ghost use Rattle.tables.specs.Ranges.{greatestOrder, tableRoom};
 ghost use Rattle.tables.specs.Checks.{firstRefusal};
 ghost use Rattle.tables.specs.declared.Checked.the-variants.{Passed};
 ghost use Rattle.fields.specs.Layouts.{lengthOf, content, Inside};
@@ -15,7 +15,11 @@ use fields::layout::content;
 use fields::layout::length_of;
 use fields::layout::walk;
 use tables::Checked;
+use tables::GREATEST_ORDER;
 use tables::Refusal;
+use tables::TABLE_ROOM;
+use tables::Table;
+use tables::Vector;
 
 // A file has at most 4096 bytes.
 pub const LONGEST: usize = 4096;
@@ -23,11 +27,11 @@ pub const LONGEST: usize = 4096;
 // A problem of order n. L and U stand row by row in the first n² numbers of low and high, a and c in the first n of linear and centre; zeros follow.
 pub struct Problem {
     pub order: usize,
-    pub low: [i64; 64],
-    pub high: [i64; 64],
-    pub linear: [i64; 8],
+    pub low: Table,
+    pub high: Table,
+    pub linear: Vector,
     pub limit: i64,
-    pub centre: [i64; 8],
+    pub centre: Vector,
 }
 
 // What the reading of a file finds: its problem, or the first refusal, with zeros for a problem.
@@ -42,11 +46,11 @@ fn no_problem() -> Problem
 {
     Problem {
         order: 0,
-        low: [0; 64],
-        high: [0; 64],
-        linear: [0; 8],
+        low: [0; TABLE_ROOM],
+        high: [0; TABLE_ROOM],
+        linear: [0; GREATEST_ORDER],
         limit: 0,
-        centre: [0; 8],
+        centre: [0; GREATEST_ORDER],
     }
 }
 
@@ -115,17 +119,17 @@ fn check_fields(file: &[u8], layout: Layout) -> Checked
 }
 
 // The short numbers in the content of a kind, count of them.
-fn table_in(file: &[u8], layout: Layout, kind: Kind, count: usize) -> [i64; 64]
-    requires { ⌜ Inside (now file) layout × (count * bytes w32 ≤ lengthOf layout kind) × (count ≤ 64) ⌝ }
-    ensures { λ r. ⌜ r ≡ paddedNumbersOf w32 64 (content (now (file .entry)) layout kind) count ⌝ }
+fn table_in(file: &[u8], layout: Layout, kind: Kind, count: usize) -> Table
+    requires { ⌜ Inside (now file) layout × (count * bytes w32 ≤ lengthOf layout kind) × (count ≤ tableRoom) ⌝ }
+    ensures { λ r. ⌜ r ≡ paddedNumbersOf w32 tableRoom (content (now (file .entry)) layout kind) count ⌝ }
 {
     words::load_short_table(content(file, layout, kind), count)
 }
 
 // The numbers in the content of a kind, count of them.
-fn vector_in(file: &[u8], layout: Layout, kind: Kind, count: usize) -> [i64; 8]
-    requires { ⌜ Inside (now file) layout × (count * bytes w64 ≤ lengthOf layout kind) × (count ≤ 8) ⌝ }
-    ensures { λ r. ⌜ r ≡ paddedNumbersOf w64 8 (content (now (file .entry)) layout kind) count ⌝ }
+fn vector_in(file: &[u8], layout: Layout, kind: Kind, count: usize) -> Vector
+    requires { ⌜ Inside (now file) layout × (count * bytes w64 ≤ lengthOf layout kind) × (count ≤ greatestOrder) ⌝ }
+    ensures { λ r. ⌜ r ≡ paddedNumbersOf w64 greatestOrder (content (now (file .entry)) layout kind) count ⌝ }
 {
     words::load_vector(content(file, layout, kind), count)
 }

@@ -9,14 +9,15 @@ use native.Mathlib.Nat.{mul-le-mul, mul-le-mul-right, mod-lt, div-lt-iff-lt-mul,
 use lib.IntN.{ℤ, pos}
 use lib.ListN.{length, getD, replicate, length-append, List·getD-append}
 use lib.Seq.{getD-at}
+use Rattle.tables.specs.Ranges.{greatestOrder, tableRoom}
 use Rattle.tables.specs.Matrix.{Matrix, nth, at, tabulate, table}
 
 -- ---- where entry (i, j) stands, and which entry stands at k
 pub inside : {i j n : ℕ} → i < n → j < n → i * n + j < n * n
 inside {i} {j} {n} h k = omega (arith, mul-le-mul-right {m = suc i} n h)
 
-pub at-most-64 : {n : ℕ} → n ≤ 8 → n * n ≤ 64
-at-most-64 h = omega (arith, mul-le-mul h h)
+pub table-fits : {n : ℕ} → n ≤ greatestOrder → n * n ≤ tableRoom
+table-fits h = omega (arith, mul-le-mul h h)
 
 positive : {n k : ℕ} → k < n * n → 0 < n
 positive {n = zero} h = omega arith

@@ -26,7 +26,7 @@ unfoldable pub firstRefusal : List Check → Checked
 firstRefusal [] = Passed
 firstRefusal (c ∷ cs) = elim (c .passes) [ true ↦ firstRefusal cs | false ↦ Refused (c .otherwise) ]
 
--- 1: n is 1 to 8
+-- 1: n is an order
 unfoldable pub orderOk : ℤ → Bool
 orderOk n = leZ (pos 1) n && leZ n (pos greatestOrder)
 

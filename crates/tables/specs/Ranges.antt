@@ -1,8 +1,15 @@
 -- Document 01, "What the unit carries": the greatest order, and the range of each kind of number (a factor's is that of check 6 and of "Factoring"), both ends included.
-use Prim.Native.Nat.{ℕ, _^_}
+use Prim.Native.Nat.{ℕ, _*_, _^_}
 
 abbrev pub greatestOrder : ℕ
 greatestOrder = 8
+
+-- the numbers of a table of the greatest order, and of the sides of its box
+abbrev pub tableRoom : ℕ
+tableRoom = greatestOrder * greatestOrder
+
+abbrev pub sidesRoom : ℕ
+sidesRoom = 2 * greatestOrder
 
 -- entries of L and U
 abbrev pub entryRange : ℕ

@@ -13,8 +13,26 @@ ghost use Rattle.tables.specs.Answers.{answerCode};
 ghost use Rattle.tables.specs.Checks.{orderOk, sizesOk, within, allWithin, nowhereCrossed, rowSymmetric, symmetric, tableChecks, problemChecks, firstRefusal};
 ghost use Rattle.tables.specs.Pairs.{pairBounded, rowBounded, tablesBounded};
 
-// Orders are 1 to 8.
-pub const GREATEST_ORDER: i64 = 8;
+// Orders are from 1 to this.
+pub const GREATEST_ORDER: usize = 8;
+
+// The same as a number that is compared with n.
+const LAST_ORDER: i64 = GREATEST_ORDER as i64;
+
+// The numbers of a table of the greatest order.
+pub const TABLE_ROOM: usize = GREATEST_ORDER * GREATEST_ORDER;
+
+// The numbers of the sides of a box of the greatest order: low and high.
+pub const SIDES_ROOM: usize = 2 * GREATEST_ORDER;
+
+// A table in scratch memory: n² numbers at its front. How they lie there, its user says.
+pub type Table = [i64; TABLE_ROOM];
+
+// A vector in scratch memory: n numbers at its front.
+pub type Vector = [i64; GREATEST_ORDER];
+
+// The sides of a box in scratch memory: side k at 2 k and 2 k + 1.
+pub type Sides = [i64; SIDES_ROOM];
 
 // Entries of L and U are within ±2^20.
 pub const ENTRY_RANGE: i64 = 1 << 20;
@@ -120,14 +138,14 @@ pub fn copy_numbers(count: usize, x: &[i64], out: &mut [i64])
     }
 }
 
-// Whether n is an order, 1 to 8.
+// Whether n is an order.
 pub fn order_ok(n: i64) -> bool
     ensures { λ r. ⌜ r ≡ orderOk n ⌝ }
 {
     if n < 1 {
         return false;
     }
-    n <= GREATEST_ORDER
+    n <= LAST_ORDER
 }
 
 // Whether two tables have the size of a table, and what is offered with them the size of an offer.

@@ -335,7 +335,7 @@ pub record Leaves (τ : ℤ) (n : ℕ) : Type 0 where
 pub margin-coercive : (τ : ℤ) (n : ℕ) (L U : Matrix) → Leaves τ n → Margin n L U → Coercive n ((pos n +ℤ pos 1) *ℤ ρ) (scaled τ n L U)
 margin-coercive τ n L U l margin = coercive-weaken (l .enough) (margin-scaled τ n L U margin)
 
--- document 01's orders, to 8, and its take-off: 2^31 - 2^29 is 24 ρ
+-- the orders and the take-off of the rules: 2^31 - 2^29 is 24 ρ
 pub take-off-leaves : (n : ℕ) → n ≤ greatestOrder → Leaves takeOff n
 take-off-leaves n h = record {
   enough = order (pos n ∷ []) (≤-in {x = pos n} {y = pos greatestOrder} (omega arith)) (search solver depth 40 fits 20000) (omega arith);

@@ -1,5 +1,5 @@
 -- Demand 3, as far as factoring and the residual test go: each theorem for any order n and any take-off τ that suffices, and then for
--- document 01's orders, to 8, and its take-off, 2^29.
+-- the orders and the take-off of the rules.
 use mathlib.Core.Path.{_≡_}
 use mathlib.Core.Bool.{true}
 use Prim.Native.Nat.{ℕ, _≤_}
@@ -65,7 +65,7 @@ module _ (τ : ℤ) (n : ℕ) (L U : Matrix) (b : Bounds n L U) (s : Suffices τ
     pub margin-accepted : T (accepts n R L U)
     margin-accepted = ends-accepted margin-ends
 
--- ---- the same of document 01's orders, to 8, and its take-off, 2^29
+-- ---- the same of the orders and the take-off of the rules
 module _ (n : ℕ) (h : n ≤ greatestOrder) (L U : Matrix) (b : Bounds n L U) where
   abbrev ours : Factoring
   ours = factoring n (scaled takeOff n L U)

@@ -9,6 +9,7 @@ use lib.IntN.{ℤ, pos}
 use lib.Signed.{leZ}
 use lib.ListN.{length, set, length-set}
 use lib.Seq.{getD-set-same, getD-set-other}
+use Rattle.tables.specs.Ranges.{greatestOrder}
 use Rattle.tables.specs.Matrix.{nth, tabulate}
 use Rattle.tables.proofs.Matrix.{tabulate-ext}
 use Rattle.tried.specs.Search.{front, orElse, reached, found, Searched}
@@ -35,7 +36,7 @@ module _ (x : List ℤ) (d k : ℕ) (a : ℤ) (h : d < length x) where
   front-found false = refl
 
 -- the entry is put in front, whatever was found after it
-pub chosen : {x : List ℤ} {d k : ℕ} (a : ℤ) → d < 8 → {s : Option (List ℤ)} {r : Bool} → Searched s r (suc d) k x → Searched (front a s) r d (suc k) (set x d a)
+pub chosen : {x : List ℤ} {d k : ℕ} (a : ℤ) → d < greatestOrder → {s : Option (List ℤ)} {r : Bool} → Searched s r (suc d) k x → Searched (front a s) r d (suc k) (set x d a)
 chosen {x} {d} {k} a h {r = r} f =
     record { answer = ap (front a) (f .answer) ∙ front-found x d k a (omega (arith, f .size)) r; size = length-set x d a ∙ f .size }
 
@@ -50,11 +51,11 @@ module _ {s : Option (List ℤ)} (t : Option (List ℤ)) {d k : ℕ} where
   found-next f g = record { answer = ap (λ (z : Option (List ℤ)). orElse z t) (f .answer) ∙ g .answer; size = g .size }
 
 -- nothing is left to choose
-pub reached-is : (x : List ℤ) (d : ℕ) (s : ℤ) {r : Bool} → length x ≡ 8 → leZ s (pos 0) ≡ r → Searched (reached s) r d 0 x
+pub reached-is : (x : List ℤ) (d : ℕ) (s : ℤ) {r : Bool} → length x ≡ greatestOrder → leZ s (pos 0) ≡ r → Searched (reached s) r d 0 x
 unfolding reached found tabulate
 reached-is x d s h e = record { answer = ap (λ (b : Bool). elim b as (λ z. Option (List ℤ)) [ true ↦ some [] | false ↦ none ]) e; size = h }
 
 -- nothing is found
-pub nothing-found : {o : Option (List ℤ)} {x : List ℤ} {d k : ℕ} → length x ≡ 8 → o ≡ none → Searched o false d k x
+pub nothing-found : {o : Option (List ℤ)} {x : List ℤ} {d k : ℕ} → length x ≡ greatestOrder → o ≡ none → Searched o false d k x
 unfolding found
 nothing-found h e = record { answer = e; size = h }

@@ -9,6 +9,7 @@ use native.Mathlib.Numerals.{add-one}
 use lib.IntN.{ℤ, pos, negsuc, _+ℤ_}
 use lib.Signed.{leZ}
 use lib.ListN.{length, set}
+use Rattle.tables.specs.Ranges.{greatestOrder}
 use Rattle.tables.specs.Matrix.{Matrix}
 use Rattle.lookahead.specs.Pairs.{sameSign, otherSign, more}
 use Rattle.tried.specs.Search.{front, orElse, seek, bySign, after, seekAfter, inFront, seekHalf, Searched}
@@ -43,11 +44,11 @@ module _ {m : ℕ} (S S′ O O′ : Matrix) (e : (i j : ℕ) → i < m → j < m
       (more-ext S S′ e d p p (omega arith) (λ i j h. refl)) (more-ext O O′ f d p p (omega arith) (λ i j h. refl))))
 
 -- no entry is left
-pub none-left : {n d : ℕ} → d ≡ n → (S O : Matrix) (p q : ℕ → ℤ) (s : ℤ) {r : Bool} {x : List ℤ} → length x ≡ 8 → leZ s (pos 0) ≡ r → Searched (seek S O d (n - d) p q s) r d (n - d) x
+pub none-left : {n d : ℕ} → d ≡ n → (S O : Matrix) (p q : ℕ → ℤ) (s : ℤ) {r : Bool} {x : List ℤ} → length x ≡ greatestOrder → leZ s (pos 0) ≡ r → Searched (seek S O d (n - d) p q s) r d (n - d) x
 unfolding seek
 none-left {n} {d} e S O p q s {x = x} l f = let z : n - d ≡ 0 = omega arith in rw z (reached-is x d s l f)
 
-pub half-none-left : {n d : ℕ} → d ≡ n → (S O : Matrix) (p : ℕ → ℤ) {x : List ℤ} → length x ≡ 8 → Searched (seekHalf S O d (n - d) p) false d (n - d) x
+pub half-none-left : {n d : ℕ} → d ≡ n → (S O : Matrix) (p : ℕ → ℤ) {x : List ℤ} → length x ≡ greatestOrder → Searched (seekHalf S O d (n - d) p) false d (n - d) x
 unfolding seekHalf
 half-none-left {n} {d} e S O p l = let z : n - d ≡ 0 = omega arith in rw z (nothing-found l refl)
 
@@ -79,7 +80,7 @@ module _ {n d : ℕ} (h : d < n) (t : List ℤ) where
   kept-found p q e (inr l) s w = after-found p q p q e (λ i a b. absurd (omega arith)) (λ i a b. absurd (omega arith)) s w
 
   -- an entry in front
-  pub with-found : n ≤ 8 → (e : ℤ) (p q : ℕ → ℤ) (s : ℤ) {r : Bool} {x : List ℤ} →
+  pub with-found : n ≤ greatestOrder → (e : ℤ) (p q : ℕ → ℤ) (s : ℤ) {r : Bool} {x : List ℤ} →
       Searched (seekAfter S O d (n - suc d) e p q (bySign e s (s +ℤ p d) (s +ℤ q d))) r (suc d) (n - suc d) x →
       Searched (inFront S O d (n - suc d) e p q s) r d (n - d) (set x d e)
   unfolding inFront
@@ -120,11 +121,11 @@ module _ {n d : ℕ} (h : d < n) (t : List ℤ) where
     half-parts = rw left refl
 
     -- 0 in front
-    half-zero : n ≤ 8 → {r : Bool} {x : List ℤ} → HalfAfter r x → Searched (front (pos 0) (seekHalf S O (suc d) (n - suc d) p)) r d (n - d) (set x d (pos 0))
+    half-zero : n ≤ greatestOrder → {r : Bool} {x : List ℤ} → HalfAfter r x → Searched (front (pos 0) (seekHalf S O (suc d) (n - suc d) p)) r d (n - d) (set x d (pos 0))
     half-zero b f = rw left (chosen (pos 0) (omega arith) (rw add-one at f))
 
-    pub half-hit : n ≤ 8 → {x : List ℤ} → HalfAfter true x → HalfHere true (set x d (pos 0))
+    pub half-hit : n ≤ greatestOrder → {x : List ℤ} → HalfAfter true x → HalfHere true (set x d (pos 0))
     half-hit b f = rw half-parts (found-first _ (half-zero b f))
 
-    pub half-one : n ≤ 8 → {x₀ : List ℤ} → HalfAfter false x₀ → {x : List ℤ} {r : Bool} → With p p (pos 0) (pos 1) r x → HalfHere r x
+    pub half-one : n ≤ greatestOrder → {x₀ : List ℤ} → HalfAfter false x₀ → {x : List ℤ} {r : Bool} → With p p (pos 0) (pos 1) r x → HalfHere r x
     half-one b f g = rw half-parts (found-next _ (half-zero b f) g)

@@ -15,11 +15,11 @@ use mir.Val.{SFits}
 use Rattle.integers.specs.Numbers.{Within}
 use Rattle.integers.proofs.Machine.{within-more, within-+, within-*, fits-within}
 use Rattle.tables.specs.Matrix.{at, nth}
-use Rattle.tables.specs.Ranges.{greatestOrder, entryRange}
+use Rattle.tables.specs.Ranges.{greatestOrder, tableRoom, entryRange}
 use Rattle.tables.proofs.Buffers.{entry-more}
-use Rattle.tables.proofs.Matrix.{inside, at-most-64, row-inside, column-inside, nth-at}
-use Rattle.lookahead.specs.Pairs.{sameSign, otherSign, Doubled, Open, Searching}
-use Rattle.lookahead.proofs.Sizes.{row-small, at-most-8}
+use Rattle.tables.proofs.Matrix.{inside, table-fits, row-inside, column-inside, nth-at}
+use Rattle.lookahead.specs.Pairs.{sameSign, otherSign, Doubled, Open, Searching, pairsRoom}
+use Rattle.lookahead.proofs.Sizes.{row-small, inside-order}
 use Rattle.tried.specs.Search.{bySign, after, Table, Doubling, Added, Chosen, Diagonal}
 use Rattle.tried.proofs.Signs.{by-sign, sign-above, sign-below}
 
@@ -35,10 +35,10 @@ zero-within : {m : ℕ} → Within m (pos 0)
 zero-within = record { size = omega arith }
 
 -- ---- the tables that the search reads
-pub doubled-zeros : {n : ℕ} → n ≤ greatestOrder → Doubled n (replicate 128 (pos 0))
-doubled-zeros o = record { order = o; size = length-replicate 128 (pos 0); small = λ k h. rw (getD-replicate 128 k (pos 0) (pos 0) h) zero-within }
+pub doubled-zeros : {n : ℕ} → n ≤ greatestOrder → Doubled n (replicate pairsRoom (pos 0))
+doubled-zeros o = record { order = o; size = length-replicate pairsRoom (pos 0); small = λ k h. rw (getD-replicate pairsRoom k (pos 0) (pos 0) h) zero-within }
 
-doubled-more : {n : ℕ} {t : List ℤ} {k : ℕ} {v : ℤ} → k < 128 → Within (2 ^ 21) v → Doubled n t → Doubled n (set t k v)
+doubled-more : {n : ℕ} {t : List ℤ} {k : ℕ} {v : ℤ} → k < pairsRoom → Within (2 ^ 21) v → Doubled n t → Doubled n (set t k v)
 doubled-more {n} {t} {k} h w d =
     let i : k < length t = omega (arith, d .size) in
     record { order = d .order; size = length-set t k _ ∙ d .size; small = λ j l. small-more t k _ j i w (d .small j l) }
@@ -58,17 +58,17 @@ module _ {n : ℕ} {l u : List ℤ} where
   doubling-start d = record { doubled = d; same = λ k h. absurd (omega arith); other = λ k h. absurd (omega arith) }
 
   module _ (f : Table n l) (g : Table n u) {k : ℕ} (h : k < n * n) {t : List ℤ} (a : Doubling n l u t k) where
-    pub doubling-more : Doubling n l u (set (set t k (pos 2 *ℤ nth l k)) (64 + k) (negsuc 1 *ℤ nth u k)) (suc k)
+    pub doubling-more : Doubling n l u (set (set t k (pos 2 *ℤ nth l k)) (tableRoom + k) (negsuc 1 *ℤ nth u k)) (suc k)
     doubling-more =
-        let b : k < 64 = omega (arith, at-most-64 (f .order)) in
+        let b : k < tableRoom = omega (arith, table-fits (f .order)) in
         let d = a .doubled in
         let i : k < length t = omega (arith, d .size) in
-        let j : k < length (drop 64 t) = omega (arith, d .size, length-drop 64 t) in
-        let e = drop-set-add 64 (set t k (pos 2 *ℤ nth l k)) k (negsuc 1 *ℤ nth u k) ∙ ap (λ (z : List ℤ). set z k (negsuc 1 *ℤ nth u k)) (drop-set-lt 64 t k (pos 2 *ℤ nth l k) b) in
+        let j : k < length (drop tableRoom t) = omega (arith, d .size, length-drop tableRoom t) in
+        let e = drop-set-add tableRoom (set t k (pos 2 *ℤ nth l k)) k (negsuc 1 *ℤ nth u k) ∙ ap (λ (z : List ℤ). set z k (negsuc 1 *ℤ nth u k)) (drop-set-lt tableRoom t k (pos 2 *ℤ nth l k) b) in
         record {
-          doubled = doubled-more {k = 64 + k} (omega arith) (twice-within g {c = negsuc 1} (record { size = omega arith }) h) (doubled-more {k = k} (omega arith) (twice-within f {c = pos 2} (record { size = omega arith }) h) d);
-          same = λ m q. getD-set-other (set t k (pos 2 *ℤ nth l k)) (64 + k) m (negsuc 1 *ℤ nth u k) (pos 0) (omega arith) ∙ entry-more t k _ (λ z. pos 2 *ℤ nth l z) i refl m q (a .same m);
-          other = λ m q. rw e (entry-more (drop 64 t) k _ (λ z. negsuc 1 *ℤ nth u z) j refl m q (a .other m));
+          doubled = doubled-more {k = tableRoom + k} (omega arith) (twice-within g {c = negsuc 1} (record { size = omega arith }) h) (doubled-more {k = k} (omega arith) (twice-within f {c = pos 2} (record { size = omega arith }) h) d);
+          same = λ m q. getD-set-other (set t k (pos 2 *ℤ nth l k)) (tableRoom + k) m (negsuc 1 *ℤ nth u k) (pos 0) (omega arith) ∙ entry-more t k _ (λ z. pos 2 *ℤ nth l z) i refl m q (a .same m);
+          other = λ m q. rw e (entry-more (drop tableRoom t) k _ (λ z. negsuc 1 *ℤ nth u z) j refl m q (a .other m));
         }
 
 -- what the code reads, of the tables L and U
@@ -83,29 +83,29 @@ module _ {n : ℕ} {l u t : List ℤ} (a : Doubling n l u t (n * n)) (i j : ℕ)
 
 -- ---- a row of a table is added
 module _ {n : ℕ} {t : List ℤ} {f d : ℕ} {p : List ℤ} where
-  pub added-start : {p′ : List ℤ} → length p′ ≡ 8 → Added n t f d p p′ 0
+  pub added-start : {p′ : List ℤ} → length p′ ≡ greatestOrder → Added n t f d p p′ 0
   added-start h = record { size = h; entries = λ k l. absurd (omega arith) }
 
-  pub added-more : {p′ : List ℤ} {m : ℕ} → m < 8 → Added n t f d p p′ m → Added n t f d p (set p′ m (nth p m +ℤ at n (drop f t) d m)) (suc m)
+  pub added-more : {p′ : List ℤ} {m : ℕ} → m < greatestOrder → Added n t f d p p′ m → Added n t f d p (set p′ m (nth p m +ℤ at n (drop f t) d m)) (suc m)
   added-more {p′} {m} h a = record {
     size = length-set p′ m _ ∙ a .size;
     entries = λ k l. entry-more p′ m _ (λ i. nth p i +ℤ at n (drop f t) d i) (omega (arith, a .size)) refl k l (a .entries k);
   }
 
   -- sizes
-  module _ (g : Doubled n t) (b : f ≤ 64) (h : d < n) (o : Open d p) where
-    sum-within : {k : ℕ} → k < 8 → Within (2 ^ 20 + suc d * 2 ^ 21) (nth p k +ℤ at n (drop f t) d k)
+  module _ (g : Doubled n t) (b : f ≤ tableRoom) (h : d < n) (o : Open d p) where
+    sum-within : {k : ℕ} → k < greatestOrder → Within (2 ^ 20 + suc d * 2 ^ 21) (nth p k +ℤ at n (drop f t) d k)
     sum-within l = within-more (omega arith) (within-+ (o .small _ l) (row-small g b h l))
 
-    pub sum-fits : {k : ℕ} → k < 8 → SFits w64 (nth p k +ℤ at n (drop f t) d k)
+    pub sum-fits : {k : ℕ} → k < greatestOrder → SFits w64 (nth p k +ℤ at n (drop f t) d k)
     sum-fits l = fits-within (sum-within l) (omega (arith, g .order))
 
-    pub added-open : {p′ : List ℤ} → Added n t f d p p′ 8 → Open (suc d) p′
+    pub added-open : {p′ : List ℤ} → Added n t f d p p′ greatestOrder → Open (suc d) p′
     added-open a = record { size = a .size; small = λ k l. rw (a .entries k l) (sum-within l) }
 
 -- entry d is chosen, and not 0
 module _ {n : ℕ} {t : List ℤ} {d : ℕ} (g : Doubled n t) (h : d < n) {p q p′ q′ : List ℤ} (o : Open d p) (o′ : Open d q) {e : ℤ} where
-  pub chosen-one : ltZ (pos 0) e ≡ true → Added n t 0 d p p′ 8 → Added n t 64 d q q′ 8 → Chosen n t d e p q p′ q′
+  pub chosen-one : ltZ (pos 0) e ≡ true → Added n t 0 d p p′ greatestOrder → Added n t tableRoom d q q′ greatestOrder → Chosen n t d e p q p′ q′
   unfolding after
   chosen-one s a b = let order = g .order in record {
     plus = added-open g (omega arith) h o a;
@@ -114,7 +114,7 @@ module _ {n : ℕ} {t : List ℤ} {d : ℕ} (g : Doubled n t) (h : d < n) {p q p
     minus-is = λ k l. b .entries k (omega arith) ∙ sym (ap (λ (f : ℕ → ℤ). f k) (sign-above e _ _ _ s));
   }
 
-  pub chosen-minus-one : ltZ (pos 0) e ≡ false → (e ≡ pos 0 → ⊥) → Added n t 64 d p p′ 8 → Added n t 0 d q q′ 8 → Chosen n t d e p q p′ q′
+  pub chosen-minus-one : ltZ (pos 0) e ≡ false → (e ≡ pos 0 → ⊥) → Added n t tableRoom d p p′ greatestOrder → Added n t 0 d q q′ greatestOrder → Chosen n t d e p q p′ q′
   unfolding after
   chosen-minus-one s z a b = let order = g .order in record {
     plus = added-open g (omega arith) h o a;
@@ -124,8 +124,8 @@ module _ {n : ℕ} {t : List ℤ} {d : ℕ} (g : Doubled n t) (h : d < n) {p q p
   }
 
 -- ---- what each entry adds by itself
-pub open-zeros : Open 0 (replicate 8 (pos 0))
-open-zeros = record { size = length-replicate 8 (pos 0); small = λ k h. rw (getD-replicate 8 k (pos 0) (pos 0) h) zero-within }
+pub open-zeros : Open 0 (replicate greatestOrder (pos 0))
+open-zeros = record { size = length-replicate greatestOrder (pos 0); small = λ k h. rw (getD-replicate greatestOrder k (pos 0) (pos 0) h) zero-within }
 
 module _ {n : ℕ} {t : List ℤ} where
   pub diagonal-start : {p : List ℤ} → Open 0 p → Diagonal n t p 0
@@ -148,7 +148,7 @@ next g h w o o′ = rw add-one (record { pairs = g; inside = h; sum = w; plus = 
 
 module _ {n : ℕ} {t : List ℤ} {d : ℕ} {s : ℤ} {p q : List ℤ} (g : Searching n t d s p q) (h : d < n) where
   entry-within : {r : List ℤ} → Open d r → Within (suc d * 2 ^ 25) (s +ℤ nth r d)
-  entry-within o = let b = at-most-8 g in let order = g .pairs .order in within-more (omega arith) (within-+ (g .sum) (o .small d (omega arith)))
+  entry-within o = let b = inside-order g in let order = g .pairs .order in within-more (omega arith) (within-+ (g .sum) (o .small d (omega arith)))
 
   -- the sum with an entry
   pub next-within : (e : ℤ) → Within (suc d * 2 ^ 25) (bySign e s (s +ℤ nth p d) (s +ℤ nth q d))

@@ -9,7 +9,7 @@ use lib.IntN.{ℤ, pos, negsuc, _+ℤ_, _*ℤ_}
 use lib.Signed.{ltZ, leZ}
 use lib.ListN.{length, drop}
 use Rattle.integers.specs.Numbers.{Within}
-use Rattle.tables.specs.Ranges.{greatestOrder, entryRange}
+use Rattle.tables.specs.Ranges.{greatestOrder, tableRoom, entryRange}
 use Rattle.tables.specs.Matrix.{Matrix, at, nth, tabulate}
 use Rattle.lookahead.specs.Pairs.{sameSign, otherSign, more, Doubled, Open}
 
@@ -64,7 +64,7 @@ found r d k x = elim r [ true ↦ some (tabulate k (λ i. nth x (d + i))) | fals
 -- the search's answer o is the code's, r, and x holds the k entries from d on that it found
 pub record Searched (o : Option (List ℤ)) (r : Bool) (d k : ℕ) (x : List ℤ) : Type 0 where
   pub answer : o ≡ found r d k x
-  pub size : length x ≡ 8
+  pub size : length x ≡ greatestOrder
 
 -- ---- what the code asks of its numbers, and how it makes them
 -- a table of order n, its entries in their range
@@ -77,11 +77,11 @@ pub record Table (n : ℕ) (t : List ℤ) : Type 0 where
 pub record Doubling (n : ℕ) (l u t : List ℤ) (m : ℕ) : Type 0 where
   pub doubled : Doubled n t
   pub same : (k : ℕ) → k < m → nth t k ≡ pos 2 *ℤ nth l k
-  pub other : (k : ℕ) → k < m → nth (drop 64 t) k ≡ negsuc 1 *ℤ nth u k
+  pub other : (k : ℕ) → k < m → nth (drop tableRoom t) k ≡ negsuc 1 *ℤ nth u k
 
 -- the first entries, to m, of what the open entries would add: with row d more of the table from f on
 pub record Added (n : ℕ) (t : List ℤ) (f d : ℕ) (p p′ : List ℤ) (m : ℕ) : Type 0 where
-  pub size : length p′ ≡ 8
+  pub size : length p′ ≡ greatestOrder
   pub entries : (k : ℕ) → k < m → nth p′ k ≡ nth p k +ℤ at n (drop f t) d k
 
 -- entry d is e, and not 0: what the entries would then add if they were 1, p′, and if they were -1, q′

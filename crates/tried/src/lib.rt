@@ -6,6 +6,7 @@ ghost use Prim.Native.Nat.{suc, _-_, _*_, _^_, _≤_, _<_};
 ghost use lib.IntN.{pos, _+ℤ_};
 ghost use lib.ListN.{length};
 ghost use Rattle.integers.specs.Numbers.{Within};
+ghost use Rattle.tables.specs.Ranges.{greatestOrder, tableRoom};
 ghost use Rattle.tables.specs.Bounds.{Bounds};
 ghost use Rattle.tables.specs.Matrix.{at, nth};
 ghost use Rattle.vectors.specs.Least.{shows};
@@ -13,16 +14,20 @@ ghost use Rattle.lookahead.specs.Pairs.{sameSign, otherSign, Doubled, Open, Sea
 ghost use Rattle.tried.specs.Tried.{tried, first};
 ghost use Rattle.tried.specs.Search.{seek, bySign, seekAfter, inFront, seekHalf, Searched, Table, Doubling, Added, Chosen, Diagonal};
 use lookahead::ahead::OTHER;
+use lookahead::ahead::PAIRS_ROOM;
+use lookahead::ahead::Pairs;
 use lookahead::ahead::passed_over;
 use lookahead::ahead::row_entry;
+use tables::GREATEST_ORDER;
+use tables::Vector;
 
-// Adds row d of the table from `start` on to what the entries would add. All 8 are added, which takes fewer steps than a count does: those from n on are never read.
-fn add_row(n: usize, pairs: &[i64; 128], start: usize, d: usize, from: &[i64; 8], to: &mut [i64; 8])
-    requires { ⌜ Doubled n (now pairs) × (start ≤ 64) × (d < n) × Open d (now from) × (length (now to) ≡ 8) ⌝ }
-    ensures { λ r. ⌜ Added n (now (pairs .entry)) start d (now (from .entry)) (now (to .exit)) 8 ⌝ }
+// Adds row d of the table from `start` on to what the entries would add. All of its room is added, which takes fewer steps than a count does: what stands from n on is never read.
+fn add_row(n: usize, pairs: &Pairs, start: usize, d: usize, from: &Vector, to: &mut Vector)
+    requires { ⌜ Doubled n (now pairs) × (start ≤ tableRoom) × (d < n) × Open d (now from) × (length (now to) ≡ greatestOrder) ⌝ }
+    ensures { λ r. ⌜ Added n (now (pairs .entry)) start d (now (from .entry)) (now (to .exit)) greatestOrder ⌝ }
 {
     let mut k = 0;
-    while k < 8 {
+    while k < GREATEST_ORDER {
         to[k] = from[k] + row_entry(n, pairs, start, d, k);
         k += 1;
     }
@@ -31,15 +36,15 @@ fn add_row(n: usize, pairs: &[i64; 128], start: usize, d: usize, from: &[i64; 8]
 // What the entries after entry d would add, once it is chosen and not 0.
 fn choose(
     n: usize,
-    pairs: &[i64; 128],
+    pairs: &Pairs,
     d: usize,
     entry: i64,
-    plus: &[i64; 8],
-    minus: &[i64; 8],
-    p: &mut [i64; 8],
-    q: &mut [i64; 8],
+    plus: &Vector,
+    minus: &Vector,
+    p: &mut Vector,
+    q: &mut Vector,
 )
-    requires { ⌜ Doubled n (now pairs) × (d < n) × (entry ≡ pos 0 → ⊥) × Open d (now plus) × Open d (now minus) × (length (now p) ≡ 8) × (length (now q) ≡ 8) ⌝ }
+    requires { ⌜ Doubled n (now pairs) × (d < n) × (entry ≡ pos 0 → ⊥) × Open d (now plus) × Open d (now minus) × (length (now p) ≡ greatestOrder) × (length (now q) ≡ greatestOrder) ⌝ }
     ensures { λ r. ⌜ Chosen n (now (pairs .entry)) d entry (now (plus .entry)) (now (minus .entry)) (now (p .exit)) (now (q .exit)) ⌝ }
 {
     if 0 < entry {
@@ -68,22 +73,22 @@ fn sum_with(entry: i64, sum: i64, plus: i64, minus: i64) -> i64
 // Chooses the entries after entry d. What they would add is as before where that entry is 0, and is not worked out where there are none.
 fn search_after(
     n: usize,
-    pairs: &[i64; 128],
+    pairs: &Pairs,
     d: usize,
     entry: i64,
     sum: i64,
-    plus: &[i64; 8],
-    minus: &[i64; 8],
-    x: &mut [i64; 8],
+    plus: &Vector,
+    minus: &Vector,
+    x: &mut Vector,
 ) -> bool
-    requires { ⌜ Doubled n (now pairs) × (d < n) × Within (suc d * 2 ^ 25) sum × Open d (now plus) × Open d (now minus) × (length (now x) ≡ 8) ⌝ }
+    requires { ⌜ Doubled n (now pairs) × (d < n) × Within (suc d * 2 ^ 25) sum × Open d (now plus) × Open d (now minus) × (length (now x) ≡ greatestOrder) ⌝ }
     ensures { λ r. ⌜ Searched (seekAfter (sameSign n (now (pairs .entry))) (otherSign n (now (pairs .entry))) d (n - suc d) entry (nth (now (plus .entry))) (nth (now (minus .entry))) sum) r (suc d) (n - suc d) (now (x .exit)) ⌝ }
 {
     if entry == 0 || d + 1 == n {
         return search(n, pairs, d + 1, sum, plus, minus, x);
     }
-    let mut p = [0i64; 8];
-    let mut q = [0i64; 8];
+    let mut p = [0i64; GREATEST_ORDER];
+    let mut q = [0i64; GREATEST_ORDER];
     choose(n, pairs, d, entry, plus, minus, &mut p, &mut q);
     search(n, pairs, d + 1, sum, &p, &q, x)
 }
@@ -91,15 +96,15 @@ fn search_after(
 // Chooses the entries from d on, with a given one in front.
 fn search_with(
     n: usize,
-    pairs: &[i64; 128],
+    pairs: &Pairs,
     d: usize,
     entry: i64,
     sum: i64,
-    plus: &[i64; 8],
-    minus: &[i64; 8],
-    x: &mut [i64; 8],
+    plus: &Vector,
+    minus: &Vector,
+    x: &mut Vector,
 ) -> bool
-    requires { ⌜ Searching n (now pairs) d sum (now plus) (now minus) × (d < n) × (length (now x) ≡ 8) ⌝ }
+    requires { ⌜ Searching n (now pairs) d sum (now plus) (now minus) × (d < n) × (length (now x) ≡ greatestOrder) ⌝ }
     ensures { λ r. ⌜ Searched (inFront (sameSign n (now (pairs .entry))) (otherSign n (now (pairs .entry))) d (n - suc d) entry (nth (now (plus .entry))) (nth (now (minus .entry))) sum) r d (n - d) (now (x .exit)) ⌝ }
 {
     let with = sum_with(entry, sum, plus[d], minus[d]);
@@ -112,14 +117,14 @@ fn search_with(
 // most four are left, and none of their choices brings the sum to 0 or less, they are passed over.
 fn search(
     n: usize,
-    pairs: &[i64; 128],
+    pairs: &Pairs,
     d: usize,
     sum: i64,
-    plus: &[i64; 8],
-    minus: &[i64; 8],
-    x: &mut [i64; 8],
+    plus: &Vector,
+    minus: &Vector,
+    x: &mut Vector,
 ) -> bool
-    requires { ⌜ Searching n (now pairs) d sum (now plus) (now minus) × (length (now x) ≡ 8) ⌝ }
+    requires { ⌜ Searching n (now pairs) d sum (now plus) (now minus) × (length (now x) ≡ greatestOrder) ⌝ }
     ensures { λ r. ⌜ Searched (seek (sameSign n (now (pairs .entry))) (otherSign n (now (pairs .entry))) d (n - d) (nth (now (plus .entry))) (nth (now (minus .entry))) sum) r d (n - d) (now (x .exit)) ⌝ }
 {
     if d == n {
@@ -138,8 +143,8 @@ fn search(
 }
 
 // The same where all entries before d are 0: not all are, and the first that is not is 1.
-fn search_half(n: usize, pairs: &[i64; 128], d: usize, plus: &[i64; 8], x: &mut [i64; 8]) -> bool
-    requires { ⌜ Searching n (now pairs) d (pos 0) (now plus) (now plus) × (length (now x) ≡ 8) ⌝ }
+fn search_half(n: usize, pairs: &Pairs, d: usize, plus: &Vector, x: &mut Vector) -> bool
+    requires { ⌜ Searching n (now pairs) d (pos 0) (now plus) (now plus) × (length (now x) ≡ greatestOrder) ⌝ }
     ensures { λ r. ⌜ Searched (seekHalf (sameSign n (now (pairs .entry))) (otherSign n (now (pairs .entry))) d (n - d) (nth (now (plus .entry)))) r d (n - d) (now (x .exit)) ⌝ }
 {
     if d == n {
@@ -153,7 +158,7 @@ fn search_half(n: usize, pairs: &[i64; 128], d: usize, plus: &[i64; 8], x: &mut 
 }
 
 // What two entries add, from the tables of order n.
-fn double(n: usize, low: &[i64], high: &[i64], pairs: &mut [i64; 128])
+fn double(n: usize, low: &[i64], high: &[i64], pairs: &mut Pairs)
     requires { ⌜ Table n (now low) × Table n (now high) × Doubled n (now pairs) ⌝ }
     ensures { λ r. ⌜ Doubling n (now (low .entry)) (now (high .entry)) (now (pairs .exit)) (n * n) ⌝ }
 {
@@ -167,7 +172,7 @@ fn double(n: usize, low: &[i64], high: &[i64], pairs: &mut [i64; 128])
 }
 
 // What each entry adds by itself.
-fn diagonal(n: usize, low: &[i64], p: &mut [i64; 8])
+fn diagonal(n: usize, low: &[i64], p: &mut Vector)
     requires { ⌜ Table n (now low) × Open 0 (now p) ⌝ }
     ensures { λ r. ⌜ Diagonal n (now (low .entry)) (now (p .exit)) n ⌝ }
 {
@@ -179,12 +184,12 @@ fn diagonal(n: usize, low: &[i64], p: &mut [i64; 8])
 }
 
 // The first tried vector of order n that shows 'not definite', into the first n entries of x.
-pub fn first_tried(n: usize, low: &[i64], high: &[i64], x: &mut [i64; 8]) -> bool
-    requires { ⌜ Table n (now low) × Table n (now high) × Bounds n (at n (now low)) (at n (now high)) × (0 < n) × (length (now x) ≡ 8) ⌝ }
+pub fn first_tried(n: usize, low: &[i64], high: &[i64], x: &mut Vector) -> bool
+    requires { ⌜ Table n (now low) × Table n (now high) × Bounds n (at n (now low)) (at n (now high)) × (0 < n) × (length (now x) ≡ greatestOrder) ⌝ }
     ensures { λ r. ⌜ Searched (first (λ v. shows n (at n (now (low .entry))) (at n (now (high .entry))) (nth v)) (tried n)) r 0 n (now (x .exit)) ⌝ }
 {
-    let mut pairs = [0i64; 128];
-    let mut p = [0i64; 8];
+    let mut pairs = [0i64; PAIRS_ROOM];
+    let mut p = [0i64; GREATEST_ORDER];
     double(n, low, high, &mut pairs);
     diagonal(n, low, &mut p);
     search_half(n, &pairs, 0, &p, x)

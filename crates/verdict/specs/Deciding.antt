@@ -5,6 +5,7 @@ use mathlib.Core.List.{List}
 use Prim.Native.Nat.{ℕ}
 use lib.IntN.{ℤ}
 use lib.ListN.{length}
+use Rattle.tables.specs.Ranges.{greatestOrder}
 use Rattle.tables.specs.Matrix.{nth, table, tabulate}
 use Rattle.cholesky.specs.Store.{triangle}
 use Rattle.verdict.specs.Judge.{Judgement, definite, notDefinite, undecided, refused}
@@ -25,4 +26,4 @@ shownVerdict b = elim b [ true ↦ Verdict.NotDefinite | false ↦ Verdict.Undec
 -- the judgement is the one that the code states
 pub record Decided (g : Judgement) (n : ℕ) (r : Verdict) (t x : List ℤ) : Type 0 where
   pub verdict : g ≡ stated n r t x
-  pub size : length x ≡ 8
+  pub size : length x ≡ greatestOrder

@@ -4,7 +4,7 @@ ghost use mathlib.Core.List.{List};
 ghost use Prim.Native.Nat.{_*_, _≤_, _<_};
 ghost use lib.IntN.{ℤ, natAbs};
 ghost use lib.ListN.{length};
-ghost use Rattle.tables.specs.Ranges.{greatestOrder};
+ghost use Rattle.tables.specs.Ranges.{greatestOrder, tableRoom};
 ghost use Rattle.verdict.specs.Judge.{Judged, judgement, judgeSizes, written, judge, verdictCode, Meaning};
 ghost use Rattle.verdict.specs.Deciding.{shownVerdict, Decided};
 use crate::factor_table::write_factor;
@@ -12,7 +12,11 @@ use crate::listed::first_listed;
 use cholesky::factoring::Outcome;
 use cholesky::problem::factor_tables;
 use tables::Checked;
+use tables::GREATEST_ORDER;
 use tables::Refusal;
+use tables::TABLE_ROOM;
+use tables::Table;
+use tables::Vector;
 
 // What the judge answers.
 pub enum Verdict {
@@ -46,8 +50,8 @@ fn shown(found: bool) -> Verdict
 
 // Checks 3, 4 and 5, and the verdict on tables of order n: the first n² numbers of each.
 // Where it is 'definite' the factor's columns stand in t, and where it is 'not definite' the vector in the first n entries of x.
-pub fn decide(n: usize, low: &[i64], high: &[i64], t: &mut [i64; 64], x: &mut [i64; 8]) -> Verdict
-    requires { ⌜ (n ≤ greatestOrder) × (0 < n) × (n * n ≤ length (now low)) × (n * n ≤ length (now high)) × (length (now t) ≡ 64) × (length (now x) ≡ 8) ⌝ }
+pub fn decide(n: usize, low: &[i64], high: &[i64], t: &mut Table, x: &mut Vector) -> Verdict
+    requires { ⌜ (n ≤ greatestOrder) × (0 < n) × (n * n ≤ length (now low)) × (n * n ≤ length (now high)) × (length (now t) ≡ tableRoom) × (length (now x) ≡ greatestOrder) ⌝ }
     ensures { λ r. ⌜ Decided (judgement n (now (low .entry)) (now (high .entry))) n r (now (t .exit)) (now (x .exit)) ⌝ }
 {
     let checked = tables::check_tables(n, low, high);
@@ -72,8 +76,8 @@ fn judge_tables(
     requires { ⌜ (n ≤ greatestOrder) × (0 < n) × (n * n ≤ length (now low)) × (n * n ≤ length (now high)) × (length (now factor) ≡ n * n) × (length (now vector) ≡ n) ⌝ }
     ensures { λ r. ⌜ _≡_ {A = Judged (List ℤ)} (record { verdict = r; factor = now (factor .exit); vector = now (vector .exit) }) (written (judgement n (now (low .entry)) (now (high .entry))) (now (factor .entry)) (now (vector .entry))) ⌝ }
 {
-    let mut t = [0i64; 64];
-    let mut x = [0i64; 8];
+    let mut t = [0i64; TABLE_ROOM];
+    let mut x = [0i64; GREATEST_ORDER];
     let verdict = decide(n, low, high, &mut t, &mut x);
     match verdict {
         Verdict::Definite => {

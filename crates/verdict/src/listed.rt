@@ -5,6 +5,7 @@ ghost use Prim.Native.Nat.{_<_};
 ghost use lib.IntN.{pos};
 ghost use lib.ListN.{length};
 ghost use Rattle.integers.specs.Numbers.{Within};
+ghost use Rattle.tables.specs.Ranges.{greatestOrder};
 ghost use Rattle.tables.specs.Matrix.{at, nth};
 ghost use Rattle.tables.specs.Bounds.{CheckedTables};
 ghost use Rattle.vectors.specs.Least.{shows};
@@ -13,9 +14,11 @@ ghost use Rattle.tried.specs.Tried.{tried, first};
 ghost use Rattle.tried.specs.Search.{Searched};
 ghost use Rattle.solved.specs.Solved.{solved};
 ghost use Rattle.solved.specs.Stopped.{stoppedAt, Stopped, startRange};
+use tables::Table;
+use tables::Vector;
 
 // Whether x shows 'not definite'.
-fn shows(n: usize, low: &[i64], high: &[i64], x: &[i64; 8]) -> bool
+fn shows(n: usize, low: &[i64], high: &[i64], x: &Vector) -> bool
     requires { ⌜ Asked n (now low) (now high) (now x) ⌝ }
     ensures { λ r. ⌜ r ≡ shows n (at n (now (low .entry))) (at n (now (high .entry))) (nth (now (x .entry))) ⌝ }
 {
@@ -30,13 +33,13 @@ fn solved_shows(
     n: usize,
     low: &[i64],
     high: &[i64],
-    t: &[i64; 64],
+    t: &Table,
     j: usize,
     m: usize,
     s: i64,
-    x: &mut [i64; 8],
+    x: &mut Vector,
 ) -> bool
-    requires { ⌜ CheckedTables n (now low) (now high) × Stopped n (now t) j m × Within startRange s × (length (now x) ≡ 8) ⌝ }
+    requires { ⌜ CheckedTables n (now low) (now high) × Stopped n (now t) j m × Within startRange s × (length (now x) ≡ greatestOrder) ⌝ }
     ensures { λ r. ⌜ Searched (first (λ v. shows n (at n (now (low .entry))) (at n (now (high .entry))) (nth v)) (solved n (stoppedAt (now (t .entry)) j m) s)) r 0 n (now (x .exit)) ⌝ }
 {
     if !solved::solve(n, t, j, m, s, x) {
@@ -50,12 +53,12 @@ pub fn first_listed(
     n: usize,
     low: &[i64],
     high: &[i64],
-    t: &[i64; 64],
+    t: &Table,
     j: usize,
     m: usize,
-    x: &mut [i64; 8],
+    x: &mut Vector,
 ) -> bool
-    requires { ⌜ CheckedTables n (now low) (now high) × Stopped n (now t) j m × (0 < n) × (length (now x) ≡ 8) ⌝ }
+    requires { ⌜ CheckedTables n (now low) (now high) × Stopped n (now t) j m × (0 < n) × (length (now x) ≡ greatestOrder) ⌝ }
     ensures { λ r. ⌜ Searched (first (λ v. shows n (at n (now (low .entry))) (at n (now (high .entry))) (nth v)) (tried n ++ (solved n (stoppedAt (now (t .entry)) j m) (pos 1) ++ solved n (stoppedAt (now (t .entry)) j m) (pos 64)))) r 0 n (now (x .exit)) ⌝ }
 {
     if tried::first_tried(n, low, high, x) {

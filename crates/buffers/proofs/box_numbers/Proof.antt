@@ -3,7 +3,7 @@ use mathlib.Core.Path.{refl, sym}
 use native.Mathlib.Omega.{arith}
 use borrow.Author.Needs.{needs}
 use Rattle.integers.proofs.Machine.{clean}
-use Rattle.tables.proofs.Matrix.{at-most-64}
+use Rattle.tables.proofs.Matrix.{table-fits}
 use Rattle.enclosure.proofs.BoxCases.{stated-by}
 use Rattle.buffers.proofs.Padded.{room, box-loaded}
 use Rattle.buffers.proofs.box_numbers.Statement.{statement}
@@ -27,9 +27,9 @@ box-numbers-spec =
     tie.close
     (tie.spec (λ c. search needs)
     (λ c. search needs)
-    (λ c κs. let p = c .before .before .before .before .before .pre in (refl, p .1, at-most-64 (p .0)))
+    (λ c κs. let p = c .before .before .before .before .before .pre in (refl, p .1, table-fits (p .0)))
     (λ c. search needs)
-    (λ c κs. let p = c .before .before .before .before .before .before .before .before .pre in (refl, p .2, at-most-64 (p .0)))
+    (λ c κs. let p = c .before .before .before .before .before .before .before .before .pre in (refl, p .2, table-fits (p .0)))
     (λ c. search needs)
     (λ c κs. let p = c .before .before .before .before .before .before .before .before .before .before .before .pre in (refl, p .3, p .0))
     (λ c. search needs)
@@ -41,7 +41,7 @@ box-numbers-spec =
     (λ c κs.
     let t = c .before .before .before .before .before .before in
     let p = start t .pre in
-    let m = at-most-64 (p .0) in
+    let m = table-fits (p .0) in
     (p .0, room _ (one t .load-numbers .ensures) m, room _ (two t .load-numbers2 .ensures) m, room _ (three t .load-numbers3 .ensures) (p .0), room _ (t .load-numbers4 .ensures) (p .0), p .5))
     (λ c.
     let t = c .before .before .before .before .before .before .before in

@@ -2,7 +2,7 @@
 use mathlib.Core.Path.{_≡_, refl, sym, _∙_}
 use native.Mathlib.Omega.{arith}
 use borrow.Author.Needs.{needs}
-use Rattle.tables.proofs.Matrix.{at-most-64}
+use Rattle.tables.proofs.Matrix.{table-fits}
 use Rattle.verdict.specs.Deciding.{stated}
 use Rattle.verdict.specs.Judge.{judgement}
 use Rattle.verdict.proofs.Decisions.{given-definite, given-not, given-undecided, given-refused}
@@ -36,15 +36,15 @@ judge-buffers-spec =
     tie.close
     (tie.spec (λ c. search needs)
     (λ c. search needs)
-    (λ c κs. let p = c .before .before .before .before .before .pre in (refl, p .2, at-most-64 (p .0)))
+    (λ c κs. let p = c .before .before .before .before .before .pre in (refl, p .2, table-fits (p .0)))
     (λ c. search needs)
-    (λ c κs. let p = c .before .before .before .before .before .before .before .before .pre in (refl, p .3, at-most-64 (p .0)))
+    (λ c κs. let p = c .before .before .before .before .before .before .before .before .pre in (refl, p .3, table-fits (p .0)))
     (λ c. search needs)
     (λ c. search needs)
     (λ c κs.
     let t = asked c in
     let p = start t .pre in
-    let m = at-most-64 (p .0) in
+    let m = table-fits (p .0) in
     (p .0, p .1, room _ (one t .load-numbers .ensures) m, room _ (t .load-numbers2 .ensures) m, refl, refl))
     (λ c. search needs)
     (λ c κs. search needs)

@@ -7,8 +7,9 @@ use mir.Syntax.{w64}
 use mir.Val.{bytes}
 use Rattle.integers.proofs.Machine.{clean-result}
 use Rattle.words.proofs.Filling.{fill-front}
+use Rattle.tables.specs.Ranges.{tableRoom}
 use Rattle.tables.specs.Matrix.{at, table}
-use Rattle.tables.proofs.Matrix.{inside, at-most-64, at-table}
+use Rattle.tables.proofs.Matrix.{inside, table-fits, at-table}
 use Rattle.cholesky.specs.Store.{triangle}
 use Rattle.buffers.specs.Buffers.{Front}
 use Rattle.buffers.proofs.store_row.Statement.{statement}
@@ -22,8 +23,8 @@ abbrev μ-loop : tie.MeasureT-loop
 
 -- the entry lies in the table
 place : (c : tie.In-loop Inv-loop μ-loop) → let s = c .before .before .before in
-    (s .args .i * s .args .n + c .before .loop .j < s .args .n * s .args .n) × (s .args .n * s .args .n ≤ 64)
-place c = let p = c .before .before .before .pre in (inside (p .1) (c .loop-test .taken), at-most-64 (p .0))
+    (s .args .i * s .args .n + c .before .loop .j < s .args .n * s .args .n) × (s .args .n * s .args .n ≤ tableRoom)
+place c = let p = c .before .before .before .pre in (inside (p .1) (c .loop-test .taken), table-fits (p .0))
 
 loop-again : tie.Need-loop-again Inv-loop μ-loop
 unfolding at
@@ -46,7 +47,7 @@ pub store-row-spec : {M : Type 1} → statement M
 store-row-spec =
     tie.close
     (tie.spec Inv-loop μ-loop
-    (λ c. let p = c .before .pre in omega (arith, inside (p .1) (p .1), at-most-64 (p .0)))
+    (λ c. let p = c .before .pre in omega (arith, inside (p .1) (p .1), table-fits (p .0)))
     (λ c. let s = c .before in let e : s .args .i * s .args .n + 0 ≡ s .args .i * s .args .n = omega arith in (omega arith, refl, rw e (s .pre .3)))
     (λ c κs. let p = c .before .before .before .pre in (omega (arith, p .0, p .1), omega (arith, p .0, c .loop-test .taken)))
     (λ c. omega (arith, place (c .before .before)))

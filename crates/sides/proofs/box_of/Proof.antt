@@ -7,6 +7,7 @@ use Rattle.integers.specs.Division.{ceilDiv}
 use Rattle.integers.specs.Root.{leastRoot}
 use Rattle.integers.proofs.Parts.{leZ-true, leZ-false}
 use Rattle.integers.proofs.Machine.{clean, clean-result, lt-yes, lt-no, fits-literal}
+use Rattle.tables.specs.Ranges.{greatestOrder}
 use Rattle.tables.specs.Matrix.{nth}
 use Rattle.sides.specs.Sides.{bound, secondBound}
 use Rattle.tables.specs.Buffers.{Filled}
@@ -31,7 +32,7 @@ bound-no c =
 -- the Y(k)
 filled : (c : tie.After-first-halves) →
     let a = c .before .before .before .before .args in
-    Filled 8 (a .n) (λ k. ceilDiv (nth (a .g .now) k) (a .t) +ℤ leastRoot (a .t) (bound (a .n) (a .d) (a .t) (nth (a .g .now)))) (c .first-halves .last .1 .1 .1 .1 .0)
+    Filled greatestOrder (a .n) (λ k. ceilDiv (nth (a .g .now) k) (a .t) +ℤ leastRoot (a .t) (bound (a .n) (a .d) (a .t) (nth (a .g .now)))) (c .first-halves .last .1 .1 .1 .1 .0)
 filled c =
     let b = c .before .before .before in
     rw (clean-result (b .bound), bound-is b, clean (b .before .fits .t)) at (c .first-halves .ensures)

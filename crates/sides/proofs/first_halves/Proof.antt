@@ -9,6 +9,7 @@ use mir.Val.{toZ, ofZ}
 use Rattle.integers.specs.Division.{ceilDiv}
 use Rattle.integers.specs.Root.{leastRoot}
 use Rattle.integers.proofs.Machine.{clean, clean-element, clean-result}
+use Rattle.tables.specs.Ranges.{greatestOrder}
 use Rattle.tables.specs.Matrix.{nth}
 use Rattle.tables.specs.Buffers.{Filled}
 use Rattle.tables.proofs.Buffers.{filled-none, filled-more}
@@ -17,7 +18,7 @@ use Rattle.sides.proofs.first_halves.Statement.{statement}
 use Rattle.sides.proofs.first_halves.Tie as tie
 
 abbrev Inv-loop : tie.InvT-loop
-Inv-loop n t g b y₀ s k₀ y k = (k ≤ n) × Filled 8 k (λ i. ceilDiv (nth g i) (toZ w64 t) +ℤ leastRoot (toZ w64 t) (toZ w64 b)) y
+Inv-loop n t g b y₀ s k₀ y k = (k ≤ n) × Filled greatestOrder k (λ i. ceilDiv (nth g i) (toZ w64 t) +ℤ leastRoot (toZ w64 t) (toZ w64 b)) y
 
 abbrev μ-loop : tie.MeasureT-loop
 μ-loop n t g b y₀ s k₀ y k = n - k

@@ -7,7 +7,7 @@ use mir.Syntax.{w64}
 use mir.Val.{toZ, ofZ}
 use Rattle.integers.proofs.Parts.{pos-nonneg}
 use Rattle.integers.proofs.Machine.{clean, clean-result}
-use Rattle.tables.specs.Ranges.{vectorRange}
+use Rattle.tables.specs.Ranges.{greatestOrder, vectorRange}
 use Rattle.tables.specs.Checks.{within}
 use Rattle.tables.proofs.Checks.{call-false, call-true}
 use Rattle.solved.specs.Stopped.{entryOf}
@@ -25,7 +25,7 @@ abbrev μ-loop : tie.MeasureT-loop
 inside : (c : tie.In-loop Inv-loop μ-loop) → c .before .loop .left - 1 < c .before .before .before .before .args .m
 inside c = let h = c .before .loop .inv .0 in omega arith
 
-in-array : (c : tie.In-loop Inv-loop μ-loop) → c .before .loop .left - 1 < 8
+in-array : (c : tie.In-loop Inv-loop μ-loop) → c .before .loop .left - 1 < greatestOrder
 in-array c = let a = c .before .before .before .before .pre .0 in omega (arith, inside c, a .rows, a .inside, a .order)
 
 walked : (c : tie.In-loop Inv-loop μ-loop) →

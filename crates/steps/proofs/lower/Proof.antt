@@ -6,6 +6,7 @@ use native.Mathlib.Numerals.{add-one}
 use mir.Syntax.{w64}
 use mir.Val.{toZ}
 use Rattle.integers.proofs.Machine.{clean, clean-element, fits-within, within--}
+use Rattle.tables.specs.Ranges.{greatestOrder}
 use Rattle.cholesky.specs.Store.{upper}
 use Rattle.steps.specs.Tables.{Lowered}
 use Rattle.steps.proofs.Diagonals.{lower-start, lower-reads, lower-more}
@@ -19,7 +20,7 @@ abbrev μ-loop : tie.MeasureT-loop
 μ-loop first last e s₀ i₀ s i = last - i
 
 -- where the diagonal entry i stands
-inside : (c : tie.In-loop Inv-loop μ-loop) → c .before .loop .i < 8
+inside : (c : tie.In-loop Inv-loop μ-loop) → c .before .loop .i < greatestOrder
 inside c = let p = c .before .before .pre .0 in omega (arith, p .order, c .loop-test .taken)
 
 sub-s : tie.Need-sub-s Inv-loop μ-loop

@@ -8,6 +8,7 @@ use mir.Syntax.{w64}
 use mir.Val.{toZ}
 use Rattle.integers.proofs.Parts.{leZ-true, leZ-false}
 use Rattle.integers.proofs.Machine.{clean, clean-element, fits-within, within--, lt-holds, lt-fails}
+use Rattle.tables.specs.Ranges.{greatestOrder}
 use Rattle.tables.specs.Checks.{all}
 use Rattle.tables.proofs.Checks.{all-more, all-false}
 use Rattle.cholesky.specs.Store.{upper}
@@ -23,7 +24,7 @@ abbrev μ-loop : tie.MeasureT-loop
 μ-loop first last e s i₀ i = last - i
 
 -- where the diagonal entry i stands
-inside : (c : tie.In-loop Inv-loop μ-loop) → c .before .loop .i < 8
+inside : (c : tie.In-loop Inv-loop μ-loop) → c .before .loop .i < greatestOrder
 inside c = let p = c .before .before .pre .0 in omega (arith, p .order, c .loop-test .taken)
 
 sub-if1 : tie.Need-sub-if1 Inv-loop μ-loop

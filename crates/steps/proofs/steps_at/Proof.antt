@@ -6,6 +6,7 @@ use native.Mathlib.Omega.{arith}
 use native.Mathlib.Numerals.{add-one}
 use lib.Dec.{T}
 use Rattle.integers.proofs.Machine.{clean-result}
+use Rattle.tables.specs.Ranges.{greatestOrder}
 use Rattle.tables.specs.Matrix.{at}
 use Rattle.tables.specs.Buffers.{Filled}
 use Rattle.tables.proofs.Buffers.{filled-none, filled-more}
@@ -19,7 +20,7 @@ use Rattle.steps.proofs.steps_at.Tie as tie
 
 abbrev Inv-loop : tie.InvT-loop
 Inv-loop n low high t₀ h₀ goes-on₀ next₀ t h goes-on next =
-    (next ≤ n) × Filled 8 next (stepAt n (at n low) (at n high)) t
+    (next ≤ n) × Filled greatestOrder next (stepAt n (at n low) (at n high)) t
     × (goes-on ≡ true → Walked (scaled takeOff n (at n low) (at n high)) h next n)
     × (goes-on ≡ false → Stopped n (scaled takeOff n (at n low) (at n high)) next)
 
@@ -27,7 +28,7 @@ abbrev μ-loop : tie.MeasureT-loop
 μ-loop n low high t₀ h₀ goes-on₀ next₀ t h goes-on next = n - next
 
 -- an index of t
-index : (c : tie.In-loop Inv-loop μ-loop) → c .before .loop .next < 8
+index : (c : tie.In-loop Inv-loop μ-loop) → c .before .loop .next < greatestOrder
 index c = let p = c .before .before .before .before .pre .0 in omega (arith, p .order, c .loop-test .taken)
 
 -- before the step of k, where factoring went on so far

@@ -3,9 +3,10 @@ use mathlib.Core.Path.{_≡_, sym}
 use mathlib.Core.Bool.{true}
 use Prim.Native.Nat.{_+_, _*_, _-_, _≤_, _<_}
 use native.Mathlib.Omega.{arith}
+use Rattle.tables.specs.Ranges.{tableRoom}
 use Rattle.tables.specs.Matrix.{at}
 use Rattle.tables.specs.Checks.{all, same}
-use Rattle.tables.proofs.Matrix.{inside, at-most-64}
+use Rattle.tables.proofs.Matrix.{inside, table-fits}
 use Rattle.tables.proofs.Checks.{all-none, all-more, all-false, read-same, read-differs}
 use Rattle.tables.proofs.row_symmetric.Statement.{statement}
 use Rattle.tables.proofs.row_symmetric.Tie as tie
@@ -23,8 +24,8 @@ lower c = inside (c .before .before .pre .1) (omega arith)
 upper : (c : tie.In-loop Inv-loop μ-loop) → let s = c .before .before .args in c .before .loop .j * s .n + s .i < s .n * s .n
 upper c = inside (omega arith) (c .before .before .pre .1)
 
-small : (c : tie.In-loop Inv-loop μ-loop) → let s = c .before .before .args in s .n * s .n ≤ 64
-small c = at-most-64 (c .before .before .pre .0)
+small : (c : tie.In-loop Inv-loop μ-loop) → let s = c .before .before .args in s .n * s .n ≤ tableRoom
+small c = table-fits (c .before .before .pre .0)
 
 pub row-symmetric-spec : {M : Type 1} → statement M
 unfolding at

@@ -4,16 +4,17 @@ use Prim.Native.Nat.{_-_, _≤_}
 use native.Mathlib.Omega.{arith}
 use native.Mathlib.Numerals.{add-one}
 use Rattle.integers.proofs.Machine.{clean, clean-result, clean-element}
+use Rattle.tables.specs.Ranges.{greatestOrder}
 use Rattle.tried.specs.Search.{Added}
 use Rattle.tried.proofs.Shares.{added-start, added-more, sum-fits}
 use Rattle.tried.proofs.add_row.Statement.{statement}
 use Rattle.tried.proofs.add_row.Tie as tie
 
 abbrev Inv-loop : tie.InvT-loop
-Inv-loop n pairs start d from to₀ k₀ to k = (k ≤ 8) × Added n pairs start d from to k
+Inv-loop n pairs start d from to₀ k₀ to k = (k ≤ greatestOrder) × Added n pairs start d from to k
 
 abbrev μ-loop : tie.MeasureT-loop
-μ-loop n pairs start d from to₀ k₀ to k = 8 - k
+μ-loop n pairs start d from to₀ k₀ to k = greatestOrder - k
 
 add-to : tie.Need-add-to Inv-loop μ-loop
 add-to c =
@@ -41,4 +42,4 @@ add-row-spec =
     (λ c. omega arith)
     (λ c. omega arith)
     loop-again
-    (λ c. let e : c .before .loop .k ≡ 8 = omega arith in rw e at (c .before .loop .inv .1)))
+    (λ c. let e : c .before .loop .k ≡ greatestOrder = omega arith in rw e at (c .before .loop .inv .1)))

@@ -6,7 +6,7 @@ use native.Mathlib.Numerals.{add-one}
 use lib.IntN.{pos, negsuc}
 use Rattle.integers.proofs.Machine.{clean, clean-element}
 use Rattle.tables.specs.Matrix.{nth}
-use Rattle.tables.proofs.Matrix.{at-most-64}
+use Rattle.tables.proofs.Matrix.{table-fits}
 use Rattle.tried.specs.Search.{Doubling}
 use Rattle.tried.proofs.Shares.{doubling-start, doubling-more, twice-fits}
 use Rattle.tried.proofs.double.Statement.{statement}
@@ -40,20 +40,20 @@ pub double-spec : {M : Type 1} → statement M
 double-spec =
     tie.close
     (tie.spec Inv-loop μ-loop
-    (λ c. omega (arith, at-most-64 (c .pre .0 .order)))
+    (λ c. omega (arith, table-fits (c .pre .0 .order)))
     (λ c. (omega arith, doubling-start (c .pre .2)))
-    (λ c. omega (arith, at-most-64 (c .before .before .pre .0 .order)))
+    (λ c. omega (arith, table-fits (c .before .before .pre .0 .order)))
     (λ c. omega (arith, c .before .before .pre .0 .size, c .before .before .pre .1 .size))
     mul-pairs-2
-    (λ c. omega (arith, at-most-64 (c .before .before .before .pre .0 .order)))
-    (λ c. omega (arith, at-most-64 (c .before .before .before .pre .0 .order)))
-    (λ c. omega (arith, at-most-64 (c .before .before .before .pre .0 .order)))
+    (λ c. omega (arith, table-fits (c .before .before .before .pre .0 .order)))
+    (λ c. omega (arith, table-fits (c .before .before .before .pre .0 .order)))
+    (λ c. omega (arith, table-fits (c .before .before .before .pre .0 .order)))
     (λ c. omega (arith, c .before .before .before .pre .0 .size, c .before .before .before .pre .1 .size))
     mul-pairs-5
-    (λ c. omega (arith, at-most-64 (c .before .before .before .before .pre .0 .order)))
-    (λ c. omega (arith, at-most-64 (c .before .before .before .before .pre .0 .order)))
-    (λ c. omega (arith, at-most-64 (c .before .before .before .before .pre .0 .order)))
-    (λ c. omega (arith, at-most-64 (c .before .before .before .before .pre .0 .order)))
+    (λ c. omega (arith, table-fits (c .before .before .before .before .pre .0 .order)))
+    (λ c. omega (arith, table-fits (c .before .before .before .before .pre .0 .order)))
+    (λ c. omega (arith, table-fits (c .before .before .before .before .pre .0 .order)))
+    (λ c. omega (arith, table-fits (c .before .before .before .before .pre .0 .order)))
     (λ c. omega arith)
     loop-again
     (λ c. let e : c .before .loop .k ≡ c .before .before .args .n * c .before .before .args .n = omega arith in rw e at (c .before .loop .inv .1)))

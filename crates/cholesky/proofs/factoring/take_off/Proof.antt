@@ -6,6 +6,7 @@ use native.Mathlib.Numerals.{add-one}
 use mir.Syntax.{w64}
 use mir.Val.{toZ}
 use Rattle.integers.proofs.Machine.{clean, clean-element}
+use Rattle.tables.specs.Ranges.{greatestOrder}
 use Rattle.cholesky.specs.Store.{upper}
 use Rattle.cholesky.specs.Rows.{TakenOff}
 use Rattle.cholesky.proofs.Rows.{taken-start, taken-reads, taken-more, product-fits, difference-fits}
@@ -22,7 +23,7 @@ abbrev μ-loop : tie.MeasureT-loop
 
 -- where entry (a, j) stands, and r(i,a)
 index : (c : tie.In-loop Inv-loop μ-loop) →
-    (c .before .before .args .i < c .before .loop .a) × (c .before .loop .a ≤ c .before .before .args .j) × (c .before .before .args .j < 8)
+    (c .before .before .args .i < c .before .loop .a) × (c .before .loop .a ≤ c .before .before .args .j) × (c .before .before .args .j < greatestOrder)
 index c = (c .before .loop .inv .0, omega (arith, c .loop-test .taken), c .before .before .pre .0 .inside)
 
 mul-s-3 : tie.Need-mul-s-3 Inv-loop μ-loop

@@ -7,12 +7,13 @@ use Rattle.integers.specs.Root.{wholeRoot}
 use Rattle.integers.proofs.Parts.{≤ℤ-trans, pos-nonneg}
 use Rattle.integers.proofs.Roots.{root-law, root-one}
 use Rattle.integers.proofs.Machine.{clean-result, clean-element}
-use Rattle.cholesky.specs.Store.{upper}
+use Rattle.tables.specs.Ranges.{tableRoom}
+use Rattle.cholesky.specs.Store.{upper, stride}
 use Rattle.cholesky.proofs.Rows.{row-taken}
 use Rattle.cholesky.proofs.factoring.take_row.Statement.{statement}
 use Rattle.cholesky.proofs.factoring.take_row.Tie as tie
 
-place : (c : tie.Start) → 8 * c .args .i + c .args .i < 64
+place : (c : tie.Start) → stride * c .args .i + c .args .i < tableRoom
 place c = let p = c .pre .0 in omega (arith, p .order, c .pre .1)
 
 root-is : (c : tie.After-whole-root) →

@@ -9,7 +9,7 @@ use lib.IntN.{ℤ, natAbs}
 use lib.ListN.{length}
 use Rattle.integers.proofs.Machine.{clean}
 use Rattle.tables.specs.Checks.{orderOk}
-use Rattle.tables.proofs.Matrix.{at-most-64}
+use Rattle.tables.proofs.Matrix.{table-fits}
 use Rattle.tables.proofs.Checks.{call-false, call-true, order-of, order-usize}
 use Rattle.tables.proofs.Answers.{order-refused, size-refused, entry-passed, exactly}
 use Rattle.enclosure.specs.Box.{Box, refused}
@@ -54,7 +54,7 @@ enclose-spec =
     let s = c .before .before in
     exactly (means s) (shown s) _ (ap (given s) (order-refused refused _ _ _ (rw (clean (s .fits .n)) at (call-false (c .before .order-ok .ensures) (c .if1 .taken))))))
     (λ c. order-usize (c .before .before .fits .n) (ordered c))
-    (λ c. rw (clean (c .before .before .fits .n)) (record { fits = omega (arith, at-most-64 (order-of (ordered c) .1)) }))
+    (λ c. rw (clean (c .before .before .fits .n)) (record { fits = omega (arith, table-fits (order-of (ordered c) .1)) }))
     (λ c. rw (clean (c .before .before .fits .n)) (record { fits = omega (arith, order-of (ordered c) .1) }))
     (λ c κs. search needs)
     (λ c.

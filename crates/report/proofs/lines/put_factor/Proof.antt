@@ -1,7 +1,7 @@
 -- The rows follow the word; those that are printed are the rows of the factor's table.
 use native.Mathlib.Omega.{arith}
 use borrow.Author.Needs.{needs}
-use Rattle.tables.proofs.Matrix.{at-most-64}
+use Rattle.tables.proofs.Matrix.{table-fits}
 use Rattle.text.specs.Text.{ascii}
 use Rattle.text.proofs.Puts.{put-within, put-room, put-then}
 use Rattle.report.specs.Lines.{verdictText}
@@ -12,7 +12,7 @@ use Rattle.report.proofs.lines.put_factor.Tie as tie
 put-lines-requires : tie.Need-put-lines-requires
 put-lines-requires c κs =
     let p = c .before .before .before .before .before .before .before .before .before .before .before .before .pre in
-    (put-room (c .before .before .before .before .before .put-text .ensures) _ (omega (arith, rows-room (p .0), p .1)), omega (arith, at-most-64 (p .0), c .before .before .before .before .before .before .before .before .before .write-factor .kept .1 .1 .0))
+    (put-room (c .before .before .before .before .before .put-text .ensures) _ (omega (arith, rows-room (p .0), p .1)), omega (arith, table-fits (p .0), c .before .before .before .before .before .before .before .before .before .write-factor .kept .1 .1 .0))
 
 returns : tie.Need-returns
 unfolding verdictText
@@ -26,7 +26,7 @@ put-factor-spec =
     tie.close
     (tie.spec
     (λ c. search needs)
-    (λ c κs. let p = c .before .before .pre in (p .0, at-most-64 (p .0)))
+    (λ c κs. let p = c .before .before .pre in (p .0, table-fits (p .0)))
     (λ c. search needs)
     (λ c κs. search needs)
     (λ c. search needs)

@@ -5,9 +5,10 @@ use Prim.Native.Nat.{_+_, _*_, _-_, _≤_, _<_}
 use native.Mathlib.Omega.{arith}
 use borrow.Author.Needs.{needs}
 use Rattle.integers.proofs.Machine.{clean-element}
+use Rattle.tables.specs.Ranges.{tableRoom}
 use Rattle.tables.specs.Matrix.{at}
 use Rattle.tables.specs.Checks.{all}
-use Rattle.tables.proofs.Matrix.{inside, at-most-64}
+use Rattle.tables.proofs.Matrix.{inside, table-fits}
 use Rattle.tables.proofs.Checks.{all-none, all-more, all-false, call-false, call-true}
 use Rattle.residual.specs.FactorTest.{factorEntry}
 use Rattle.residual.proofs.offered.row_shape.Statement.{statement}
@@ -23,8 +24,8 @@ abbrev μ-loop : tie.MeasureT-loop
 place : (c : tie.In-loop Inv-loop μ-loop) → c .before .before .args .i * c .before .before .args .n + c .before .loop .j < c .before .before .args .n * c .before .before .args .n
 place c = inside (c .before .before .pre .1) (omega arith)
 
-small : (c : tie.In-loop Inv-loop μ-loop) → c .before .before .args .n * c .before .before .args .n ≤ 64
-small c = at-most-64 (c .before .before .pre .0)
+small : (c : tie.In-loop Inv-loop μ-loop) → c .before .before .args .n * c .before .before .args .n ≤ tableRoom
+small c = table-fits (c .before .before .pre .0)
 
 pub row-shape-spec : {M : Type 1} → statement M
 unfolding at

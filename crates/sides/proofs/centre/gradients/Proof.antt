@@ -4,6 +4,7 @@ use Prim.Native.Nat.{_-_, _≤_}
 use native.Mathlib.Omega.{arith}
 use native.Mathlib.Numerals.{add-one}
 use Rattle.integers.proofs.Machine.{clean-result}
+use Rattle.tables.specs.Ranges.{greatestOrder}
 use Rattle.tables.specs.Matrix.{at, nth}
 use Rattle.sides.specs.Sides.{gradient}
 use Rattle.tables.specs.Buffers.{Filled}
@@ -12,7 +13,7 @@ use Rattle.sides.proofs.centre.gradients.Statement.{statement}
 use Rattle.sides.proofs.centre.gradients.Tie as tie
 
 abbrev Inv-loop : tie.InvT-loop
-Inv-loop n low high a c g₀ k₀ g k = (k ≤ n) × Filled 8 k (gradient n (at n low) (at n high) (nth a) (nth c)) g
+Inv-loop n low high a c g₀ k₀ g k = (k ≤ n) × Filled greatestOrder k (gradient n (at n low) (at n high) (nth a) (nth c)) g
 
 abbrev μ-loop : tie.MeasureT-loop
 μ-loop n low high a c g₀ k₀ g k = n - k

@@ -5,8 +5,9 @@ use Prim.Native.Nat.{_+_, _*_, _-_, _<_}
 use native.Mathlib.Omega.{arith}
 use native.Mathlib.Numerals.{add-one}
 use Rattle.integers.proofs.Machine.{clean-element}
+use Rattle.tables.specs.Ranges.{tableRoom}
 use Rattle.tables.proofs.Checks.{call-false, call-true}
-use Rattle.cholesky.specs.Store.{upper}
+use Rattle.cholesky.specs.Store.{upper, stride}
 use Rattle.cholesky.specs.Reduced.{endsFrom}
 use Rattle.cholesky.specs.Rows.{Sized}
 use Rattle.cholesky.proofs.Rows.{left-sized}
@@ -21,7 +22,7 @@ abbrev μ-loop : tie.MeasureT-loop
 μ-loop s₀ n first i₀ s i = n - i
 
 -- where the diagonal entry i stands
-place : (c : tie.At-loop Inv-loop μ-loop) → 8 * c .loop .i + c .loop .i < 64
+place : (c : tie.At-loop Inv-loop μ-loop) → stride * c .loop .i + c .loop .i < tableRoom
 place c = omega (arith, c .loop .inv .0, c .loop .inv .1 .order)
 
 returns : tie.Need-returns Inv-loop μ-loop

@@ -9,8 +9,9 @@ use Rattle.integers.specs.Root.{wholeRoot}
 use Rattle.integers.proofs.Parts.{≤ℤ-trans, pos-nonneg}
 use Rattle.integers.proofs.Roots.{root-law, root-one}
 use Rattle.integers.proofs.Machine.{clean-result, clean-element}
+use Rattle.tables.specs.Ranges.{tableRoom}
 use Rattle.tables.proofs.Checks.{le-of, read-less, read-not-less}
-use Rattle.cholesky.specs.Store.{upper}
+use Rattle.cholesky.specs.Store.{upper, stride}
 use Rattle.steps.proofs.Rows.{row-none, row-stops, row-passed}
 use Rattle.steps.proofs.reducing.pass_row.Statement.{statement}
 use Rattle.steps.proofs.reducing.pass_row.Tie as tie
@@ -19,7 +20,7 @@ use Rattle.steps.proofs.reducing.pass_row.Tie as tie
 abbrev diagonal : tie.Start → ℤ
 diagonal c = upper (c .args .s .now) (c .args .i) (c .args .i)
 
-place : (c : tie.Start) → 8 * c .args .i + c .args .i < 64
+place : (c : tie.Start) → stride * c .args .i + c .args .i < tableRoom
 place c = omega (arith, c .pre .0 .order, c .pre .1)
 
 one : (c : tie.Else1) → pos 1 ≤ℤ diagonal (c .before .before)

@@ -2,14 +2,15 @@ use Prim.Native.Nat.{_≤_}
 use native.Mathlib.Omega.{arith}
 use borrow.Author.Needs.{needs}
 use Rattle.integers.proofs.Machine.{clean-result}
-use Rattle.tables.proofs.Matrix.{at-most-64}
+use Rattle.tables.specs.Ranges.{greatestOrder}
+use Rattle.tables.proofs.Matrix.{table-fits}
 use Rattle.summary.specs.Problems.{problemIn}
 use Rattle.summary.proofs.Spelled.{Lengths, lengths-of}
 use Rattle.summary.proofs.problem.problem_in.Statement.{statement}
 use Rattle.summary.proofs.problem.problem_in.Tie as tie
 
 -- n, and the lengths that it calls for
-small : (c : tie.After-order-in) → c .order-in .result ≤ 8
+small : (c : tie.After-order-in) → c .order-in .result ≤ greatestOrder
 small c = let e = c .order-in .ensures in let h = c .before .before .pre .order in omega arith
 
 lengths : (c : tie.After-order-in) → Lengths (c .before .before .args .layout) (c .order-in .result)
@@ -21,10 +22,10 @@ problem-in-spec =
     tie.close
     (tie.spec (λ c κs. search needs)
     (λ c. search needs)
-    (λ c. omega (arith, at-most-64 (small c)))
-    (λ c κs. let z = lengths c in (c .before .before .pre .inside, omega arith, at-most-64 (small c)))
-    (λ c. omega (arith, at-most-64 (small (c .before))))
-    (λ c κs. let d = c .before in let z = lengths d in (d .before .before .pre .inside, omega arith, at-most-64 (small d)))
+    (λ c. omega (arith, table-fits (small c)))
+    (λ c κs. let z = lengths c in (c .before .before .pre .inside, omega arith, table-fits (small c)))
+    (λ c. omega (arith, table-fits (small (c .before))))
+    (λ c κs. let d = c .before in let z = lengths d in (d .before .before .pre .inside, omega arith, table-fits (small d)))
     (λ c κs. let d = c .before .before in let z = lengths d in (d .before .before .pre .inside, omega arith, small d))
     (λ c κs. let d = c .before .before .before in let z = lengths d in (d .before .before .pre .inside, omega arith))
     (λ c κs. let d = c .before .before .before .before in let z = lengths d in (d .before .before .pre .inside, omega arith, small d))

@@ -1,7 +1,7 @@
 use native.Mathlib.Omega.{arith}
 use borrow.Author.Needs.{needs}
 use borrow.Author.Tests.{ne-eqb}
-use Rattle.tables.proofs.Matrix.{at-most-64}
+use Rattle.tables.proofs.Matrix.{table-fits}
 use Rattle.summary.specs.Problems.{sizesOk}
 use Rattle.summary.proofs.Spelled.{size-is, size-differs}
 use Rattle.summary.proofs.problem.sizes_ok.Statement.{statement}
@@ -12,8 +12,8 @@ unfolding sizesOk
 sizes-ok-spec =
     tie.close
     (tie.spec
-    (λ c. omega (arith, at-most-64 (c .pre)))
-    (λ c. omega (arith, at-most-64 (c .pre)))
+    (λ c. omega (arith, table-fits (c .pre)))
+    (λ c. omega (arith, table-fits (c .pre)))
     (λ c. search needs)
     (λ c κs. search needs)
     (λ c κs. search needs)

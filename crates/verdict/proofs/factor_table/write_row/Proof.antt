@@ -4,7 +4,7 @@ use Prim.Native.Nat.{suc, _+_, _*_, _-_, _≤_}
 use native.Mathlib.Omega.{arith}
 use lib.ListN.{length, length-set}
 use Rattle.integers.proofs.Machine.{clean-result}
-use Rattle.tables.proofs.Matrix.{inside, at-most-64}
+use Rattle.tables.proofs.Matrix.{inside, table-fits}
 use Rattle.cholesky.specs.Store.{triangle}
 use Rattle.verdict.specs.FactorTable.{Written}
 use Rattle.verdict.proofs.Writing.{written-more}
@@ -33,11 +33,11 @@ pub write-row-spec : {M : Type 1} → statement M
 write-row-spec =
     tie.close
     (tie.spec Inv-loop μ-loop
-    (λ c. omega (arith, inside (c .pre .1) (c .pre .1), at-most-64 (c .pre .0)))
+    (λ c. omega (arith, inside (c .pre .1) (c .pre .1), table-fits (c .pre .0)))
     (λ c. let e : c .args .i * c .args .n + 0 ≡ c .args .i * c .args .n = omega arith in (omega arith, refl, rw e (c .pre .3)))
     (λ c κs. let p = c .before .before .pre in (omega (arith, p .0, p .1), omega (arith, p .0, c .loop-test .taken)))
-    (λ c. let p = c .before .before .before .pre in omega (arith, inside (p .1) (c .before .loop-test .taken), at-most-64 (p .0)))
-    (λ c. let p = c .before .before .before .pre in omega (arith, inside (p .1) (c .before .loop-test .taken), at-most-64 (p .0)))
+    (λ c. let p = c .before .before .before .pre in omega (arith, inside (p .1) (c .before .loop-test .taken), table-fits (p .0)))
+    (λ c. let p = c .before .before .before .pre in omega (arith, inside (p .1) (c .before .loop-test .taken), table-fits (p .0)))
     (λ c. let p = c .before .before .before .pre in omega (arith, inside (p .1) (c .before .loop-test .taken), p .2, c .before .before .loop .inv .1))
     (λ c. let p = c .before .before .before .pre in omega (arith, p .0))
     (λ c. omega arith)
