@@ -36,10 +36,6 @@ unfolding absℤ
 abs-of-nonneg (pos n) h = refl
 abs-of-nonneg (negsuc n) h = absurd (h .le)
 
-pub within-abs : {m : ℕ} {x : ℤ} → Within m x → Within m (absℤ x)
-unfolding absℤ
-within-abs w = record { size = w .size }
-
 pub within-min : {m : ℕ} {x y : ℤ} → Within m x → Within m y → Within m (minℤ x y)
 within-min {m} {x} {y} v w = min-by x y (Within m) (λ h. v) (λ h. w)
 

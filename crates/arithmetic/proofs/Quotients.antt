@@ -16,7 +16,7 @@ use Rattle.integers.proofs.Order.{≤-unless}
 use Rattle.integers.proofs.Solver.{_&_, order, solver}
 use Rattle.integers.proofs.Machine.{within-neg, within-floor, within-high, fits-within}
 use Rattle.integers.proofs.Roots.{root-law, rootAbove-nonneg, rootAbove-least}
-use Rattle.arithmetic.specs.Contracts.{boundRange}
+use Rattle.arithmetic.specs.Contracts.{rootRange, boundRange}
 
 -- ---- sizes
 pub within-ceil : {m : ℕ} {a : ℤ} (d : ℤ) → Within m a → Within m (ceilDiv a d)
@@ -43,12 +43,12 @@ within-whole-root {m} {x} h w =
     let one : pos 1 ≤ℤ r = order (r ∷ pos m ∷ []) (e & pos-nonneg m) (search solver depth 40 fits 20000) (omega arith) in
     order (x ∷ r ∷ pos m ∷ []) (l .low & within-high w & *ℤ-nonneg (l .nonneg) (gap-nonneg one)) (search solver depth 40 fits 20000) (omega arith)))
 
--- the least root of a number within 2^58 is within 2^29
-pub within-root : (t b : ℤ) → Within boundRange b → Within (2 ^ 29) (leastRoot t b)
+-- the least root of such a number
+pub within-root : (t b : ℤ) → Within boundRange b → Within rootRange (leastRoot t b)
 unfolding leastRoot
 within-root t b w =
     nonneg-within (rootAbove-nonneg (ceilDiv b t))
-    (rootAbove-least (ceilDiv b t) (pos (2 ^ 29)) (pos-nonneg _) (within-high (within-ceil t w)))
+    (rootAbove-least (ceilDiv b t) (pos rootRange) (pos-nonneg _) (within-high (within-ceil t w)))
 
 -- ---- the root's two cases
 none-above : (q : ℤ) → q ≤ℤ pos 0 → pos 0 ≡ rootAbove q

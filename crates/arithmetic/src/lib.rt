@@ -8,7 +8,7 @@ ghost use Rattle.integers.specs.Sum.{sum};
 ghost use Rattle.integers.specs.Division.{ceilDiv};
 ghost use Rattle.integers.specs.Root.{leastRoot};
 ghost use Rattle.tables.specs.Matrix.{nth};
-ghost use Rattle.arithmetic.specs.Contracts.{boundRange, Terms};
+ghost use Rattle.arithmetic.specs.Contracts.{boundRange, ProductTerms};
 
 // The smaller of two numbers.
 pub fn smaller(x: i64, y: i64) -> i64
@@ -34,7 +34,7 @@ pub fn absolute(x: i64) -> i64
 
 // The sum of x(k) y(k).
 pub fn product_sum(n: usize, x: &[i64], y: &[i64]) -> i64
-    requires { ⌜ Terms n (now x) (now y) ⌝ }
+    requires { ⌜ ProductTerms n (now x) (now y) ⌝ }
     ensures { λ r. ⌜ r ≡ sum n (λ k. nth (now (x .entry)) k *ℤ nth (now (y .entry)) k) ⌝ }
 {
     let mut s: i64 = 0;
@@ -46,7 +46,7 @@ pub fn product_sum(n: usize, x: &[i64], y: &[i64]) -> i64
     s
 }
 
-// a / d rounded up.
+// a / d rounded up (R1.2).
 pub fn ceil_div(a: i64, d: i64) -> i64
     requires { ⌜ Within boundRange a × (pos 1 ≤ℤ d) ⌝ }
     ensures { λ r. ⌜ r ≡ ceilDiv a d ⌝ }
@@ -54,7 +54,7 @@ pub fn ceil_div(a: i64, d: i64) -> i64
     -integers::floor_div(-a, d)
 }
 
-// The least s from 0 up with t s² at least b: s² is to be at least b / t rounded up.
+// The least root of b over t (R1.4): s² is to be at least b / t rounded up.
 pub fn least_root(t: i64, b: i64) -> i64
     requires { ⌜ Within boundRange b × (pos 1 ≤ℤ t) ⌝ }
     ensures { λ r. ⌜ r ≡ leastRoot t b ⌝ }

@@ -12,6 +12,7 @@ use Rattle.integers.specs.Numbers.{Within}
 use Rattle.integers.proofs.Machine.{fits-within}
 use Rattle.words.specs.Numbers.{toLeBytes, numbersOf, bytesOf}
 use Rattle.words.proofs.Laws.{numbersOf-bytesOf}
+use Rattle.words.proofs.Sign.{narrow-of}
 use Rattle.words.proofs.Lists.{append-drop-end}
 use Rattle.tables.specs.Matrix.{nth, tabulate}
 use Rattle.tables.proofs.Matrix.{nth-tabulate}
@@ -21,7 +22,7 @@ bytesOf-ext : (w : Width) (a b : List ℤ) (k : ℕ) → ((i : ℕ) → i < k �
 unfolding bytesOf
 bytesOf-ext w a b zero h = refl
 bytesOf-ext w a b (suc k) h =
-    ap₂ (λ (x y : List ℕ). x ++ y) (bytesOf-ext w a b k (λ i l. h i (omega arith))) (ap (λ (z : ℤ). toLeBytes (bytes w) (ofZ w z)) (h k (omega arith)))
+    ap₂ (λ (x y : List ℕ). x ++ y) (bytesOf-ext w a b k (λ i l. h i (omega arith))) (ap (λ (z : ℤ). toLeBytes (bytes w) (ofZ w64 z)) (h k (omega arith)))
 
 -- a buffer of exactly their size is written whole
 pub vector-stored : (s : List ℕ) (n : ℕ) (x : List ℤ) → length s ≡ n * bytes w64 → bytesOf w64 x n ++ drop (n * bytes w64) s ≡ bytesOf w64 (tabulate n (nth x)) n
@@ -32,4 +33,4 @@ vector-stored s n x e =
 pub read-numbers : {m b : ℕ} (x : List ℤ) → length x ≡ m → ((i : ℕ) → Within b (nth x i)) → b < 2 ^ 63 → numbersOf w64 (bytesOf w64 x m) m ≡ x
 read-numbers {m} x e z h =
     ap (λ (s : List ℕ). numbersOf w64 s m) (sym (append-nil (bytesOf w64 x m)))
-    ∙ numbersOf-bytesOf w64 x [] m (record { each = λ i. fits-within (z i) h }) (omega (arith, e)) ∙ take-all m x (omega (arith, e))
+    ∙ numbersOf-bytesOf (narrow-of 8) x [] m (record { each = λ i. fits-within (z i) h }) (omega (arith, e)) ∙ take-all m x (omega (arith, e))

@@ -1,19 +1,23 @@
--- The numbers that a buffer of bytes spells, and the bytes that an act stores in it.
+-- R15.2 and R15.3 of docs/RULES.md: the numbers that a buffer of bytes spells, and the bytes that an act stores in it.
 use mathlib.Core.Path.{_≡_}
+use mathlib.Core.Bool.{Bool, true}
 use mathlib.Core.List.{List}
-use Prim.Native.Nat.{ℕ, _+_, _*_}
+use Prim.Native.Nat.{ℕ, _+_, _*_, _≤_}
 use lib.IntN.{ℤ}
-use lib.ListN.{take}
+use lib.ListN.{length, take}
 use mir.Syntax.{w64}
 use mir.Val.{bytes}
 use Rattle.words.specs.Numbers.{numbersOf, bytesOf}
-use Rattle.tables.specs.Matrix.{Matrix, table}
-use Rattle.verdict.specs.Judge.{Judgement, Judged, handed}
+use Rattle.tables.specs.Ranges.{greatestOrder}
+use Rattle.tables.specs.Matrix.{Matrix, nth, table}
+use Rattle.tables.specs.Checks.{sizesOk}
+use Rattle.verdict.specs.Judge.{Judgement, Judged, judgeSizes}
+use Rattle.verdict.specs.Judge as Judge
 use Rattle.enclosure.specs.Box.{Box}
-use Rattle.enclosure.specs.Act.{Enclosed}
+use Rattle.enclosure.specs.Act.{Enclosed, boxSizes}
 use Rattle.enclosure.specs.Act as Act
 
--- the table of order n that a buffer spells: n² numbers of 8 bytes, signed, low byte first
+-- the table of order n that a buffer spells: n² signed numbers of 8 bytes (R1.6)
 abbrev pub tableOf : ℕ → List ℕ → List ℤ
 tableOf n s = numbersOf w64 s (n * n)
 
@@ -25,14 +29,38 @@ vectorOf n s = numbersOf w64 s n
 abbrev pub sidesOf : ℕ → List ℕ → List ℤ
 sidesOf n s = numbersOf w64 s (n + n)
 
+-- ---- 2, over bytes: each buffer has 8 bytes for each of its numbers
+abbrev pub factorBuffers : ℕ → ℕ → ℕ → ℕ → Bool
+factorBuffers n = sizesOk (n * n * bytes w64) (n * n * bytes w64)
+
+abbrev pub vectorBuffers : ℕ → ℕ → ℕ → ℕ → Bool
+vectorBuffers n = sizesOk (n * n * bytes w64) (n * bytes w64)
+
+abbrev pub judgeBuffers : ℕ → ℕ → ℕ → ℕ → ℕ → Bool
+judgeBuffers n = judgeSizes (n * n * bytes w64) (n * bytes w64)
+
+abbrev pub boxBuffers : ℕ → ℕ → ℕ → ℕ → ℕ → ℕ → Bool
+boxBuffers n = boxSizes (n * n * bytes w64) (n * bytes w64) ((n + n) * bytes w64)
+
+-- ---- what is stored
 -- the factor's table or the vector is written, 8 bytes for each number; the other buffer is kept
-abbrev pub stored : ℕ → Judgement → List ℕ → List ℕ → Judged (List ℕ)
-stored n = handed (λ t. bytesOf w64 t (n * n)) (λ x. bytesOf w64 x n)
+abbrev pub storedVerdict : ℕ → Judgement → List ℕ → List ℕ → Judged (List ℕ)
+storedVerdict n = Judge.laid (λ t. bytesOf w64 t (n * n)) (λ x. bytesOf w64 x n)
+
+-- the sides are written, 8 bytes for each number, or the buffer is kept
+abbrev pub storedSides : ℕ → Box → List ℕ → Enclosed (List ℕ)
+storedSides n = Act.laid (λ s. bytesOf w64 s (n + n))
 
 -- the bytes of the first k numbers of M's table, of order n, stand at the front of a buffer
 abbrev pub Front : ℕ → Matrix → List ℕ → ℕ → Type 0
 Front n M s k = take (k * bytes w64) s ≡ bytesOf w64 (table n M) k
 
--- the sides are written, 8 bytes for each number, or the buffer is kept
-abbrev pub storedSides : ℕ → Box → List ℕ → Enclosed (List ℕ)
-storedSides n = Act.handed (λ s. bytesOf w64 s (n + n))
+-- ---- what the code asks and leaves
+-- where the buffers have their sizes, both tables have the bytes of n² numbers
+abbrev pub Spelled : ℕ → Bool → ℕ → ℕ → Type 0
+Spelled n sized l u = sized ≡ true → (n * n * bytes w64 ≤ l) × (n * n * bytes w64 ≤ u)
+
+-- where the buffers have their sizes, the vector of order n that s spells stands in x
+pub record Terms (n : ℕ) (sized : Bool) (s : List ℕ) (x : List ℤ) : Type 0 where
+  pub size : length x ≡ greatestOrder
+  pub numbers : sized ≡ true → nth x ≡ nth (vectorOf n s)

@@ -200,8 +200,8 @@ below-diagonal : (cs : List (List ℤ)) (i j : ℕ) → j < i → length (getD c
 unfolding entries
 below-diagonal cs i j h e = nth-past (getD cs j []) i (omega arith)
 
-pub factored : (n : ℕ) (H : Matrix) → ((j : ℕ) → j < n → H j j ≤ℤ (ρ *ℤ ρ)) → T (factoring n H .ends) → Factored n H (entries (factoring n H .columns))
-factored n H top t =
+pub columns-factored : (n : ℕ) (H : Matrix) → ((j : ℕ) → j < n → H j j ≤ℤ (ρ *ℤ ρ)) → T (factoring n H .ends) → Factored n H (entries (factoring n H .columns))
+columns-factored n H top t =
     let d = done n H top t in
     let e = all-columns n H t in
     record {

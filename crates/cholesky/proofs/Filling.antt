@@ -5,22 +5,21 @@ use Prim.Native.Nat.{ℕ, suc, _+_, _*_, _^_, _≤_, _<_}
 use native.Mathlib.Omega.{arith}
 use native.Mathlib.Decide.{decLt}
 use lib.IntN.{ℤ, pos, _+ℤ_, _-ℤ_, _*ℤ_}
-use lib.Signed.{mag}
+use lib.Signed.{_≤ℤ_, mag}
 use lib.ListN.{length, set, length-set}
 use mir.Syntax.{w64}
 use mir.Val.{SFits, toZ, ofZ}
 use Rattle.integers.specs.Numbers.{Within}
 use Rattle.integers.proofs.Machine.{within-more, within-+, within--, within-*, within-sum, fits-within, clean-element}
-use Rattle.integers.proofs.Sums.{only-by}
-use Rattle.tables.specs.Ranges.{greatestOrder, tableRoom}
+use Rattle.tables.specs.Ranges.{greatestOrder, tableRoom, entryRange}
 use Rattle.tables.specs.Matrix.{Matrix, rowWidth}
 use Rattle.tables.specs.Bounds.{Bounds, CheckedTables}
 use Rattle.tables.proofs.Matrix.{inside, table-fits}
 use Rattle.cholesky.specs.Scale.{halfScale, takeOff, scaled}
 use Rattle.cholesky.specs.Store.{upper, stride}
 use Rattle.cholesky.specs.Scaling.{Ranged, Lent, Scaled}
-use Rattle.cholesky.specs.Rows.{Sized}
-use Rattle.cholesky.proofs.ScaledMatrix.{take-off-suffices, scaled-top}
+use Rattle.cholesky.specs.Rows.{productRange, restRange, Factorable}
+use Rattle.cholesky.proofs.ScaledMatrix.{scaled-off, scaled-on, scaled-top, take-off-within, take-off-suffices}
 use Rattle.cholesky.proofs.Store.{upper-same, upper-other}
 
 -- ---- where entry (i, j) stands in the tables of L and U
@@ -44,19 +43,19 @@ numeral-within m = record { size = omega arith }
 
 module _ {n : ℕ} {L U : Matrix} (o : n ≤ greatestOrder) (r : Ranged n L U) where
   module _ {i j : ℕ} (h : i < n) (k : j < n) where
-    gap-within : Within (2 ^ 21) (U i j -ℤ L i j)
+    gap-within : Within (2 * entryRange) (U i j -ℤ L i j)
     gap-within = within-more (omega arith) (within-- (r .high i j h k) (r .low i j h k))
 
     pub gap-fits : SFits w64 (U i j -ℤ L i j)
     gap-fits = fits-within gap-within (omega arith)
 
-    middle-within : Within (2 ^ 21) (L i j +ℤ U i j)
+    middle-within : Within (2 * entryRange) (L i j +ℤ U i j)
     middle-within = within-more (omega arith) (within-+ (r .low i j h k) (r .high i j h k))
 
     pub middle-fits : SFits w64 (L i j +ℤ U i j)
     middle-fits = fits-within middle-within (omega arith)
 
-    doubled-within : Within (2 ^ 52) (halfScale *ℤ (L i j +ℤ U i j))
+    pub doubled-within : Within productRange (halfScale *ℤ (L i j +ℤ U i j))
     doubled-within = within-more (omega arith) (within-* (numeral-within (2 ^ 31)) middle-within)
 
     pub doubled-fits : SFits w64 (halfScale *ℤ (L i j +ℤ U i j))
@@ -64,55 +63,53 @@ module _ {n : ℕ} {L U : Matrix} (o : n ≤ greatestOrder) (r : Ranged n L U) w
 
   module _ {i : ℕ} (h : i < n) where
     -- w(i), and the sum before column m
-    widths-within : (m : ℕ) → m ≤ n → Within (2 ^ 24) (rowWidth m L U i)
+    widths-within : (m : ℕ) → m ≤ n → Within (greatestOrder * (2 * entryRange)) (rowWidth m L U i)
     unfolding rowWidth
-    widths-within m l = within-more (omega arith) (within-sum m (2 ^ 21) _ (λ j k. gap-within h (omega arith)))
+    widths-within m l = within-more (omega arith) (within-sum m (2 * entryRange) _ (λ j k. gap-within h (omega arith)))
 
     pub width-fits : (m : ℕ) → m < n → SFits w64 (rowWidth m L U i +ℤ (U i m -ℤ L i m))
     width-fits m l = fits-within (within-+ (widths-within m (omega arith)) (gap-within h l)) (omega arith)
 
-    scaled-width-within : Within (2 ^ 55) (halfScale *ℤ rowWidth n L U i)
+    scaled-width-within : Within (greatestOrder * productRange) (halfScale *ℤ rowWidth n L U i)
     scaled-width-within = within-more (omega arith) (within-* (numeral-within (2 ^ 31)) (widths-within n (omega arith)))
 
     pub scaled-width-fits : SFits w64 (halfScale *ℤ rowWidth n L U i)
     scaled-width-fits = fits-within scaled-width-within (omega arith)
 
-    taken-within : Within (2 ^ 29 + 2 ^ 55) (takeOff +ℤ halfScale *ℤ rowWidth n L U i)
-    taken-within = within-+ (numeral-within (2 ^ 29)) scaled-width-within
+    taken-within : Within (productRange + greatestOrder * productRange) (takeOff n +ℤ halfScale *ℤ rowWidth n L U i)
+    taken-within = within-+ (take-off-within n) scaled-width-within
 
-    pub taken-fits : SFits w64 (takeOff +ℤ halfScale *ℤ rowWidth n L U i)
+    pub taken-fits : SFits w64 (takeOff n +ℤ halfScale *ℤ rowWidth n L U i)
     taken-fits = fits-within taken-within (omega arith)
 
     module _ {j : ℕ} (k : j < n) where
-      on-within : Within (2 ^ 56) (halfScale *ℤ (L i j +ℤ U i j) -ℤ (takeOff +ℤ halfScale *ℤ rowWidth n L U i))
+      on-within : Within restRange (halfScale *ℤ (L i j +ℤ U i j) -ℤ (takeOff n +ℤ halfScale *ℤ rowWidth n L U i))
       on-within = within-more (omega arith) (within-- (doubled-within h k) taken-within)
 
-      pub on-fits : SFits w64 (halfScale *ℤ (L i j +ℤ U i j) -ℤ (takeOff +ℤ halfScale *ℤ rowWidth n L U i))
+      pub on-fits : SFits w64 (halfScale *ℤ (L i j +ℤ U i j) -ℤ (takeOff n +ℤ halfScale *ℤ rowWidth n L U i))
       on-fits = fits-within on-within (omega arith)
-
-  scaled-within : (i j : ℕ) → i < n → j < n → Within (2 ^ 56) (scaled takeOff n L U i j)
-  unfolding scaled
-  scaled-within i j h k =
-      only-by i j _ (λ z. Within (2 ^ 56) (halfScale *ℤ (L i j +ℤ U i j) -ℤ z))
-      (λ e. on-within h k)
-      (λ e. within-more (omega arith) (within-- (doubled-within h k) (numeral-within 0)))
 
 -- ---- H can be factored
 pub bounds-ranged : {n : ℕ} {L U : Matrix} → Bounds n L U → Ranged n L U
 bounds-ranged b = record { low = λ i j h k. record { size = b .low-range i j h k }; high = λ i j h k. record { size = b .high-range i j h k } }
 
-pub sized-scaled : {n : ℕ} {L U : Matrix} {h : List ℤ} → Bounds n L U → n ≤ greatestOrder → Scaled n L U h n → Sized h n 0
-sized-scaled {n} {L} {U} {h} b o w =
+module _ {n : ℕ} {L U : Matrix} (b : Bounds n L U) (o : n ≤ greatestOrder) where
+  -- off the diagonal, and on it from above
+  pub bounds-off : (i j : ℕ) → i < j → j < n → Within productRange (scaled n L U i j)
+  bounds-off i j h k = rw (scaled-off (takeOff n) n L U i j (omega arith)) (doubled-within o (bounds-ranged b) (omega arith) k)
+
+  pub bounds-top : (j : ℕ) → j < n → scaled n L U j j ≤ℤ pos productRange
+  bounds-top = scaled-top (takeOff n) n L U b (take-off-suffices n o)
+
+pub scaled-factorable : {n : ℕ} {L U : Matrix} {h : List ℤ} → Bounds n L U → n ≤ greatestOrder → Scaled n L U h n → Factorable h n 0
+scaled-factorable {n} {L} {U} b o w =
     record {
       size = w .size;
       order = o;
-      off = λ i j p q k. within-more (omega arith) (within-at i j (omega arith) k);
-      on = λ j p k. within-more (omega arith) (within-at j j (omega arith) k);
-      top = λ j p k. rw (w .entries j j (omega arith) k) (scaled-top takeOff n L U b (take-off-suffices n o) j k);
+      off = λ i j p q k. rw (w .entries i j (omega arith) k) (within-more (omega arith) (bounds-off b o i j q k));
+      on = λ j p k. rw (w .entries j j (omega arith) k, scaled-on (takeOff n) n L U j) (on-within o (bounds-ranged b) k k);
+      top = λ j p k. rw (w .entries j j (omega arith) k) (bounds-top b o j k);
     }
-  where
-    within-at : (i j : ℕ) → i ≤ j → j < n → Within (2 ^ 56) (upper h i j)
-    within-at i j l k = rw (w .entries i j l k) (scaled-within o (bounds-ranged b) i j (omega arith) k)
 
 -- tables that passed the checks can be scaled
 pub checked-lent : {n : ℕ} {l u : List ℤ} → CheckedTables n l u → Lent n l u
@@ -121,13 +118,13 @@ checked-lent p = record { order = p .order; low-length = p .low-length; high-len
 -- ---- the walk of the code: before row i of column j
 pub record Filling (n : ℕ) (L U : Matrix) (h : List ℤ) (j i : ℕ) : Type 0 where
   pub before : Scaled n L U h j
-  pub here : (k : ℕ) → k < i → upper h k j ≡ scaled takeOff n L U k j
+  pub here : (k : ℕ) → k < i → upper h k j ≡ scaled n L U k j
 
 module _ {n : ℕ} {L U : Matrix} {h : List ℤ} {j : ℕ} where
   pub filling-start : Scaled n L U h j → Filling n L U h j 0
   filling-start s = record { before = s; here = λ k l. absurd (omega arith) }
 
-  pub filling-row : {i : ℕ} {v : ℤ} → i ≤ j → j < greatestOrder → v ≡ scaled takeOff n L U i j → Filling n L U h j i → Filling n L U (set h (stride * j + i) v) j (suc i)
+  pub filling-row : {i : ℕ} {v : ℤ} → i ≤ j → j < greatestOrder → v ≡ scaled n L U i j → Filling n L U h j i → Filling n L U (set h (stride * j + i) v) j (suc i)
   filling-row {i} {v} l m e f =
       record {
         before = record {
@@ -137,7 +134,7 @@ module _ {n : ℕ} {L U : Matrix} {h : List ℤ} {j : ℕ} where
         here = λ k p. at k p (decLt k i);
       }
     where
-      at : (k : ℕ) → k < suc i → Dec (k < i) → upper (set h (stride * j + i) v) k j ≡ scaled takeOff n L U k j
+      at : (k : ℕ) → k < suc i → Dec (k < i) → upper (set h (stride * j + i) v) k j ≡ scaled n L U k j
       at k p (yes q) = upper-other h i j v k j (omega arith) ∙ f .here k q
       at k p (no q) =
           let s = f .before .size in
@@ -147,6 +144,6 @@ module _ {n : ℕ} {L U : Matrix} {h : List ℤ} {j : ℕ} where
   pub filling-end : Filling n L U h j (suc j) → Scaled n L U h (suc j)
   filling-end f = record { size = f .before .size; entries = λ k c p q. at k c p q (decLt c j) }
     where
-      at : (k c : ℕ) → k ≤ c → c < suc j → Dec (c < j) → upper h k c ≡ scaled takeOff n L U k c
+      at : (k c : ℕ) → k ≤ c → c < suc j → Dec (c < j) → upper h k c ≡ scaled n L U k c
       at k c p q (yes m) = f .before .entries k c p m
       at k c p q (no m) = let w : c ≡ j = omega arith in rw w (f .here k (omega arith))

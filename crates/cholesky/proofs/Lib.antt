@@ -7,6 +7,7 @@ pub mod Columns
 pub mod Extensional
 pub mod Store
 pub mod Rows
+pub mod Passing
 pub mod Walked
 pub mod Sweep
 pub mod Filling

@@ -12,8 +12,8 @@ use lib.ListN.{length}
 use Rattle.integers.specs.Sum.{sum}
 use Rattle.integers.specs.Division.{floorDiv}
 use Rattle.integers.specs.Root.{wholeRoot}
-use Rattle.integers.proofs.Parts.{≤ℤ-trans, leZ-true, square-nonneg}
-use Rattle.integers.proofs.Solver.{_&_, ring, order, solver}
+use Rattle.integers.proofs.Parts.{≤ℤ-trans, square-nonneg}
+use Rattle.integers.proofs.Solver.{ring, order, solver}
 use Rattle.integers.proofs.Sums.{sum-ext}
 use Rattle.tables.specs.Matrix.{Matrix, nth}
 use Rattle.tables.proofs.Checks.{of-true, true-of, bool-ext, and-left, and-right, and-of, le-of}
@@ -109,24 +109,6 @@ module _ (n : ℕ) where
   ends-ext (suc m) i e g =
       ap₂ _&&_ (ap (leZ (pos 1)) (g .entries i i (omega arith) (omega arith) (omega arith)))
       (ap₂ _&&_ (row-ext g m (suc i) (omega arith) (omega arith)) (ends-ext m (suc i) (omega arith) (reduced-ext g)))
-
--- the tests of row i as one, and all that they say
-module _ (S : Matrix) {i n : ℕ} (h : i < n) where
-  pub tests-pass : (leZ (pos 1) (S i i) && rowFrom S i (suc i) (n - suc i)) ≡ true → RowPasses S i n
-  tests-pass e =
-      record {
-        first = le-of (pos 1) (S i i) (and-left _ _ e);
-        later = λ j p q. row-passes S i (n - suc i) (suc i) j (and-right (leZ (pos 1) (S i i)) _ e) p (omega arith);
-      }
-
-  pub pass-tests : RowPasses S i n → (leZ (pos 1) (S i i) && rowFrom S i (suc i) (n - suc i)) ≡ true
-  pass-tests p =
-      and-of {a = leZ (pos 1) (S i i)} (leZ-true (p .first)) (row-of S i (n - suc i) (suc i) (λ l k m. p .later l k (omega arith)))
-
-  pub tests-ext : {S′ : Matrix} → Agree n i S S′ →
-      (leZ (pos 1) (S i i) && rowFrom S i (suc i) (n - suc i)) ≡ (leZ (pos 1) (S′ i i) && rowFrom S′ i (suc i) (n - suc i))
-  tests-ext g =
-      ap₂ _&&_ (ap (leZ (pos 1)) (g .entries i i (omega arith) (omega arith) h)) (row-ext n g (n - suc i) (suc i) (omega arith) (omega arith))
 
 -- ---- rests only fall
 pub reduced-≤ : (S : Matrix) (i j : ℕ) → reduced S i j j ≤ℤ S j j

@@ -1,8 +1,8 @@
--- A row that is taken off the rows after it, column by column and entry by entry.
+-- A row step, column by column and entry by entry.
 use mathlib.Core.Path.{_≡_, refl, sym, ap, ap₂, _∙_, subst}
 use mathlib.Core.Bool.{Bool, true, false}
 use mathlib.Core.List.{List, [], _∷_}
-use Prim.Native.Nat.{ℕ, suc, _+_, _*_, _^_, _≤_, _<_}
+use Prim.Native.Nat.{ℕ, suc, _+_, _*_, _≤_, _<_}
 use native.Mathlib.Omega.{arith}
 use native.Mathlib.Decide.{ℕ-discrete}
 use lib.Dec.{T}
@@ -24,23 +24,23 @@ use Rattle.tables.proofs.Checks.{of-true, and-first-false}
 use Rattle.cholesky.specs.Factoring.{goesOn}
 use Rattle.cholesky.specs.Store.{upper, stride}
 use Rattle.cholesky.specs.Reduced.{rowEntry, reduced}
-use Rattle.cholesky.specs.Rows.{Sized, Rowed, TakenOff, ColumnTaken, RowDone, ColumnsTaken, RowTaken}
+use Rattle.cholesky.specs.Rows.{productRange, restRange, Factorable, Rowed, Subtracted, ColumnTaken, RowDone, ColumnsTaken, RowTaken}
 use Rattle.cholesky.proofs.Loops.{passes}
 use Rattle.cholesky.proofs.Store.{upper-same, upper-other}
 use Rattle.cholesky.proofs.Reduced.{reduced-≤}
 
 -- ---- entries of a column, one by one
 module _ {s : List ℤ} {i j : ℕ} {r : ℤ} where
-  pub taken-start : length s ≡ tableRoom → TakenOff s i j r (suc i) s
+  pub taken-start : length s ≡ tableRoom → Subtracted s i j r (suc i) s
   taken-start h = record { size = h; taken = λ k l m. absurd (omega arith); kept = λ k l h f. refl }
 
-  module _ {m : ℕ} {s′ : List ℤ} (w : TakenOff s i j r m s′) where
+  module _ {m : ℕ} {s′ : List ℤ} (w : Subtracted s i j r m s′) where
     -- entry (m,j) and r(i,m) are as they were
     pub taken-reads : i < m → m < greatestOrder → upper s′ m j -ℤ upper s′ i m *ℤ r ≡ upper s m j -ℤ upper s i m *ℤ r
     taken-reads h k =
         ap₂ (λ (x y : ℤ). x -ℤ y *ℤ r) (w .kept m j k (λ e p q. absurd (omega arith))) (w .kept i m (omega arith) (λ e p q. absurd (omega arith)))
 
-    pub taken-more : i < m → m ≤ j → j < greatestOrder → {v : ℤ} → v ≡ upper s m j -ℤ upper s i m *ℤ r → TakenOff s i j r (suc m) (set s′ (stride * j + m) v)
+    pub taken-more : i < m → m ≤ j → j < greatestOrder → {v : ℤ} → v ≡ upper s m j -ℤ upper s i m *ℤ r → Subtracted s i j r (suc m) (set s′ (stride * j + m) v)
     taken-more h k l {v} e =
         record {
           size = length-set s′ (stride * j + m) v ∙ w .size;
@@ -53,7 +53,7 @@ module _ {s : List ℤ} {i j : ℕ} {r : ℤ} where
         go a p q (no u) = upper-other s′ m j v a j (omega arith) ∙ w .taken a p (omega arith)
 
   -- 64 bits hold the product that comes next, and what it leaves
-  module _ {m : ℕ} {s′ : List ℤ} (w : TakenOff s i j r m s′) (d : Rowed s i j (suc j)) (h : Within factorRange r) (p : i < m) (q : m ≤ j) where
+  module _ {m : ℕ} {s′ : List ℤ} (w : Subtracted s i j r m s′) (d : Rowed s i j (suc j)) (h : Within factorRange r) (p : i < m) (q : m ≤ j) where
     pub product-fits : SFits w64 (upper s′ i m *ℤ r)
     product-fits =
         let inside = d .inside in
@@ -104,7 +104,7 @@ module _ {s : List ℤ} {i j : ℕ} (d : Rowed s i j j) (r : ℤ) where
       }
 
   -- what is left of the diagonal entry
-  pub column-in : within factorRange r ≡ true → {s′ : List ℤ} → TakenOff stored i j r (suc j) s′ → ColumnTaken s i j r (leZ (pos 1) (upper s′ j j)) s′
+  pub column-in : within factorRange r ≡ true → {s′ : List ℤ} → Subtracted stored i j r (suc j) s′ → ColumnTaken s i j r (leZ (pos 1) (upper s′ j j)) s′
   unfolding goesOn
   column-in e {s′} w =
       let before = d .before in
@@ -133,7 +133,7 @@ pub record RowGoing (s : List ℤ) (i e j : ℕ) (s′ : List ℤ) : Type 0 wher
   pub done : RowDone s i j s′
   pub todo : (a b : ℕ) → i ≤ a → a ≤ b → j ≤ b → b < e → upper s′ a b ≡ upper s a b
 
-module _ {s : List ℤ} {e i : ℕ} (z : Sized s e i) where
+module _ {s : List ℤ} {e i : ℕ} (z : Factorable s e i) where
   abbrev S : Matrix
   S = upper s
 
@@ -166,7 +166,7 @@ module _ {s : List ℤ} {e i : ℕ} (z : Sized s e i) where
           heights = λ k u v. rw (w .todo k j (omega arith) v (omega arith) q) (go k u v (ℕ-discrete k j));
         }
       where
-        go : (k : ℕ) → i < k → k ≤ j → Dec (k ≡ j) → Within (2 ^ 60) (upper s k j)
+        go : (k : ℕ) → i < k → k ≤ j → Dec (k ≡ j) → Within restRange (upper s k j)
         go k u v (yes x) = rw x (within-more (omega arith) (z .on j (omega arith) q))
         go k u v (no x) = within-more (omega (arith, z .order)) (z .off k j (omega arith) (omega arith) q)
 
@@ -247,9 +247,9 @@ module _ {s : List ℤ} {e i : ℕ} (z : Sized s e i) where
       }
 
   -- 64 bits hold what is left
-  pub left-sized : {r : ℕ} {s′ : List ℤ} → r ≤ e → RowDone s i r s′ → Sized s′ r (suc i)
+  pub left-factorable : {r : ℕ} {s′ : List ℤ} → r ≤ e → RowDone s i r s′ → Factorable s′ r (suc i)
   unfolding reduced
-  left-sized {r} h w =
+  left-factorable {r} h w =
       let room = z .order in
       record {
         size = w .size;
@@ -259,17 +259,17 @@ module _ {s : List ℤ} {e i : ℕ} (z : Sized s e i) where
             (within-more (omega arith) (within-- (z .off a b (omega arith) q (omega arith)) (within-* (small w (omega arith) (omega arith)) (small w (omega arith) l))));
         on = λ a p q.
             rw (w .left a a (omega arith) (omega arith) q)
-            (within-more {m = 2 ^ 52} (omega arith)
+            (within-more {m = productRange} (omega arith)
             (within-in (order (reduced S i a a ∷ []) (passes _ _ (of-true (w .tests a (omega arith) q)) .some) (search solver depth 40 fits 20000) (omega arith)) (top a p q)));
         top = λ a p q. rw (w .left a a (omega arith) (omega arith) q) (top a p q);
       }
     where
-      top : (a : ℕ) → suc i ≤ a → a < r → reduced S i a a ≤ℤ pos (factorRange * factorRange)
+      top : (a : ℕ) → suc i ≤ a → a < r → reduced S i a a ≤ℤ pos productRange
       top a p q = ≤ℤ-trans (reduced-≤ S i a) (z .top a (omega arith) (omega arith))
 
 -- fewer columns
-pub sized-less : {s : List ℤ} {n m i : ℕ} → m ≤ n → Sized s n i → Sized s m i
-sized-less h z =
+pub factorable-less : {s : List ℤ} {n m i : ℕ} → m ≤ n → Factorable s n i → Factorable s m i
+factorable-less h z =
     let o = z .order in
     record {
       size = z .size;

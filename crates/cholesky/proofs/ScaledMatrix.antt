@@ -7,6 +7,7 @@ use native.Mathlib.Omega.{arith}
 use native.Mathlib.Decide.{ℕ-discrete}
 use lib.IntN.{ℤ, pos, _+ℤ_, _-ℤ_, _*ℤ_, +ℤ-idr}
 use lib.Signed.{_≤ℤ_}
+use Rattle.integers.specs.Numbers.{Within}
 use Rattle.integers.proofs.Parts.{≤-in, gap-nonneg}
 use Rattle.integers.proofs.Solver.{_&_, order, solver}
 use Rattle.integers.proofs.Sums.{sum-nonneg, only-same, only-other}
@@ -14,7 +15,8 @@ use Rattle.integers.proofs.Machine.{within-high}
 use Rattle.tables.specs.Ranges.{greatestOrder, entryRange}
 use Rattle.tables.specs.Matrix.{Matrix, rowWidth}
 use Rattle.tables.specs.Bounds.{Bounds}
-use Rattle.cholesky.specs.Scale.{halfScale, takeOff, scaled}
+use Rattle.cholesky.specs.Scale.{halfScale, takeOff, scaledBy}
+use Rattle.cholesky.specs.Rows.{productRange}
 use Rattle.cholesky.proofs.Factored.{ρ}
 
 -- (n - 1) ρ ≤ τ
@@ -25,18 +27,18 @@ pub order-positive : {i n : ℕ} → i < n → pos 1 ≤ℤ pos n
 order-positive h = ≤-in (omega arith)
 
 -- ---- H off the diagonal and on it
-pub scaled-off : (τ : ℤ) (n : ℕ) (L U : Matrix) (i j : ℕ) → i ≢ j → scaled τ n L U i j ≡ halfScale *ℤ (L i j +ℤ U i j)
-unfolding scaled
+pub scaled-off : (τ : ℤ) (n : ℕ) (L U : Matrix) (i j : ℕ) → i ≢ j → scaledBy τ n L U i j ≡ halfScale *ℤ (L i j +ℤ U i j)
+unfolding scaledBy
 scaled-off τ n L U i j d = rw (only-other i j (τ +ℤ halfScale *ℤ rowWidth n L U i) d) (+ℤ-idr _)
 
 pub scaled-on : (τ : ℤ) (n : ℕ) (L U : Matrix) (i : ℕ) →
-    scaled τ n L U i i ≡ halfScale *ℤ (L i i +ℤ U i i) -ℤ (τ +ℤ halfScale *ℤ rowWidth n L U i)
-unfolding scaled
+    scaledBy τ n L U i i ≡ halfScale *ℤ (L i i +ℤ U i i) -ℤ (τ +ℤ halfScale *ℤ rowWidth n L U i)
+unfolding scaledBy
 scaled-on τ n L U i = rw (only-same i (τ +ℤ halfScale *ℤ rowWidth n L U i))
 
 module _ (τ : ℤ) (n : ℕ) (L U : Matrix) (b : Bounds n L U) where
   abbrev H : Matrix
-  H = scaled τ n L U
+  H = scaledBy τ n L U
 
   pub scaled-symmetric : (i j : ℕ) → i < n → j < n → H i j ≡ H j i
   scaled-symmetric i j h k = go (ℕ-discrete i j)
@@ -59,8 +61,17 @@ module _ (τ : ℤ) (n : ℕ) (L U : Matrix) (b : Bounds n L U) where
         (scaled-on τ n L U j & s .enough & order-positive h & width-nonneg j h & b .ordered j j h h & high)
         (search solver depth 40 fits 20000) (omega arith)
 
--- ---- the orders and the take-off of the rules: 2^29 is 8 ρ
-pub take-off-suffices : (n : ℕ) → n ≤ greatestOrder → Suffices takeOff n
+-- ---- the orders and the take-off of the rules: at least ρ for each row
+pub take-off-within : (n : ℕ) → Within productRange (takeOff n)
+unfolding takeOff
+take-off-within n = record { size = omega arith }
+
+pub take-off-nonneg : (n : ℕ) → pos 0 ≤ℤ takeOff n
+unfolding takeOff
+take-off-nonneg n = ≤-in (omega arith)
+
+pub take-off-suffices : (n : ℕ) → n ≤ greatestOrder → Suffices (takeOff n) n
+unfolding takeOff
 take-off-suffices n h = record {
   enough = order (pos n ∷ []) (≤-in {x = pos n} {y = pos greatestOrder} (omega arith)) (search solver depth 40 fits 20000) (omega arith);
 }

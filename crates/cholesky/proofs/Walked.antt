@@ -1,10 +1,11 @@
 -- Row after row: what stands in the table, and where a column stopped.
-use mathlib.Core.Path.{_≡_, refl, sym, ap, _∙_}
+use mathlib.Core.Path.{_≡_, refl, sym, ap, _∙_, subst}
 use mathlib.Core.Bool.{true, false}
 use mathlib.Core.List.{List}
 use Prim.Native.Nat.{ℕ, zero, suc, _≤_, _<_}
 use native.Mathlib.Omega.{arith}
 use native.Mathlib.Decide.{ℕ-discrete}
+use lib.Dec.{T}
 use lib.IntN.{ℤ, pos}
 use lib.Signed.{_≤ℤ_, leZ}
 use Rattle.integers.specs.Root.{wholeRoot}
@@ -13,14 +14,14 @@ use Rattle.tables.proofs.Checks.{of-true, true-of}
 use Rattle.cholesky.specs.Factoring.{goesOn}
 use Rattle.cholesky.specs.Store.{upper}
 use Rattle.cholesky.specs.Reduced.{rowEntry, reduced}
-use Rattle.cholesky.specs.Rows.{Sized, RowDone, ColumnsTaken, RowTaken, Started}
+use Rattle.cholesky.specs.Rows.{Factorable, RowDone, ColumnsTaken, RowTaken, FirstBelowOne}
 use Rattle.cholesky.proofs.Loops.{passes, goes-on}
 use Rattle.cholesky.proofs.Reduced.{leftOf, Agree, RowPasses, entry-ext, reduced-ext}
-use Rattle.cholesky.proofs.Rows.{left-sized, sized-less}
+use Rattle.cholesky.proofs.Rows.{left-factorable, factorable-less}
 
 -- the rows before i pass in the columns before e, and what is left of H after them stands in the table
 pub record Walked (H : Matrix) (t : List ℤ) (i e : ℕ) : Type 0 where
-  pub sized : Sized t e i
+  pub left : Factorable t e i
   pub agree : Agree e i (upper t) (leftOf H i)
   pub passed : (k : ℕ) → k < i → RowPasses (leftOf H k) k e
 
@@ -34,7 +35,7 @@ module _ {H : Matrix} {t : List ℤ} {i e : ℕ} (w : Walked H t i e) (h : i < e
   unfolding leftOf
   walked-row {t′} {r} one o x =
       record {
-        sized = left-sized (w .sized) o x;
+        left = left-factorable (w .left) o x;
         agree = record { entries = λ a b p q l. x .left a b p q l ∙ reduced-ext e (w .agree) .entries a b p q (omega arith) };
         passed = λ k q. go k q (ℕ-discrete k i);
       }
@@ -46,6 +47,11 @@ module _ {H : Matrix} {t : List ℤ} {i e : ℕ} (w : Walked H t i e) (h : i < e
             later = λ j p l. passes _ _ (of-true (sym (test-is j p (omega arith)) ∙ x .tests j p l));
           })
       go k q (no u) = let f = w .passed k (omega arith) in record { first = f .first; later = λ j p l. f .later j p (omega arith) }
+
+  -- a row that a column stops does not pass
+  pub walked-stop : {t′ : List ℤ} {r : ℕ} → ColumnsTaken t i e r t′ → r < e → RowPasses (leftOf H i) i e → ⊥
+  walked-stop {r = r} x o p =
+      subst T (sym (true-of _ (goes-on _ _ (p .later r (x .past) o))) ∙ sym (test-is r (x .past) o) ∙ x .stop o .1) tt
 
 -- ---- factoring
 -- the rows before i are the factor's, and each column before e goes on
@@ -64,12 +70,12 @@ pub record Stop (H : Matrix) (t : List ℤ) (e m : ℕ) : Type 0 where
   pub none : m ≡ 0 → leZ (pos 1) (H e e) ≡ false
   pub last : (k : ℕ) → m ≡ suc k → goesOn (rowEntry (leftOf H k) k e) (leftOf H (suc k) e e) ≡ false
 
-module _ {t : List ℤ} {n r : ℕ} (z : Sized t n 0) (s : Started t n r) where
+module _ {t : List ℤ} {n r : ℕ} (z : Factorable t n 0) (s : FirstBelowOne t n r) where
   pub rows-start : Rows (upper t) t 0 r
   unfolding leftOf
   rows-start =
       record {
-        walked = record { sized = sized-less (s .bound) z; agree = record { entries = λ a b p q l. refl }; passed = λ k p. absurd (omega arith) };
+        walked = record { left = factorable-less (s .bound) z; agree = record { entries = λ a b p q l. refl }; passed = λ k p. absurd (omega arith) };
         top = s .some;
         off = λ k l p q o. absurd (omega arith);
         on = λ k p q. absurd (omega arith);

@@ -1,4 +1,5 @@
--- Factoring row by row, by Schur complements in whole numbers: a matrix S of which only rows and columns from i on are left, S(i,j) with i ≤ j alone.
+-- Factoring row by row, by Schur complements in whole numbers: a matrix S of which only rows and columns from i on are left, S(i,j)
+-- with i ≤ j alone.
 use mathlib.Core.Bool.{Bool, true, _&&_}
 use Prim.Native.Nat.{ℕ, zero, suc}
 use lib.IntN.{ℤ, pos, _-ℤ_, _*ℤ_}

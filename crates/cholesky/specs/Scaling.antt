@@ -7,7 +7,7 @@ use lib.ListN.{length}
 use Rattle.integers.specs.Numbers.{Within}
 use Rattle.tables.specs.Ranges.{greatestOrder, tableRoom, entryRange}
 use Rattle.tables.specs.Matrix.{Matrix, at}
-use Rattle.cholesky.specs.Scale.{takeOff, scaled}
+use Rattle.cholesky.specs.Scale.{scaled}
 use Rattle.cholesky.specs.Store.{upper}
 
 -- the entries of L and U are within ±2^20
@@ -25,4 +25,4 @@ pub record Lent (n : ℕ) (l u : List ℤ) : Type 0 where
 -- the columns of h before column m are those of H, each down to the diagonal
 pub record Scaled (n : ℕ) (L U : Matrix) (h : List ℤ) (m : ℕ) : Type 0 where
   pub size : length h ≡ tableRoom
-  pub entries : (i j : ℕ) → i ≤ j → j < m → upper h i j ≡ scaled takeOff n L U i j
+  pub entries : (i j : ℕ) → i ≤ j → j < m → upper h i j ≡ scaled n L U i j

@@ -3,6 +3,7 @@ use tables::GREATEST_ORDER;
 
 pub mod factoring;
 pub mod problem;
+pub mod row_step;
 pub mod scaling;
 
 // Entry (i, j) of H and of a factor stands at STRIDE j + i, so that a column lies in one piece.

@@ -3,8 +3,7 @@ ghost use mathlib.Core.Path.{_≡_};
 ghost use lib.ListN.{length};
 ghost use Rattle.tables.specs.Ranges.{tableRoom};
 ghost use Rattle.tables.specs.Matrix.{at};
-ghost use Rattle.cholesky.specs.Scale.{takeOff, scaled};
-ghost use Rattle.cholesky.specs.Factoring.{factoring};
+ghost use Rattle.cholesky.specs.Factoring.{factored};
 ghost use Rattle.cholesky.specs.Store.{Stored};
 ghost use Rattle.tables.specs.Bounds.{CheckedTables};
 use crate::factoring::Outcome;
@@ -16,7 +15,7 @@ use tables::Table;
 // Factors H of the tables of L and U, of order n, into the columns of t.
 pub fn factor_tables(n: usize, low: &[i64], high: &[i64], t: &mut Table) -> Outcome
     requires { ⌜ CheckedTables n (now low) (now high) × (length (now t) ≡ tableRoom) ⌝ }
-    ensures { λ r. ⌜ Stored (factoring n (scaled takeOff n (at n (now (low .entry))) (at n (now (high .entry))))) r (now (t .exit)) ⌝ }
+    ensures { λ r. ⌜ Stored (factored n (at n (now (low .entry))) (at n (now (high .entry)))) r (now (t .exit)) ⌝ }
 {
     scale(n, low, high, t);
     factor(n, t)
@@ -25,7 +24,7 @@ pub fn factor_tables(n: usize, low: &[i64], high: &[i64], t: &mut Table) -> Outc
 // Whether factoring the tables of L and U, of order n, ends.
 pub fn ends(n: usize, low: &[i64], high: &[i64]) -> bool
     requires { ⌜ CheckedTables n (now low) (now high) ⌝ }
-    ensures { λ r. ⌜ r ≡ factoring n (scaled takeOff n (at n (now (low .entry))) (at n (now (high .entry)))) .ends ⌝ }
+    ensures { λ r. ⌜ r ≡ factored n (at n (now (low .entry))) (at n (now (high .entry))) .ends ⌝ }
 {
     let mut t = [0i64; TABLE_ROOM];
     let outcome = factor_tables(n, low, high, &mut t);

@@ -1,4 +1,4 @@
-// Document 01, "Factoring": the matrix H that is factored, from the tables of L and U.
+// R6.1 of docs/RULES.md: the matrix H that is factored, from the tables of L and U.
 // L and U lie row by row, entry (i, j) at n i + j. H lies column by column, entry (i, j) at STRIDE j + i, down to the diagonal.
 ghost use mathlib.Core.Path.{_≡_};
 ghost use Prim.Native.Nat.{suc, _<_};
@@ -17,8 +17,15 @@ pub const SCALE: i64 = 1 << 32;
 // H is 2^32 times the middle of L and U, so 2^31 times their sum.
 const HALF_SCALE: i64 = 1 << 31;
 
-// What is taken off each diagonal entry, besides the width of its row.
-const TAKE_OFF: i64 = 1 << 29;
+// `takeOff` of the definitions: a factor's range once for each row at the greatest order.
+const ALLOWANCE: i64 = 1 << 29;
+
+// What is taken off each diagonal entry of a matrix of order n, besides the width of its row: the same for every order.
+fn diagonal_allowance(n: usize) -> i64
+    ensures { λ r. ⌜ r ≡ takeOff n ⌝ }
+{
+    ALLOWANCE
+}
 
 // w(i): the sum of U(i,k) - L(i,k) over all k, i included.
 fn row_width(n: usize, low: &[i64], high: &[i64], i: usize) -> i64
@@ -47,9 +54,9 @@ fn middle(n: usize, low: &[i64], high: &[i64], i: usize, j: usize) -> i64
 // H(j,j).
 fn diagonal(n: usize, low: &[i64], high: &[i64], j: usize) -> i64
     requires { ⌜ Lent n (now low) (now high) × (j < n) ⌝ }
-    ensures { λ r. ⌜ r ≡ scaled takeOff n (at n (now (low .entry))) (at n (now (high .entry))) j j ⌝ }
+    ensures { λ r. ⌜ r ≡ scaled n (at n (now (low .entry))) (at n (now (high .entry))) j j ⌝ }
 {
-    middle(n, low, high, j, j) - (TAKE_OFF + HALF_SCALE * row_width(n, low, high, j))
+    middle(n, low, high, j, j) - (diagonal_allowance(n) + HALF_SCALE * row_width(n, low, high, j))
 }
 
 // Fills column j of h, after the columns before it.

@@ -1,4 +1,4 @@
--- A point X over p of the ellipsoid, seen from the centre c. With Y = X - p c, a member N over q, and D and g(k) of document 01:
+-- A point X over p of the ellipsoid, seen from the centre c. With Y = X - p c, a member N over q, and D and g(k) of R13:
 -- Y'NY ≤ p² q D + 2 p q Σ g(k) |Y(k)|.
 use mathlib.Core.Path.{_≡_, refl, ap, _∙_, fun-ext}
 use mathlib.Core.Logic.{_⊎_, inl, inr}
@@ -18,7 +18,7 @@ use Rattle.tables.specs.Members.{Member}
 use Rattle.tables.proofs.Forms.{image, form-shift}
 use Rattle.vectors.specs.Least.{leastValue}
 use Rattle.vectors.proofs.Showing.{least-below}
-use Rattle.sides.specs.Sides.{lowGradient, highGradient, gradient, atCentre}
+use Rattle.centre.specs.Centre.{lowGradient, highGradient, gradient, atCentre}
 use Rattle.enclosure.specs.Points.{Point}
 
 -- ---- q l ≤ z ≤ q u: z c lies from q times the smaller of l c and u c to q times the greater

@@ -2,29 +2,29 @@
 use mathlib.Core.Path.{_≡_, refl, sym, ap, ap₂, _∙_}
 use mathlib.Core.Bool.{Bool, true, false, _&&_}
 use mathlib.Core.List.{List}
-use Prim.Native.Nat.{ℕ, _+_, _*_, _≤_, _<_}
-use native.Mathlib.Omega.{arith}
+use Prim.Native.Nat.{ℕ, _+_, _≤_, _<_}
 use lib.IntN.{ℤ, pos}
 use lib.Signed.{leZ}
 use lib.ListN.{length}
 use borrow.Author.Tests.{eqb-true}
 use lib.Dec.{eqb}
 use Rattle.integers.specs.Numbers.{Within}
-use Rattle.tables.specs.Ranges.{greatestOrder, sidesRoom, linearRange, limitRange, centreRange}
-use Rattle.tables.specs.Matrix.{Matrix, at, nth, tabulate}
-use Rattle.tables.specs.Checks.{all, sizesOk, within, allWithin, firstRefusal, problemChecks}
-use Rattle.tables.specs.declared.Checked.the-variants.{Passed, Refused}
+use Rattle.tables.specs.Ranges.{sidesRoom, linearRange, limitRange, centreRange, gradientRange}
+use Rattle.tables.specs.Matrix.{Matrix, nth, tabulate}
+use Rattle.tables.specs.Bounds.{CheckedTables}
+use Rattle.tables.specs.Checks.{all, sizesOk, within, allWithin, termsWithin}
 use Rattle.tables.specs.declared.Refusal.{Refusal}
 use Rattle.tables.specs.declared.Refusal.the-variants.{Flat, Far}
-use Rattle.tables.proofs.Checks.{sizes-of, and-left, and-right, all-at, all-ext, within-of, first-passed, rest-passed, passed-bounds}
-use Rattle.tables.proofs.Answers.{after-refused, after-passed}
+use Rattle.tables.proofs.Checks.{sizes-of, and-left, and-right, all-at, all-ext, within-of}
 use Rattle.tables.proofs.Matrix.{nth-tabulate}
 use Rattle.steps.specs.Steps.{step, stepAt}
-use Rattle.sides.specs.Sides.{gradient, atCentre, boxOf, gradientRange}
-use Rattle.enclosure.specs.Box.{Box, sides, refused, boxed, boxAnswer}
+use Rattle.centre.specs.Centre.{gradient, atCentre}
+use Rattle.sides.specs.Sides.{boxOf}
+use Rattle.enclosure.specs.Box.{Box, sides, refused, boxed}
 use Rattle.sides.proofs.SameBox.{box-same}
-use Rattle.sides.specs.Contracts.{Centred, boxIn, Answered}
-use Rattle.enclosure.specs.Act.{Enclosed, handed, boxSizes}
+use Rattle.centre.specs.Contracts.{Centred}
+use Rattle.sides.specs.Contracts.{boxIn, SidesAnswered}
+use Rattle.enclosure.specs.Act.{Enclosed, laid, boxSizes}
 use Rattle.enclosure.specs.Stating.{stated, Stated}
 use Rattle.enclosure.specs.declared.enclose.BoxAnswer.{BoxAnswer}
 use Rattle.enclosure.specs.declared.enclose.BoxAnswer.the-variants as BoxAnswer
@@ -64,11 +64,11 @@ module _ (n : ℕ) (L U : Matrix) (a : ℕ → ℤ) (α : ℤ) (c : ℕ → ℤ)
 
 -- ---- what the code states
 module _ {b o : Box} {n : ℕ} {x : List ℤ} (e : b ≡ o) where
-  pub stated-sides : Answered o n true x → Stated b n BoxAnswer.Sides x
+  pub stated-sides : SidesAnswered o n true x → Stated b n BoxAnswer.Sides x
   unfolding stated boxIn
   stated-sides a = record { box = e ∙ a .answer; size = a .size }
 
-  pub stated-empty : Answered o n false x → Stated b n BoxAnswer.Empty x
+  pub stated-empty : SidesAnswered o n false x → Stated b n BoxAnswer.Empty x
   unfolding stated boxIn
   stated-empty a = record { box = e ∙ a .answer; size = a .size }
 
@@ -76,61 +76,44 @@ pub stated-refused : {b : Box} {r : Refusal} (n : ℕ) {x : List ℤ} → b ≡ 
 unfolding stated
 stated-refused n e h = record { box = e; size = h }
 
-pub stated-by : {b o : Box} {n : ℕ} {r : BoxAnswer} {x : List ℤ} → b ≡ o → Stated o n r x → Stated b n r x
-stated-by e s = record { box = e ∙ s .box; size = s .size }
+-- ---- what check 3 finds beside the tables
+module _ (n : ℕ) (a : List ℤ) (α : ℤ) (c : List ℤ) (e : termsWithin n a α c ≡ true) where
+  pub limit-within : Within limitRange α
+  unfolding termsWithin
+  limit-within = within-of limitRange α (and-left (within limitRange α) (allWithin centreRange n c) (and-right (allWithin linearRange n a) _ e))
 
--- ---- checks 3, 4 and 5
-module _ (n : ℕ) (l u a : List ℤ) (α : ℤ) (c : List ℤ) where
-  pub answer-refused : (r : Refusal) → firstRefusal (problemChecks n l u a α c) ≡ Refused r → boxAnswer n l u a α c ≡ refused r
-  unfolding boxAnswer
-  answer-refused r e = sym (after-refused refused r _ e)
-
-  module _ (e : firstRefusal (problemChecks n l u a α c) ≡ Passed) where
-    pub answer-passed : boxAnswer n l u a α c ≡ boxed n (at n l) (at n u) (nth a) α (nth c)
-    unfolding boxAnswer
-    answer-passed = sym (after-passed refused _ e)
-
-    -- what check 3 found beside the tables
-    in-range : (allWithin linearRange n a && (within limitRange α && allWithin centreRange n c)) ≡ true
-    unfolding problemChecks
-    in-range = first-passed _ _ e
-
-    pub limit-within : Within limitRange α
-    limit-within = within-of limitRange α (and-left (within limitRange α) (allWithin centreRange n c) (and-right (allWithin linearRange n a) _ in-range))
-
-    pub centred : n ≤ greatestOrder → n * n ≤ length l → n * n ≤ length u → n ≤ length a → n ≤ length c → Centred n l u a c
-    unfolding allWithin problemChecks
-    centred o p q r s = record {
-      tables = record { order = o; low-length = p; high-length = q; bounds = passed-bounds n l u (rest-passed _ _ e) };
-      linear-length = r;
-      centre-length = s;
-      linear = λ k h. within-of linearRange (nth a k) (all-at _ n (and-left _ (within limitRange α && allWithin centreRange n c) in-range) k h);
-      centre = λ k h. within-of centreRange (nth c k) (all-at _ n (and-right (within limitRange α) _ (and-right (allWithin linearRange n a) _ in-range)) k h);
-    }
+  pub centred : {l u : List ℤ} → CheckedTables n l u → n ≤ length a → n ≤ length c → Centred n l u a c
+  unfolding allWithin termsWithin
+  centred t r s = record {
+    tables = t;
+    linear-length = r;
+    centre-length = s;
+    linear = λ k h. within-of linearRange (nth a k) (all-at _ n (and-left _ (within limitRange α && allWithin centreRange n c) e) k h);
+    centre = λ k h. within-of centreRange (nth c k) (all-at _ n (and-right (within limitRange α) _ (and-right (allWithin linearRange n a) _ e)) k h);
+  }
 
 -- ---- what is handed out with it, in a buffer of any kind
 module _ {A : Type 0} (F : List ℤ → A) (n : ℕ) {b : Box} {r : BoxAnswer} {x : List ℤ} (st : Stated b n r x) (s : A) where
-  given-by : (q : BoxAnswer) → r ≡ q → handed F (stated n q x) s ≡ handed F b s
-  given-by q e = sym (ap (λ (g : Box). handed F g s) (st .box ∙ ap (λ (r : BoxAnswer). stated n r x) e))
+  given-by : (q : BoxAnswer) → r ≡ q → laid F (stated n q x) s ≡ laid F b s
+  given-by q e = sym (ap (λ (g : Box). laid F g s) (st .box ∙ ap (λ (r : BoxAnswer). stated n r x) e))
 
-  pub given-sides : {s′ : A} → r ≡ BoxAnswer.Sides → s′ ≡ F (tabulate (n + n) (nth x)) → _≡_ {A = Enclosed A} (record { answer = BoxAnswer.Sides; sides = s′ }) (handed F b s)
+  pub given-sides : {s′ : A} → r ≡ BoxAnswer.Sides → s′ ≡ F (tabulate (n + n) (nth x)) → _≡_ {A = Enclosed A} (record { answer = BoxAnswer.Sides; sides = s′ }) (laid F b s)
   unfolding stated
   given-sides e w = rw w (given-by BoxAnswer.Sides e)
 
-  pub given-empty : r ≡ BoxAnswer.Empty → _≡_ {A = Enclosed A} (record { answer = BoxAnswer.Empty; sides = s }) (handed F b s)
+  pub given-empty : r ≡ BoxAnswer.Empty → _≡_ {A = Enclosed A} (record { answer = BoxAnswer.Empty; sides = s }) (laid F b s)
   unfolding stated
   given-empty e = given-by BoxAnswer.Empty e
 
-  pub given-refused : (k : Refusal) → r ≡ BoxAnswer.Refused k → _≡_ {A = Enclosed A} (record { answer = BoxAnswer.Refused k; sides = s }) (handed F b s)
+  pub given-refused : (k : Refusal) → r ≡ BoxAnswer.Refused k → _≡_ {A = Enclosed A} (record { answer = BoxAnswer.Refused k; sides = s }) (laid F b s)
   unfolding stated
   given-refused k e = given-by (BoxAnswer.Refused k) e
 
 -- ---- checks 1 and 2 passed
 pub box-sizes-of : (size entries pairs l u a c s : ℕ) → boxSizes size entries pairs l u a c s ≡ true →
-    (size ≤ l) × (size ≤ u) × (entries ≤ a) × (entries ≤ c) × (s ≡ pairs)
+    (l ≡ size) × (u ≡ size) × (a ≡ entries) × (c ≡ entries) × (s ≡ pairs)
 unfolding boxSizes
 box-sizes-of size entries pairs l u a c s e =
     let z = sizes-of size entries l u a (and-left (sizesOk size entries l u a) (eqb c entries && eqb s pairs) e) in
     let t = and-right (sizesOk size entries l u a) (eqb c entries && eqb s pairs) e in
-    let q = eqb-true c entries (and-left (eqb c entries) (eqb s pairs) t) in
-    (z .0, z .1, z .2, omega arith, eqb-true s pairs (and-right (eqb c entries) (eqb s pairs) t))
+    (z .0, z .1, z .2, eqb-true c entries (and-left (eqb c entries) (eqb s pairs) t), eqb-true s pairs (and-right (eqb c entries) (eqb s pairs) t))

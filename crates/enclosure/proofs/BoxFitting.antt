@@ -2,7 +2,7 @@
 use mathlib.Core.Path.{_≡_, refl, sym, subst}
 use mathlib.Core.Bool.{Bool, true, false}
 use mathlib.Core.List.{List}
-use Prim.Native.Nat.{ℕ, _+_, _*_, _/_, _^_, _≤_, _<_}
+use Prim.Native.Nat.{ℕ, _+_, _*_, _/_, _≤_, _<_}
 use native.Mathlib.Omega.{arith}
 use native.Mathlib.Decide.{decLt}
 use lib.IntN.{ℤ, pos, _+ℤ_}
@@ -11,32 +11,36 @@ use lib.ListN.{length}
 use Rattle.integers.specs.Numbers.{Within}
 use Rattle.integers.specs.Division.{ceilDiv}
 use Rattle.integers.specs.Root.{leastRoot}
-use Rattle.integers.proofs.Machine.{within-more, within-+, within--}
-use Rattle.tables.specs.Ranges.{greatestOrder, limitRange, centreRange}
+use Rattle.integers.proofs.Machine.{within-+, within--}
+use Rattle.tables.specs.Ranges.{greatestOrder, limitRange, centreRange, gradientRange}
 use Rattle.tables.specs.Matrix.{Matrix, at, nth, tabulate}
-use Rattle.tables.specs.Checks.{all, firstRefusal, problemChecks}
-use Rattle.tables.specs.declared.Checked.{Checked}
-use Rattle.tables.specs.declared.Checked.the-variants.{Passed, Refused}
+use Rattle.tables.specs.Checks.{all, orderOf}
+use Rattle.tables.specs.Problem.{problemOf}
 use Rattle.tables.proofs.Matrix.{length-tabulate, nth-tabulate}
+use Rattle.tables.proofs.Checks.{passed-bounds}
+use Rattle.tables.proofs.Admission.{order-small, entered-means}
 use Rattle.cholesky.proofs.Lists.{nth-past}
 use Rattle.steps.specs.Steps.{step, stepAt}
-use Rattle.sides.specs.Sides.{gradient, bound, secondBound, halfSide, sidesFrom, boxOf, gradientRange}
-use Rattle.enclosure.specs.Box.{Box, sides, empty, refused, boxed, boxAnswer}
+use Rattle.centre.specs.Centre.{gradient}
+use Rattle.sides.specs.Sides.{bound, secondBound, halfSide, sidesFrom, boxOf}
+use Rattle.enclosure.specs.Box.{Box, sides, empty, refused, boxed, problemBox, boxing}
 use Rattle.tables.specs.Buffers.{Filled}
 use Rattle.arithmetic.specs.Contracts.{boundRange}
-use Rattle.sides.specs.Contracts.{Centred, Ready}
+use Rattle.centre.specs.Contracts.{Centred}
+use Rattle.sides.specs.Contracts.{halfRange, sideRange, SidesReady}
 use Rattle.enclosure.proofs.Halves.{one-of}
+use Rattle.enclosure.proofs.Readiness.{ready-of}
 use Rattle.enclosure.proofs.Enclosing.{length-sides, sides-at}
-use Rattle.sides.proofs.HalfSides.{ready-of, bound-within, halves-within, half-terms, second-within, smaller-within, second-is, half-is}
-use Rattle.enclosure.proofs.BoxCases.{box-flat, box-far, box-near, answer-refused, answer-passed, limit-within, centred}
+use Rattle.sides.proofs.HalfSides.{bound-within, halves-within, half-terms, second-within, smaller-within, second-is, half-is}
+use Rattle.enclosure.proofs.BoxCases.{box-flat, box-far, box-near, limit-within, centred}
 
 -- the numbers of a list, past its end too (where it reads 0), are within ±b
-pub record Sized (m b : ℕ) (x : List ℤ) : Type 0 where
+pub record Small (m b : ℕ) (x : List ℤ) : Type 0 where
   pub size : length x ≡ m
   pub small : (i : ℕ) → Within b (nth x i)
 
 abbrev pub Fitting : ℕ → Box → Type 0
-Fitting n (sides s) = Sized (n + n) (2 ^ 31) s
+Fitting n (sides s) = Small (n + n) sideRange s
 Fitting n empty = Unit {0}
 Fitting n (refused r) = Unit {0}
 
@@ -45,27 +49,27 @@ filled : (n : ℕ) → n ≤ greatestOrder → (f : ℕ → ℤ) → Filled grea
 filled n o f = record { size = length-tabulate greatestOrder f; entries = λ k h. nth-tabulate greatestOrder f k (omega arith) }
 
 -- ---- sides c(k) - h(k) and c(k) + h(k)
-module _ (n : ℕ) (c h : ℕ → ℤ) (v : (k : ℕ) → k < n → Within centreRange (c k)) (w : (k : ℕ) → k < n → Within (2 ^ 30) (h k)) where
-  low-small : (k : ℕ) → k < n → Within (2 ^ 31) (nth (sidesFrom n c h) (k + k))
-  low-small k l = rw (sides-at c h n k l .0) (within-more (omega arith) (within-- (v k l) (w k l)))
+module _ (n : ℕ) (c h : ℕ → ℤ) (v : (k : ℕ) → k < n → Within centreRange (c k)) (w : (k : ℕ) → k < n → Within halfRange (h k)) where
+  low-small : (k : ℕ) → k < n → Within sideRange (nth (sidesFrom n c h) (k + k))
+  low-small k l = rw (sides-at c h n k l .0) (within-- (v k l) (w k l))
 
-  high-small : (k : ℕ) → k < n → Within (2 ^ 31) (nth (sidesFrom n c h) (k + k + 1))
-  high-small k l = rw (sides-at c h n k l .1) (within-more (omega arith) (within-+ (v k l) (w k l)))
+  high-small : (k : ℕ) → k < n → Within sideRange (nth (sidesFrom n c h) (k + k + 1))
+  high-small k l = rw (sides-at c h n k l .1) (within-+ (v k l) (w k l))
 
-  sides-sized : Sized (n + n) (2 ^ 31) (sidesFrom n c h)
+  sides-sized : Small (n + n) sideRange (sidesFrom n c h)
   sides-sized = record { size = length-sides c h n; small = λ i. number i (decLt i (n + n)) (decLt (i / 2 + i / 2) i) }
     where
-      number : (i : ℕ) → Dec (i < n + n) → Dec (i / 2 + i / 2 < i) → Within (2 ^ 31) (nth (sidesFrom n c h) i)
+      number : (i : ℕ) → Dec (i < n + n) → Dec (i / 2 + i / 2 < i) → Within sideRange (nth (sidesFrom n c h) i)
       number i (no l) d = rw (nth-past (sidesFrom n c h) i (omega (arith, length-sides c h n))) (record { size = omega arith })
       number i (yes l) (yes d) =
           let e : i / 2 + i / 2 + 1 ≡ i = omega arith in
-          subst (λ (j : ℕ). Within (2 ^ 31) (nth (sidesFrom n c h) j)) e (high-small (i / 2) (omega arith))
+          subst (λ (j : ℕ). Within sideRange (nth (sidesFrom n c h) j)) e (high-small (i / 2) (omega arith))
       number i (yes l) (no d) =
           let e : i / 2 + i / 2 ≡ i = omega arith in
-          subst (λ (j : ℕ). Within (2 ^ 31) (nth (sidesFrom n c h) j)) e (low-small (i / 2) (omega arith))
+          subst (λ (j : ℕ). Within sideRange (nth (sidesFrom n c h) j)) e (low-small (i / 2) (omega arith))
 
 -- ---- the box of numbers that were let through
-module _ {n : ℕ} {c : List ℤ} {d t : ℤ} {g : List ℤ} (q : Ready n c d t g) (tk : ℕ → ℤ) where
+module _ {n : ℕ} {c : List ℤ} {d t : ℤ} {g : List ℤ} (q : SidesReady n c d t g) (tk : ℕ → ℤ) where
   abbrev halves : ℕ → ℤ
   halves k = ceilDiv (nth g k) t +ℤ leastRoot t (bound n d t (nth g))
 
@@ -80,9 +84,9 @@ module _ {n : ℕ} {c : List ℤ} {d t : ℤ} {g : List ℤ} (q : Ready n c d t 
       subst (Within boundRange) (second-is n (nth c) d t tk (nth g) halves-filled)
       (second-within (half-terms (q .near) first-bound halves-filled) (q .difference))
 
-  half-small : (k : ℕ) → k < n → Within (2 ^ 30) (halfSide n d t (nth g) tk k)
+  half-small : (k : ℕ) → k < n → Within halfRange (halfSide n d t (nth g) tk k)
   half-small k h =
-      subst (Within (2 ^ 30)) (half-is n (nth c) d t tk (nth g) halves-filled k h)
+      subst (Within halfRange) (half-is n (nth c) d t tk (nth g) halves-filled k h)
       (smaller-within (nth (tabulate greatestOrder halves) k) (tk k) (secondBound n d t (nth g)) (halves-within (q .near) first-bound halves-filled k h) second-bound)
 
   box-of-fitting : Fitting n (boxOf n (nth c) d t tk (nth g))
@@ -124,11 +128,13 @@ module _ {n : ℕ} {l u a c : List ℤ} (q : Centred n l u a c) {α : ℤ} (w : 
           subst (Fitting n) (sym (box-near n L U (nth a) α (nth c) e (nth g) (gradients-filled .entries) f (stepAt n L U) (λ k h. refl)))
           (box-of-fitting (ready-of q (one-of (step n L U) e) gradients-filled f w) (stepAt n L U))
 
-pub answer-fitting : (n : ℕ) → n ≤ greatestOrder → (l u a : List ℤ) (α : ℤ) (c : List ℤ) → n * n ≤ length l → n * n ≤ length u → n ≤ length a → n ≤ length c →
-    Fitting n (boxAnswer n l u a α c)
-answer-fitting n o l u a α c h i j k = go (firstRefusal (problemChecks n l u a α c)) refl
-  where
-    go : (x : Checked) → firstRefusal (problemChecks n l u a α c) ≡ x → Fitting n (boxAnswer n l u a α c)
-    go (Refused r) e = subst (Fitting n) (sym (answer-refused n l u a α c r e)) tt
-    go Passed e =
-        subst (Fitting n) (sym (answer-passed n l u a α c e)) (boxed-fitting (centred n l u a α c e o h i j k) (limit-within n l u a α c e))
+pub boxing-fitting : (n : ℤ) (sized : Bool) (l u a : List ℤ) (α : ℤ) (c : List ℤ) →
+    (let k = orderOf n in k * k ≤ length l → k * k ≤ length u → k ≤ length a → k ≤ length c → Fitting k (boxing n sized (problemOf k l u a α c)))
+unfolding boxing problemBox
+boxing-fitting n sized l u a α c h i j m =
+    let k = orderOf n in
+    entered-means n sized _ l u refused _ (Fitting k) (λ r. tt)
+    (λ b.
+    boxed-fitting
+    (centred k a α c (b .within) (record { order = order-small n; low-length = h; high-length = i; bounds = passed-bounds k l u (b .tables) }) j m)
+    (limit-within k a α c (b .within)))

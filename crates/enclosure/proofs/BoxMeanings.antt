@@ -1,41 +1,33 @@
 -- What the box act's answer means, of any call at all.
-use mathlib.Core.Path.{_≡_, refl}
-use mathlib.Core.Bool.{Bool, true, false, false≢true}
+use mathlib.Core.Bool.{Bool, false≢true}
 use mathlib.Core.List.{List}
-use Prim.Native.Nat.{ℕ, _≤_}
-use lib.IntN.{ℤ, natAbs}
-use Rattle.tables.specs.Ranges.{greatestOrder}
+use lib.IntN.{ℤ}
 use Rattle.tables.specs.Matrix.{at, nth}
-use Rattle.tables.specs.Checks.{firstRefusal}
-use Rattle.tables.specs.Answers.{after, entryChecks}
-use Rattle.tables.specs.declared.Checked.{Checked}
-use Rattle.tables.specs.declared.Checked.the-variants.{Passed, Refused}
-use Rattle.tables.proofs.Checks.{first-passed, order-of}
-use Rattle.enclosure.specs.Box.{Box, sides, empty, refused, boxAnswer}
-use Rattle.enclosure.specs.Act.{Enclosed, handed, enclose, Meaning}
-use Rattle.enclosure.proofs.Enclosing.{Says, answer-says}
+use Rattle.tables.specs.Checks.{orderOf}
+use Rattle.tables.specs.Problem.{constraintOf, problemOf}
+use Rattle.tables.specs.declared.problem.Constraint.{Constraint}
+use Rattle.tables.proofs.Checks.{passed-bounds}
+use Rattle.tables.proofs.Admission.{order-small, entered-means}
+use Rattle.enclosure.specs.Box.{Box, sides, empty, refused, boxed, problemBox, boxing}
+use Rattle.enclosure.specs.Act.{Enclosed, laid, Meaning}
+use Rattle.enclosure.proofs.Enclosing.{Says, box-says}
 
 -- the sides as they are
 abbrev whole : Box → List ℤ → Enclosed (List ℤ)
-whole = handed (λ s. s)
+whole = laid (λ s. s)
 
-module _ (l u a : List ℤ) (α : ℤ) (c s : List ℤ) where
-  box-means : (n : ℕ) (b : Box) → Says n (at n l) (at n u) (nth a) α b → Meaning (whole b s .answer) n l u a α (whole b s .sides)
-  box-means n (sides t) h = record { holds = λ e. h; none = λ e. absurd (false≢true cc) }
-  box-means n empty h = record { holds = λ e. absurd (false≢true cc); none = λ e. h }
-  box-means n (refused r) h = record { holds = λ e. absurd (false≢true cc); none = λ e. absurd (false≢true cc) }
+pub box-means : (c : Constraint) (s : List ℤ) (b : Box) → Says (c .order) (at (c .order) (c .low)) (at (c .order) (c .high)) (nth (c .linear)) (c .limit) b →
+    Meaning (whole b s .answer) c (whole b s .sides)
+box-means c s (sides t) h = record { holds = λ e. h; none = λ e. absurd (false≢true cc) }
+box-means c s empty h = record { holds = λ e. absurd (false≢true cc); none = λ e. h }
+box-means c s (refused r) h = record { holds = λ e. absurd (false≢true cc); none = λ e. absurd (false≢true cc) }
 
-  -- checks that are made first change nothing of it, whatever sizes check 2 asks for
-  pub entry-means : (n : ℤ) (sized : Bool) →
-      (let j = whole (after refused (firstRefusal (entryChecks n sized)) (boxAnswer (natAbs n) l u a α c)) s in Meaning (j .answer) (natAbs n) l u a α (j .sides))
-  unfolding after entryChecks
-  entry-means n sized = go (firstRefusal (entryChecks n sized)) (λ p. order-of (first-passed _ _ p) .1)
-    where
-      go : (k : Checked) → (k ≡ Passed → natAbs n ≤ greatestOrder) →
-          (let j = whole (after refused k (boxAnswer (natAbs n) l u a α c)) s in Meaning (j .answer) (natAbs n) l u a α (j .sides))
-      go Passed o = box-means (natAbs n) (boxAnswer (natAbs n) l u a α c) (answer-says (natAbs n) (o refl) l u a α c)
-      go (Refused r) o = box-means (natAbs n) (refused r) tt
-
-  pub enclose-means : (n : ℤ) → (let j = enclose n l u a α c s in Meaning (j .answer) (natAbs n) l u a α (j .sides))
-  unfolding enclose
-  enclose-means n = entry-means n _
+-- whatever sizes check 2 asks for
+pub boxing-means : (n : ℤ) (sized : Bool) (l u a : List ℤ) (α : ℤ) (c s : List ℤ) →
+    (let j = whole (boxing n sized (problemOf (orderOf n) l u a α c)) s in Meaning (j .answer) (constraintOf (orderOf n) l u a α) (j .sides))
+unfolding boxing problemBox
+boxing-means n sized l u a α c s =
+    let k = orderOf n in
+    entered-means n sized _ l u refused _ (λ (b : Box). let j = whole b s in Meaning (j .answer) (constraintOf k l u a α) (j .sides))
+    (λ r. box-means (constraintOf k l u a α) s (refused r) tt)
+    (λ b. box-means (constraintOf k l u a α) s (boxed k (at k l) (at k u) (nth a) α (nth c)) (box-says k (order-small n) (at k l) (at k u) (passed-bounds k l u (b .tables)) (nth a) α (nth c)))

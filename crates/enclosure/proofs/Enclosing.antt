@@ -1,5 +1,5 @@
--- Demand 3 of the box: "a box that is given holds every x of fractions with x'Mx + 2a'x ≤ α for some such M, and 'empty' means that
--- there is no such x". For every a, α and centre.
+-- D3.3 and D3.4 of docs/RULES.md: a box contains every point of the ellipsoid, and where the answer is 'empty'
+-- there is no point. For every a, α and centre.
 use mathlib.Core.Path.{_≡_, refl, sym, ap, _∙_}
 use mathlib.Core.Bool.{Bool, true, false}
 use mathlib.Core.List.{List, [], _∷_, _++_}
@@ -16,23 +16,20 @@ use Rattle.integers.specs.Sum.{sum}
 use Rattle.integers.proofs.Solver.{_&_, order, solver}
 use Rattle.integers.proofs.Order.{≤-abs, neg-≤-abs}
 use Rattle.integers.proofs.Sums.{sum-ext}
-use Rattle.tables.specs.Ranges.{greatestOrder}
-use Rattle.tables.specs.Matrix.{Matrix, at, nth, tabulate, form}
+use Rattle.tables.specs.Ranges.{greatestOrder, gradientRange}
+use Rattle.tables.specs.Matrix.{Matrix, nth, tabulate, form}
 use Rattle.tables.specs.Bounds.{Bounds}
-use Rattle.tables.specs.Checks.{problemChecks, all, firstRefusal, tableChecks}
-use Rattle.tables.specs.Answers.{after}
+use Rattle.tables.specs.Checks.{all}
 use Rattle.tables.specs.declared.Refusal.the-variants.{Flat, Far}
-use Rattle.tables.specs.declared.Checked.{Checked}
-use Rattle.tables.specs.declared.Checked.the-variants.{Passed, Refused}
 use Rattle.tables.proofs.Matrix.{nth-tabulate}
-use Rattle.tables.proofs.Checks.{rest-passed, passed-bounds}
 use Rattle.steps.specs.Steps.{step, stepAt}
-use Rattle.sides.specs.Sides.{gradient, atCentre, bound, secondBound, halfSide, sidesFrom, boxOf, gradientRange}
-use Rattle.enclosure.specs.Box.{Box, sides, empty, refused, boxed, boxAnswer}
+use Rattle.centre.specs.Centre.{gradient, atCentre}
+use Rattle.sides.specs.Sides.{bound, secondBound, halfSide, sidesFrom, boxOf}
+use Rattle.enclosure.specs.Box.{Box, sides, empty, refused, boxed}
 use Rattle.enclosure.specs.Points.{Point, Held}
 use Rattle.enclosure.proofs.Strong.{step-strong, step-at-strong}
 use Rattle.enclosure.proofs.AtCentre.{offset, from-offset, around}
-use Rattle.sides.proofs.Magnitudes.{gradient-nonneg}
+use Rattle.centre.proofs.Magnitudes.{gradient-nonneg}
 use Rattle.enclosure.proofs.Halves.{Near, one-of, bound-nonneg, second-bound-nonneg, half-side}
 
 -- what a box says of the points
@@ -150,18 +147,3 @@ module _ (n : ℕ) (order-ok : n ≤ greatestOrder) (L U : Matrix) (b : Bounds n
       go true e f = tt
       go false true f = box-of-says (f refl)
       go false false f = tt
-
--- ---- the answer: refused, or the box of tables that are bounds
-module _ (n : ℕ) (order-ok : n ≤ greatestOrder) (l u a : List ℤ) (α : ℤ) (c : List ℤ) where
-  box-bounds : firstRefusal (problemChecks n l u a α c) ≡ Passed → Bounds n (at n l) (at n u)
-  unfolding problemChecks
-  box-bounds e = passed-bounds n l u (rest-passed _ (tableChecks n l u) e)
-
-  pub answer-says : Says n (at n l) (at n u) (nth a) α (boxAnswer n l u a α c)
-  unfolding boxAnswer after
-  answer-says = go (firstRefusal (problemChecks n l u a α c)) box-bounds
-    where
-      go : (k : Checked) → (k ≡ Passed → Bounds n (at n l) (at n u)) →
-          Says n (at n l) (at n u) (nth a) α (after refused k (boxed n (at n l) (at n u) (nth a) α (nth c)))
-      go (Refused r) f = tt
-      go Passed f = box-says n order-ok (at n l) (at n u) (f refl) (nth a) α (nth c)

@@ -108,7 +108,7 @@ module _ {n : ℕ} {p q D t F : ℤ} {g Y : ℕ → ℤ} (N : Near n p q D t F g
       & *ℤ-mono (*ℤ-nonneg (square-nonneg p) t-nonneg) (leastRoot-law t B (N .one-t)))
       (search solver depth 40 fits 20000) (omega arith))
 
-  -- and so |Y(k)| ≤ p Y(k) of document 01
+  -- and so |Y(k)| ≤ p Y(k), the latter that of R13.4
   pub first-half : (k : ℕ) → k < n → absℤ (Y k) ≤ℤ (p *ℤ firstHalf n D t g k)
   unfolding firstHalf excess
   first-half k h =

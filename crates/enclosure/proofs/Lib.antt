@@ -1,6 +1,7 @@
 pub mod Strong
 pub mod AtCentre
 pub mod Halves
+pub mod Readiness
 pub mod Enclosing
 pub mod BoxMeanings
 pub mod BoxCases

@@ -21,7 +21,7 @@ use Rattle.tables.specs.Bounds.{Bounds}
 use Rattle.tables.specs.Checks.{all, same}
 use Rattle.tables.proofs.Checks.{of-true, all-at, le-of, same-of}
 use Rattle.tables.proofs.Forms.{form-matrix-ext, form-+, form-*, form-prefix}
-use Rattle.cholesky.specs.Scale.{takeOff, scaled}
+use Rattle.cholesky.specs.Scale.{scaled}
 use Rattle.cholesky.specs.Factoring.{factoring}
 use Rattle.theorems.proofs.Margin.{form-diagonal}
 use Rattle.theorems.proofs.Theorems.{ends-definite-takeOff}
@@ -105,7 +105,7 @@ module _ (n : ℕ) (order-ok : n ≤ greatestOrder) (L U : Matrix) (b : Bounds n
   positive = all n (λ i. leZ (pos 1) (lowered d L i i))
 
   abbrev ends : Bool
-  ends = factoring n (scaled takeOff n (lowered d L) (lowered d U)) .ends
+  ends = factoring n (scaled n (lowered d L) (lowered d U)) .ends
 
   trial-says : (positive ≡ true) × (ends ≡ true)
   unfolding trial

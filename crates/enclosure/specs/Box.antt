@@ -1,18 +1,22 @@
--- Document 01, "Box": what the box act answers, from the steps, the bounds at the centre and the sides.
-use mathlib.Core.Bool.{true, false}
-use mathlib.Core.List.{List}
+-- R12 to R14 of docs/RULES.md: what the box act answers, from the steps, the bounds at the centre and the sides.
+use mathlib.Core.Bool.{Bool, true, false}
 use Prim.Native.Nat.{ℕ}
 use lib.IntN.{ℤ, pos}
 use lib.Signed.{leZ}
-use Rattle.tables.specs.Matrix.{Matrix, at, nth, tabulate}
-use Rattle.tables.specs.Checks.{all, firstRefusal, problemChecks}
-use Rattle.tables.specs.Answers.{after}
+use Rattle.tables.specs.Ranges.{gradientRange}
+use Rattle.tables.specs.Matrix.{Matrix, nth, tabulate}
+use Rattle.tables.specs.Checks.{all}
+use Rattle.tables.specs.Problem.{problemWithin}
+use Rattle.tables.specs.declared.problem.Problem.{Problem}
+use Rattle.tables.specs.Entering.{lowBounds, highBounds, entered}
 use Rattle.tables.specs.declared.Refusal.the-variants.{Flat, Far}
 use Rattle.steps.specs.Steps.{step, stepAt}
-use Rattle.sides.specs.Sides.{gradient, atCentre, gradientRange, boxOf}
+use Rattle.centre.specs.Centre.{gradient, atCentre}
+use Rattle.sides.specs.Sides.{boxOf}
 pub use Rattle.sides.specs.Sides.{Box, sides, empty, refused}
 
--- 8 where t is 0, 9 where some g(k) is above 2^20, and else the box
+-- R4.8 and R4.9: 8 where t is 0, 9 where some g(k) is above 2^20, and else the box: of bounds L and U, linear terms a, limit α and
+-- centre c
 unfoldable pub boxed : ℕ → Matrix → Matrix → (ℕ → ℤ) → ℤ → (ℕ → ℤ) → Box
 boxed n L U a α c =
     let t : ℤ = step n L U in
@@ -25,6 +29,13 @@ boxed n L U a α c =
       ]
     ]
 
--- the box of tables, linear terms, limit and centre of order n
-unfoldable pub boxAnswer : ℕ → List ℤ → List ℤ → List ℤ → ℤ → List ℤ → Box
-boxAnswer n l u a α c = after refused (firstRefusal (problemChecks n l u a α c)) (boxed n (at n l) (at n u) (nth a) α (nth c))
+-- the box of a problem that passed the checks
+unfoldable pub problemBox : Problem → Box
+problemBox p =
+    let c = p .constraint in
+    let n : ℕ = c .order in
+    boxed n (lowBounds n (c .low)) (highBounds n (c .high)) (nth (c .linear)) (c .limit) (nth (p .centre))
+
+-- checks 1 to 5, where check 2 finds `sized`, and the box of a problem whose order is that of n
+unfoldable pub boxing : ℤ → Bool → Problem → Box
+boxing n sized p = let c = p .constraint in entered refused n sized (problemWithin p) (c .low) (c .high) (problemBox p)

@@ -1,13 +1,14 @@
--- Demand 3 of the box: the points of the ellipsoid, "every x of fractions with x'Mx + 2a'x ≤ α for some such M", and those that a box holds.
+-- R3.6 and R3.7 of docs/RULES.md: the points of the ellipsoid, and those that a box contains.
 use mathlib.Core.List.{List}
 use Prim.Native.Nat.{ℕ, _+_, _<_}
 use lib.IntN.{ℤ, pos, _+ℤ_, _*ℤ_}
 use lib.Signed.{_≤ℤ_}
 use Rattle.integers.specs.Sum.{sum}
-use Rattle.tables.specs.Matrix.{Matrix, nth, form}
+use Rattle.tables.specs.Matrix.{Matrix, at, nth, form}
 use Rattle.tables.specs.Members.{Member}
+use Rattle.tables.specs.declared.problem.Constraint.{Constraint}
 
--- X over p with x'Mx + 2a'x ≤ α for some member M = N over q, multiplied out
+-- R3.6: X over p, where x'Mx + 2a'x ≤ α for some member M = N over q, multiplied out
 pub record Point (n : ℕ) (L U : Matrix) (a : ℕ → ℤ) (α : ℤ) (X : ℕ → ℤ) (p : ℤ) : Type 0 where
   pub matrix : Matrix
   pub denominator : ℤ
@@ -15,6 +16,10 @@ pub record Point (n : ℕ) (L U : Matrix) (a : ℕ → ℤ) (α : ℤ) (X : ℕ 
   pub whole : pos 1 ≤ℤ p
   pub inside : (form n matrix X +ℤ pos 2 *ℤ p *ℤ denominator *ℤ sum n (λ k. a k *ℤ X k)) ≤ℤ (α *ℤ (p *ℤ p) *ℤ denominator)
 
--- sides s hold X over p: "each x(k) lies from the low to the high of side k, both included", multiplied out
+-- the same of a constraint
+abbrev pub Allowed : Constraint → (ℕ → ℤ) → ℤ → Type 0
+Allowed c X p = Point (c .order) (at (c .order) (c .low)) (at (c .order) (c .high)) (nth (c .linear)) (c .limit) X p
+
+-- R3.7: the sides s contain X over p, multiplied out: p low ≤ X(k) ≤ p high
 abbrev pub Held : ℕ → List ℤ → (ℕ → ℤ) → ℤ → Type 0
 Held n s X p = (k : ℕ) → k < n → ((p *ℤ nth s (k + k)) ≤ℤ X k) × (X k ≤ℤ (p *ℤ nth s (k + k + 1)))

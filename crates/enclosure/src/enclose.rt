@@ -1,25 +1,30 @@
-// The box act.
+// The box act, R14 of docs/RULES.md.
 ghost use mathlib.Core.Path.{_≡_};
 ghost use mathlib.Core.List.{List};
-ghost use Prim.Native.Nat.{_+_, _*_, _≤_};
-ghost use lib.IntN.{ℤ, natAbs};
+ghost use Prim.Native.Nat.{_+_};
+ghost use lib.IntN.{ℤ};
 ghost use lib.ListN.{length};
 ghost use Rattle.integers.specs.Numbers.{Within};
-ghost use Rattle.tables.specs.Ranges.{greatestOrder, sidesRoom, limitRange};
+ghost use Rattle.tables.specs.Ranges.{sidesRoom, limitRange};
 ghost use Rattle.tables.specs.Matrix.{at, nth};
-ghost use Rattle.enclosure.specs.Box.{boxed, boxAnswer};
-ghost use Rattle.sides.specs.Contracts.{Centred};
-ghost use Rattle.enclosure.specs.Act.{Enclosed, handed, boxSizes, enclose, boxCode, Meaning};
+ghost use Rattle.tables.specs.Checks.{orderOf};
+ghost use Rattle.tables.specs.Problem.{constraintOf};
+ghost use Rattle.centre.specs.Contracts.{Centred};
+ghost use Rattle.enclosure.specs.Box.{boxed};
+ghost use Rattle.enclosure.specs.Act.{Enclosed, laid, boxSizes, enclose, boxCode, Meaning};
 ghost use Rattle.enclosure.specs.Stating.{Stated};
+use centre::at_centre;
+use centre::gradients;
+use centre::near;
 use sides::box_of;
-use sides::centre::at_centre;
-use sides::centre::gradients;
-use sides::centre::near;
 use tables::Checked;
 use tables::GREATEST_ORDER;
 use tables::Refusal;
 use tables::SIDES_ROOM;
 use tables::Sides;
+use tables::TABLE_ROOM;
+use tables::entering::enter;
+use tables::entering::order_of;
 
 // What the box act answers: sides, or that there is no point.
 pub enum BoxAnswer {
@@ -39,8 +44,9 @@ pub fn box_code(a: BoxAnswer) -> i64
     }
 }
 
-// Refusals 8 and 9, and the box, of numbers that passed checks 3 to 5. Side k stands at 2 k and 2 k + 1 of out.
-fn bounded(
+// Refusals 8 and 9, and the box, of bounds of order n with linear terms, limit and centre in their ranges. Side k stands at 2 k and 2 k +
+// 1 of out.
+pub fn box_bounds(
     n: usize,
     low: &[i64],
     high: &[i64],
@@ -49,8 +55,10 @@ fn bounded(
     centre: &[i64],
     out: &mut Sides,
 ) -> BoxAnswer
-    requires { ⌜ Centred n (now low) (now high) (now linear) (now centre) × Within limitRange limit × (length (now out) ≡ sidesRoom) ⌝ }
-    ensures { λ r. ⌜ Stated (boxed n (at n (now (low .entry))) (at n (now (high .entry))) (nth (now (linear .entry))) limit (nth (now (centre .entry)))) n r (now (out .exit)) ⌝ }
+    requires { ⌜ Centred n (now low) (now high) (now linear) (now centre) × Within limitRange limit × (length (now out) ≡
+        sidesRoom) ⌝ }
+    ensures { λ r. ⌜ Stated (boxed n (at n (now (low .entry))) (at n (now (high .entry))) (nth (now (linear .entry))) limit (nth
+        (now (centre .entry)))) n r (now (out .exit)) ⌝ }
 {
     let t = steps::step(n, low, high);
     let mut g = [0i64; GREATEST_ORDER];
@@ -71,28 +79,8 @@ fn bounded(
     return BoxAnswer::Empty;
 }
 
-// Checks 3, 4 and 5, refusals 8 and 9, and the box, of tables, linear terms and centre of order n: the first n² or n numbers of each.
-pub fn answer(
-    n: usize,
-    low: &[i64],
-    high: &[i64],
-    linear: &[i64],
-    limit: i64,
-    centre: &[i64],
-    out: &mut Sides,
-) -> BoxAnswer
-    requires { ⌜ (n ≤ greatestOrder) × (n * n ≤ length (now low)) × (n * n ≤ length (now high)) × (n ≤ length (now linear)) × (n ≤ length (now centre)) × (length (now out) ≡ sidesRoom) ⌝ }
-    ensures { λ r. ⌜ Stated (boxAnswer n (now (low .entry)) (now (high .entry)) (now (linear .entry)) limit (now (centre .entry))) n r (now (out .exit)) ⌝ }
-{
-    let checked = tables::check_problem(n, low, high, linear, limit, centre);
-    if let Checked::Refused(r) = checked {
-        return BoxAnswer::Refused(r);
-    }
-    bounded(n, low, high, linear, limit, centre, out)
-}
-
-// Checks 3, 4 and 5, refusals 8 and 9, and the box with its sides, on buffers of the sizes that n calls for.
-fn enclose_tables(
+// The same with the sides in a buffer of the size that n calls for.
+fn enclose_bounds(
     n: usize,
     low: &[i64],
     high: &[i64],
@@ -101,11 +89,14 @@ fn enclose_tables(
     centre: &[i64],
     sides: &mut [i64],
 ) -> BoxAnswer
-    requires { ⌜ (n ≤ greatestOrder) × (n * n ≤ length (now low)) × (n * n ≤ length (now high)) × (n ≤ length (now linear)) × (n ≤ length (now centre)) × (length (now sides) ≡ n + n) ⌝ }
-    ensures { λ r. ⌜ _≡_ {A = Enclosed (List ℤ)} (record { answer = r; sides = now (sides .exit) }) (handed (λ s. s) (boxAnswer n (now (low .entry)) (now (high .entry)) (now (linear .entry)) limit (now (centre .entry))) (now (sides .entry))) ⌝ }
+    requires { ⌜ Centred n (now low) (now high) (now linear) (now centre) × Within limitRange limit × (length (now sides) ≡ n +
+        n) ⌝ }
+    ensures { λ r. ⌜ _≡_ {A = Enclosed (List ℤ)} (record { answer = r; sides = now (sides .exit) }) (laid (λ s. s) (boxed n
+        (at n (now (low .entry))) (at n (now (high .entry))) (nth (now (linear .entry))) limit (nth (now (centre .entry)))) (now
+        (sides .entry))) ⌝ }
 {
     let mut x = [0i64; SIDES_ROOM];
-    let given = answer(n, low, high, linear, limit, centre, &mut x);
+    let given = box_bounds(n, low, high, linear, limit, centre, &mut x);
     match given {
         BoxAnswer::Sides => {
             tables::copy_numbers(n + n, &x, sides);
@@ -132,8 +123,9 @@ pub fn sizes_ok(
     tables::sizes_ok(table, vector, low, high, linear) && (centre == vector && sides == pairs)
 }
 
-// The box of document 01, of any numbers at all: n is an order or not, and each slice has any length.
-// Refused by the first of the checks 1 to 5, 8 and 9 that fails, or empty, with the buffer kept; else the sides are written, low and high for each k.
+// The box, of any numbers at all: n is an order or not, and each slice has any length.
+// Refused by the first of the checks 1 to 5, 8 and 9 that fails, or empty, with the buffer kept; else the sides are written, low and high
+// for each k.
 pub fn enclose(
     n: i64,
     low: &[i64],
@@ -143,14 +135,16 @@ pub fn enclose(
     centre: &[i64],
     sides: &mut [i64],
 ) -> BoxAnswer
-    ensures exact { λ r. ⌜ _≡_ {A = Enclosed (List ℤ)} (record { answer = r; sides = now (sides .exit) }) (enclose n (now (low .entry)) (now (high .entry)) (now (linear .entry)) limit (now (centre .entry)) (now (sides .entry))) ⌝ }
-    ensures meaning { λ r. ⌜ Meaning r (natAbs n) (now (low .entry)) (now (high .entry)) (now (linear .entry)) limit (now (sides .exit)) ⌝ }
+    ensures exact { λ r. ⌜ _≡_ {A = Enclosed (List ℤ)} (record { answer = r; sides = now (sides .exit) }) (enclose n (now
+        (low .entry)) (now (high .entry)) (now (linear .entry)) limit (now (centre .entry)) (now (sides .entry))) ⌝ }
+    ensures meaning { λ r. ⌜ Meaning r (constraintOf (orderOf n) (now (low .entry)) (now (high .entry)) (now (linear .entry)) limit)
+        (now (sides .exit)) ⌝ }
 {
-    if !tables::order_ok(n) {
+    let m = order_of(n);
+    if m == 0 {
         return BoxAnswer::Refused(Refusal::Order);
     }
-    let m = n as usize;
-    if !sizes_ok(
+    let sized = sizes_ok(
         m * m,
         m,
         m + m,
@@ -159,8 +153,13 @@ pub fn enclose(
         linear.len(),
         centre.len(),
         sides.len(),
-    ) {
-        return BoxAnswer::Refused(Refusal::Length);
+    );
+    let within = tables::sized_within(m, sized, linear, limit, centre);
+    let mut l = [0i64; TABLE_ROOM];
+    let mut u = [0i64; TABLE_ROOM];
+    let checked = enter(n, sized, within, low, high, &mut l, &mut u);
+    if let Checked::Refused(r) = checked {
+        return BoxAnswer::Refused(r);
     }
-    enclose_tables(m, low, high, linear, limit, centre, sides)
+    enclose_bounds(m, &l, &u, linear, limit, centre, sides)
 }

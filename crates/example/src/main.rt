@@ -1,7 +1,15 @@
-// The library from Rattle: the four acts on small problems, and the reader over a file. What is printed is held to the file stdout.
+// The library from Rattle: the four acts on small problems, a summary file and its fields, and a function whose own contract rests on the
+// judge's. What is printed is held to the file stdout.
+ghost use mathlib.Core.Path.{_≡_};
+ghost use mathlib.Core.Bool.{true};
 ghost use Prim.Native.Nat.{_≤_};
 ghost use lib.ListN.{length};
+ghost use Rattle.tables.specs.Matrix.{at};
+ghost use Rattle.tables.specs.Members.{PositiveDefinite};
 use libc::STDOUT_FILENO;
+use summary::problem::Reading;
+use tables::Checked;
+use verdict::judge::Verdict;
 
 // The first size bytes of a text, to standard output.
 fn write(text: &[u8], size: usize)
@@ -88,6 +96,106 @@ fn boxed() {
     print_two(b"sides", &sides);
 }
 
+// Whether the judge calls two bounds of order 2 definite. Where it does, every symmetric matrix between them is positive definite: the
+// contract says so, and is proved from the judge's in a line.
+fn surely_definite(low: [i64; 4], high: [i64; 4]) -> bool
+    ensures { λ r. ⌜ (r ≡ true → PositiveDefinite 2 (at 2 low) (at 2 high)) ⌝ }
+{
+    let mut factor = [0i64; 4];
+    let mut vector = [0i64; 2];
+    let verdict = verdict::judge::judge(2, &low, &high, &mut factor, &mut vector);
+    match verdict {
+        Verdict::Definite => true,
+        Verdict::NotDefinite => false,
+        Verdict::Undecided => false,
+        Verdict::Refused(_) => false,
+    }
+}
+
+// It is so of [2 1; 1 2] and of [2 1; 1 2] to [3 1; 1 3], and is not shown of [1 2; 2 1].
+fn promised() {
+    let low = [2i64, 1, 1, 2];
+    let high = [3i64, 1, 1, 3];
+    let saddle = [1i64, 2, 2, 1];
+    print_number(b"promised", surely_definite(low, low) as i64);
+    print_number(b"promised", surely_definite(low, high) as i64);
+    print_number(b"promised", surely_definite(saddle, saddle) as i64);
+}
+
+// The summary file of 4x² - 16x ≤ 0 around 2, and its problem; and the same file cut short, which is refused.
+fn read_summary() {
+    let file = [
+        1u8,
+        1,
+        0,
+        1,
+        2,
+        4,
+        0,
+        4,
+        0,
+        0,
+        0,
+        3,
+        4,
+        0,
+        4,
+        0,
+        0,
+        0,
+        4,
+        8,
+        0,
+        248,
+        255,
+        255,
+        255,
+        255,
+        255,
+        255,
+        255,
+        5,
+        8,
+        0,
+        0,
+        0,
+        0,
+        0,
+        0,
+        0,
+        0,
+        0,
+        6,
+        8,
+        0,
+        2,
+        0,
+        0,
+        0,
+        0,
+        0,
+        0,
+        0,
+    ];
+    print_reading(summary::problem::read(&file));
+    print_reading(summary::problem::read(&file[..50]));
+}
+
+// The limit and the first linear term of a problem that was read, or the number by which its file is refused.
+fn print_reading(reading: Reading) {
+    let checked = reading.checked;
+    match checked {
+        Checked::Passed => {
+            let problem = reading.problem;
+            let constraint = problem.constraint;
+            let linear = constraint.linear;
+            print_number(b"limit", constraint.limit);
+            print_number(b"linear", linear[0]);
+        }
+        Checked::Refused(r) => print_number(b"refused", tables::refusal_number(r) as i64),
+    }
+}
+
 // The fields of a file of two: tag 01 with the byte 7, and tag 05 with three bytes.
 fn read_fields() {
     let file = [1u8, 1, 0, 7, 5, 3, 0, 9, 8, 7];
@@ -104,5 +212,7 @@ fn main() {
     not_definite();
     refused();
     boxed();
+    promised();
+    read_summary();
     read_fields();
 }

@@ -19,12 +19,12 @@ use Rattle.fields.specs.declared.field.Field.{Field}
 use Rattle.fields.specs.declared.field.Found.the-variants as Found
 use Rattle.fields.specs.declared.layout.Layout.{Layout}
 use Rattle.fields.specs.declared.layout.Walked.{Walked}
-use Rattle.fields.specs.Fields.{head, kindOf, tagged, fieldAt}
-use Rattle.fields.specs.Layouts.{placeOf, startOf, lengthOf, seen, unseen, placed, walk, walked, content}
-use Rattle.fields.specs.Entries.{Entry, tagOf, headBytes, entryBytes, fileOf, entryOf, Writable, contentSeen, Written}
+use Rattle.fields.specs.Fields.{placeOf, tagOf, head, kindOf, tagged, fieldAt}
+use Rattle.fields.specs.Layouts.{startOf, lengthOf, seen, unseen, placed, walk, walked, content}
+use Rattle.fields.specs.Entries.{Entry, headBytes, entryBytes, fileOf, entryOf, Writable, contentSeen, Written}
 use Rattle.fields.proofs.Finding.{Stands, kind-place, same-kind, tag-known, field-end, field-whole, found-inside, found-end}
 use Rattle.fields.proofs.Walking.{seen-yes, seen-no, walk-end, walk-more, walk-ind}
-use Rattle.fields.proofs.Parts.{kind-discrete, Sized, unseen-start, unseen-sized, start-placed, length-placed, start-kept, length-kept, placed-sized}
+use Rattle.fields.proofs.Parts.{kind-discrete, HasPlaces, unseen-start, unseen-places, start-placed, length-placed, start-kept, length-kept, placed-places}
 
 -- ---- the content of a kind among the entries
 module _ (e : Entry) (es : List Entry) (k : Kind) where
@@ -74,7 +74,7 @@ module _ (s : List ℕ) (at : ℕ) (e : Entry) (rest : List ℕ) (h : drop at s 
 
   entry-found : length (e .bytes) < 256 ^ 2 → fieldAt s at ≡ Found.Here (fieldOf at e)
   unfolding tagged
-  entry-found b = sym (field-whole s at {t = Tagged.Known (e .kind)} (sym (entry-length b)) (omega (arith, entry-size)) (sym (ap kindOf entry-tag ∙ kind-place (e .kind))))
+  entry-found b = sym (field-whole s at {t = Tagged.Known (e .kind)} (sym (entry-length b)) (omega (arith, entry-size)) (sym (ap kindOf entry-tag ∙ kind-place (e .kind) .0)))
 
 -- ---- the walk over entries
 module _ (s : List ℕ) where
@@ -88,7 +88,7 @@ module _ (s : List ℕ) where
   unfolding entryOf
   reads-none l = record { passed = refl; found = λ k b q. absurd (false≢true (cc)); kept = λ k q. (refl, refl) }
 
-  module _ (e : Entry) (es : List Entry) (at : ℕ) (l : Layout) (h : drop at s ≡ entryBytes e ++ fileOf es) (d : entryOf es (e .kind) ≡ none) (z : Sized l) where
+  module _ (e : Entry) (es : List Entry) (at : ℕ) (l : Layout) (h : drop at s ≡ entryBytes e ++ fileOf es) (d : entryOf es (e .kind) ≡ none) (z : HasPlaces l) where
     other : (k : Kind) (b : List ℕ) → entryOf es k ≡ some b → k ≡ e .kind → ⊥
     other k b q p = let r = rw p at q in false≢true (cc)
 
@@ -112,7 +112,7 @@ module _ (s : List ℕ) where
             let o = r .kept k (sym (entry-next e es k n) ∙ q) in
             (o .0 ∙ start-kept l (fieldOf at e) k n, o .1 ∙ length-kept l (fieldOf at e) k n)
 
-  reads : (es : List Entry) (at : ℕ) (l : Layout) → drop at s ≡ fileOf es → Writable es → Sized l → ((k : Kind) (b : List ℕ) → entryOf es k ≡ some b → startOf l k ≡ 0) → Reads es l (walk s at l)
+  reads : (es : List Entry) (at : ℕ) (l : Layout) → drop at s ≡ fileOf es → Writable es → HasPlaces l → ((k : Kind) (b : List ℕ) → entryOf es k ≡ some b → startOf l k ≡ 0) → Reads es l (walk s at l)
   unfolding fileOf Writable
   reads [] at l h w z u =
       let end : length s ≤ at = let q = sym (length-drop at s) ∙ ap length h in omega arith in
@@ -123,14 +123,14 @@ module _ (s : List ℕ) where
       let fresh = seen-no l (e .kind) refl (omega (arith, u (e .kind) (e .bytes) (entry-here e es (e .kind) refl))) in
       rw (walk-more s at l f here fresh)
       (reads-more e es at l h (w .1) z _
-      (reads es (f .next) (placed l f) (entry-behind s at e (fileOf es) h) (w .2) (placed-sized l f z)
+      (reads es (f .next) (placed l f) (entry-behind s at e (fileOf es) h) (w .2) (placed-places l f z)
       (λ k b q. let n = other e es at l h (w .1) z k b q in start-kept l f k n ∙ u k b (entry-next e es k n ∙ q))))
 
 -- ---- a file that is made of entries passes, and their contents are found
 module _ (s : List ℕ) (w : Written s) where
   whole : Reads s (w .entries) unseen (walked s)
   unfolding walked
-  whole = reads s (w .entries) 0 unseen (w .file) (w .writable) unseen-sized (λ k b q. unseen-start k)
+  whole = reads s (w .entries) 0 unseen (w .file) (w .writable) unseen-places (λ k b q. unseen-start k)
 
   pub written-passes : walked s .checked ≡ Checked.Passed
   written-passes = whole .passed
@@ -186,7 +186,7 @@ module _ (s : List ℕ) (v : AllBytes s) where
   unfolding Writable fileOf entryOf
   behind-end at l e = record { entries = []; writable = tt; file = drop-of-length-le s (found-end s at e); fresh = λ k h. refl }
 
-  behind-more : (at : ℕ) (l : Layout) (f : Field) → fieldAt s at ≡ Found.Here f → seen l (f .kind) ≡ false → Sized l → Behind (f .next) (placed l f) → Behind at l
+  behind-more : (at : ℕ) (l : Layout) (f : Field) → fieldAt s at ≡ Found.Here f → seen l (f .kind) ≡ false → HasPlaces l → Behind (f .next) (placed l f) → Behind at l
   unfolding Writable fileOf seen
   behind-more at l f e t z b =
       let w = found-inside s at f e in
@@ -204,8 +204,8 @@ module _ (s : List ℕ) (v : AllBytes s) where
   unfolding walked
   passed-written p =
       let b =
-      walk-ind s (λ at l w. Sized l → w .checked ≡ Checked.Passed → Behind at l)
-      (λ at l f w e t r z p. behind-more at l f e t z (r (placed-sized l f z) p))
-      (λ at l e z p. behind-end at l e) (λ at l r z p. absurd (false≢true (cc))) 0 unseen unseen-sized p
+      walk-ind s (λ at l w. HasPlaces l → w .checked ≡ Checked.Passed → Behind at l)
+      (λ at l f w e t r z p. behind-more at l f e t z (r (placed-places l f z) p))
+      (λ at l e z p. behind-end at l e) (λ at l r z p. absurd (false≢true (cc))) 0 unseen unseen-places p
       in
       record { entries = b .entries; writable = b .writable; file = b .file }

@@ -9,7 +9,7 @@ use Rattle.fields.specs.declared.field.Kind.{Kind}
 use Rattle.fields.specs.declared.field.Kind.the-variants as Kind
 use Rattle.fields.specs.declared.layout.Layout.{Layout}
 use Rattle.fields.specs.declared.layout.Walked.{Walked}
-use Rattle.fields.specs.Fields.{tags, kindIn, kindOf, tagged, fieldAt}
+use Rattle.fields.specs.Fields.{kindIn, kindOf, tagged, fieldAt}
 use Rattle.fields.specs.Layouts.{startOf, lengthOf, seen, unseen, placed, walkOn, walkFields, walk, walked, content}
 
 record Line : Type 0 where
@@ -20,7 +20,7 @@ record Line : Type 0 where
 abbrev orderAt : ℕ → Layout
 orderAt start = record { starts = start ∷ 0 ∷ 0 ∷ 0 ∷ 0 ∷ 0 ∷ []; lengths = 1 ∷ 0 ∷ 0 ∷ 0 ∷ 0 ∷ 0 ∷ [] }
 
--- document 01's case P
+-- case P, W21 of docs/RULES.md
 abbrev caseP : List ℕ
 caseP =
     1 ∷ 1 ∷ 0 ∷ 1
@@ -52,9 +52,9 @@ lines =
     ∷ []
 
 as-worked-out : map (λ (l : Line). walked (l .file)) lines ≡ map (λ (l : Line). l .expected) lines
-unfolding walked walk walkFields walkOn seen startOf unseen placed fieldAt tagged kindOf kindIn tags unsignedAt fromLeBytes
+unfolding walked walk walkFields walkOn seen startOf unseen placed fieldAt tagged kindOf kindIn unsignedAt fromLeBytes
 as-worked-out = refl
 
 linear-content : content caseP (walked caseP .layout) Kind.Linear ≡ 0xf8 ∷ 0xff ∷ 0xff ∷ 0xff ∷ 0xff ∷ 0xff ∷ 0xff ∷ 0xff ∷ []
-unfolding content lengthOf walked walk walkFields walkOn seen startOf unseen placed fieldAt tagged kindOf kindIn tags unsignedAt fromLeBytes
+unfolding content lengthOf walked walk walkFields walkOn seen startOf unseen placed fieldAt tagged kindOf kindIn unsignedAt fromLeBytes
 linear-content = refl

@@ -16,62 +16,51 @@ use Rattle.fields.specs.declared.field.Tagged.the-variants as Tagged
 use Rattle.fields.specs.declared.field.Field.{Field}
 use Rattle.fields.specs.declared.field.Found.{Found}
 use Rattle.fields.specs.declared.field.Found.the-variants as Found
-use Rattle.fields.specs.Fields.{FieldTag, tags, kindIn, kindOf, head, tagged, fieldAt}
-use Rattle.fields.specs.Layouts.{placeOf}
+use Rattle.fields.specs.Fields.{kinds, kindCount, placeOf, tagOf, kindIn, kindOf, head, tagged, fieldAt}
 
 -- ---- tags
 -- the number t is none of the tags
-abbrev pub Unlisted : List FieldTag → ℕ → Type 0
+abbrev pub Unlisted : List Kind → ℕ → Type 0
 Unlisted [] t = Unit
-Unlisted (k ∷ ks) t = (t ≡ k .number → ⊥) × Unlisted ks t
+Unlisted (k ∷ ks) t = (t ≡ tagOf k → ⊥) × Unlisted ks t
 
-pub kind-unlisted : (ks : List FieldTag) (t : ℕ) → Unlisted ks t → kindIn ks t ≡ Tagged.Refused Tag
+pub kind-unlisted : (ks : List Kind) (t : ℕ) → Unlisted ks t → kindIn ks t ≡ Tagged.Refused Tag
 unfolding kindIn
 kind-unlisted [] t u = refl
-kind-unlisted (k ∷ ks) t u = rw (ne-eqb t (k .number) (u .0), kindIn) (kind-unlisted ks t (u .1))
+kind-unlisted (k ∷ ks) t u = rw (ne-eqb t (tagOf k) (u .0), kindIn) (kind-unlisted ks t (u .1))
 
--- a kind's tag is its place and one
-pub kind-place : (k : Kind) → kindOf (placeOf k + 1) ≡ Tagged.Known k
-unfolding kindOf kindIn tags
-kind-place Kind.Order = refl
-kind-place Kind.Low = refl
-kind-place Kind.High = refl
-kind-place Kind.Linear = refl
-kind-place Kind.Limit = refl
-kind-place Kind.Centre = refl
+-- each kind is listed, below their number
+pub kind-place : (k : Kind) → (kindOf (tagOf k) ≡ Tagged.Known k) × (placeOf k < kindCount)
+unfolding kindOf kindIn
+kind-place Kind.Order = (refl, omega arith)
+kind-place Kind.Low = (refl, omega arith)
+kind-place Kind.High = (refl, omega arith)
+kind-place Kind.Linear = (refl, omega arith)
+kind-place Kind.Limit = (refl, omega arith)
+kind-place Kind.Centre = (refl, omega arith)
 
--- each tag is the place of its kind and one
-abbrev Numbered : List FieldTag → Type 0
-Numbered [] = Unit
-Numbered (x ∷ xs) = (x .number ≡ placeOf (x .kind) + 1) × Numbered xs
-
-tag-listed : (ks : List FieldTag) → Numbered ks → (t : ℕ) (k : Kind) → kindIn ks t ≡ Tagged.Known k → t ≡ placeOf k + 1
+tag-listed : (ks : List Kind) (t : ℕ) (k : Kind) → kindIn ks t ≡ Tagged.Known k → t ≡ tagOf k
 unfolding kindIn
-tag-listed [] a t k e = absurd (false≢true (cc))
-tag-listed (x ∷ xs) a t k e = go (ℕ-discrete t (x .number)) (tag-listed xs (a .1) t k)
+tag-listed [] t k e = absurd (false≢true (cc))
+tag-listed (x ∷ xs) t k e = go (ℕ-discrete t (tagOf x)) (tag-listed xs t k)
   where
-    go : Dec (t ≡ x .number) → (kindIn xs t ≡ Tagged.Known k → t ≡ placeOf k + 1) → t ≡ placeOf k + 1
+    go : Dec (t ≡ tagOf x) → (kindIn xs t ≡ Tagged.Known k → t ≡ tagOf k) → t ≡ tagOf k
     go (yes q) rest =
-        let known : kindIn (x ∷ xs) t ≡ Tagged.Known (x .kind) = rw (eq-eqb t (x .number) q, kindIn) in
-        let same : x .kind ≡ k = cc in
-        q ∙ a .0 ∙ ap (λ (z : Kind). placeOf z + 1) same
-    go (no n) rest = let next : kindIn (x ∷ xs) t ≡ kindIn xs t = rw (ne-eqb t (x .number) n, kindIn) in rest (sym next ∙ e)
+        let known : kindIn (x ∷ xs) t ≡ Tagged.Known x = rw (eq-eqb t (tagOf x) q, kindIn) in
+        let same : x ≡ k = cc in
+        q ∙ ap (λ (z : Kind). tagOf z) same
+    go (no n) rest = let next : kindIn (x ∷ xs) t ≡ kindIn xs t = rw (ne-eqb t (tagOf x) n, kindIn) in rest (sym next ∙ e)
 
-pub tag-known : (t : ℕ) (k : Kind) → kindOf t ≡ Tagged.Known k → t ≡ placeOf k + 1
-unfolding kindOf tags
-tag-known t k e = tag-listed tags (refl, (refl, (refl, (refl, (refl, (refl, tt)))))) t k e
+pub tag-known : (t : ℕ) (k : Kind) → kindOf t ≡ Tagged.Known k → t ≡ tagOf k
+unfolding kindOf
+tag-known t k e = tag-listed kinds t k e
 
-pub place-below : (k : Kind) → placeOf k < 6
-place-below Kind.Order = omega arith
-place-below Kind.Low = omega arith
-place-below Kind.High = omega arith
-place-below Kind.Linear = omega arith
-place-below Kind.Limit = omega arith
-place-below Kind.Centre = omega arith
+pub place-below : (k : Kind) → placeOf k < kindCount
+place-below k = kind-place k .1
 
 -- kinds at one place are the same
 pub same-kind : (a b : Kind) → placeOf a ≡ placeOf b → a ≡ b
-same-kind a b e = cc (kind-place a, kind-place b)
+same-kind a b e = cc (kind-place a .0, kind-place b .0)
 
 -- the field f stands at `at`: what its head says, and where its content lies
 pub record Stands (s : List ℕ) (at : ℕ) (f : Field) : Type 0 where

@@ -9,7 +9,8 @@ use lib.Seq.{getD-set-same, getD-set-other, length-take-le}
 use Rattle.fields.specs.declared.field.Kind.{Kind}
 use Rattle.fields.specs.declared.field.Field.{Field}
 use Rattle.fields.specs.declared.layout.Layout.{Layout}
-use Rattle.fields.specs.Layouts.{placeOf, startOf, lengthOf, unseen, placed, walked, content, Inside}
+use Rattle.fields.specs.Fields.{kindCount, placeOf}
+use Rattle.fields.specs.Layouts.{startOf, lengthOf, unseen, placed, walked, content, Inside}
 use Rattle.fields.proofs.Finding.{Stands, place-below, same-kind, found-inside}
 use Rattle.fields.proofs.Walking.{walk-ind}
 
@@ -21,30 +22,30 @@ kind-discrete a b = go (ℕ-discrete (placeOf a) (placeOf b))
     go (yes e) = yes (same-kind a b e)
     go (no n) = no (λ e. n (ap placeOf e))
 
--- the six places
-pub record Sized (l : Layout) : Type 0 where
-  pub starts : length (l .starts) ≡ 6
-  pub lengths : length (l .lengths) ≡ 6
+-- a layout has a place for each kind
+pub record HasPlaces (l : Layout) : Type 0 where
+  pub starts : length (l .starts) ≡ kindCount
+  pub lengths : length (l .lengths) ≡ kindCount
 
 -- ---- a layout with no field, and with one more
 pub unseen-start : (k : Kind) → startOf unseen k ≡ 0
 unfolding startOf unseen
-unseen-start k = getD-replicate 6 (placeOf k) 0 0 (place-below k)
+unseen-start k = getD-replicate kindCount (placeOf k) 0 0 (place-below k)
 
 pub unseen-length : (k : Kind) → lengthOf unseen k ≡ 0
 unfolding lengthOf unseen
-unseen-length k = getD-replicate 6 (placeOf k) 0 0 (place-below k)
+unseen-length k = getD-replicate kindCount (placeOf k) 0 0 (place-below k)
 
-pub unseen-sized : Sized unseen
+pub unseen-places : HasPlaces unseen
 unfolding unseen
-unseen-sized = record { starts = refl; lengths = refl }
+unseen-places = record { starts = refl; lengths = refl }
 
 module _ (l : Layout) (f : Field) where
-  pub start-placed : Sized l → startOf (placed l f) (f .kind) ≡ f .start
+  pub start-placed : HasPlaces l → startOf (placed l f) (f .kind) ≡ f .start
   unfolding startOf placed
   start-placed z = getD-set-same (l .starts) (placeOf (f .kind)) (f .start) 0 (omega (arith, place-below (f .kind)))
 
-  pub length-placed : Sized l → lengthOf (placed l f) (f .kind) ≡ f .length
+  pub length-placed : HasPlaces l → lengthOf (placed l f) (f .kind) ≡ f .length
   unfolding lengthOf placed
   length-placed z = getD-set-same (l .lengths) (placeOf (f .kind)) (f .length) 0 (omega (arith, place-below (f .kind)))
 
@@ -56,16 +57,16 @@ module _ (l : Layout) (f : Field) where
   unfolding lengthOf placed
   length-kept k n = getD-set-other (l .lengths) (placeOf (f .kind)) (placeOf k) (f .length) 0 (λ e. n (same-kind k (f .kind) e))
 
-  pub placed-sized : Sized l → Sized (placed l f)
+  pub placed-places : HasPlaces l → HasPlaces (placed l f)
   unfolding placed
-  placed-sized z = record { starts = simp length-set (z .starts); lengths = simp length-set (z .lengths) }
+  placed-places z = record { starts = simp length-set (z .starts); lengths = simp length-set (z .lengths) }
 
 -- ---- every content is a part of the file
 module _ (s : List ℕ) where
   unseen-inside : Inside s unseen
   unseen-inside = record { ends = λ k. omega (arith, unseen-start k, unseen-length k); absent = λ k e. unseen-length k }
 
-  placed-inside : (at : ℕ) (l : Layout) (f : Field) → Stands s at f → Sized l → Inside s l → Inside s (placed l f)
+  placed-inside : (at : ℕ) (l : Layout) (f : Field) → Stands s at f → HasPlaces l → Inside s l → Inside s (placed l f)
   placed-inside at l f w z i = record { ends = λ k. ends k (kind-discrete k (f .kind)); absent = λ k. absent k (kind-discrete k (f .kind)) }
     where
       ends : (k : Kind) → Dec (k ≡ f .kind) → startOf (placed l f) k + lengthOf (placed l f) k ≤ length s
@@ -78,20 +79,17 @@ module _ (s : List ℕ) where
 
   -- what the walk keeps
   record Laid (l : Layout) : Type 0 where
-    sized : Sized l
+    places : HasPlaces l
     inside : Inside s l
 
   laid : Laid (walked s .layout)
   unfolding walked
   laid =
-      let none : Laid unseen = record { sized = unseen-sized; inside = unseen-inside } in
+      let none : Laid unseen = record { places = unseen-places; inside = unseen-inside } in
       walk-ind s (λ at l w. Laid l → Laid (w .layout))
       (λ at l f w e t r p.
-      r (record { sized = placed-sized l f (p .sized); inside = placed-inside at l f (found-inside s at f e) (p .sized) (p .inside) }))
+      r (record { places = placed-places l f (p .places); inside = placed-inside at l f (found-inside s at f e) (p .places) (p .inside) }))
       (λ at l e p. p) (λ at l r p. none) 0 unseen none
-
-  pub walked-sized : Sized (walked s .layout)
-  walked-sized = laid .sized
 
   pub walked-inside : Inside s (walked s .layout)
   walked-inside = laid .inside

@@ -1,4 +1,5 @@
--- A file as it is written: fields of different kinds, one after the other. The walk passes exactly these files, and finds these contents (proofs/Entries).
+-- A file as it is written: fields of different kinds, one after the other. The walk passes exactly these files, and finds these contents
+-- (proofs/Entries).
 use mathlib.Core.Path.{_≡_}
 use mathlib.Core.Bool.{true, false}
 use mathlib.Core.List.{List, [], _∷_, _++_}
@@ -9,22 +10,19 @@ use lib.ListN.{length}
 use Rattle.words.specs.Numbers.{toLeBytes}
 use Rattle.fields.specs.declared.field.Kind.{Kind}
 use Rattle.fields.specs.declared.layout.Layout.{Layout}
-use Rattle.fields.specs.Layouts.{placeOf, seen, content}
+use Rattle.fields.specs.Fields.{placeOf, tagOf}
+use Rattle.fields.specs.Layouts.{seen, content}
 
 -- a field's kind and its content
 pub record Entry : Type 0 where
   pub kind : Kind
   pub bytes : List ℕ
 
--- a kind's tag
-abbrev pub tagOf : Kind → ℕ
-tagOf k = placeOf k + 1
-
--- "a one-byte tag, a two-byte length (low byte first)"
+-- R16.1: tag and length
 abbrev pub headBytes : Entry → List ℕ
 headBytes e = tagOf (e .kind) ∷ toLeBytes 2 (length (e .bytes))
 
--- "then the content"
+-- R16.1: a field
 unfoldable pub entryBytes : Entry → List ℕ
 entryBytes e = headBytes e ++ e .bytes
 

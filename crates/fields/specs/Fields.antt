@@ -1,4 +1,4 @@
--- Document 01, "Summary file and program": a field, and what stands at a place of a file.
+-- R16 of docs/RULES.md: a field, and what stands at a place of a file.
 use mathlib.Core.Bool.{true, false}
 use mathlib.Core.List.{List, [], _∷_}
 use Prim.Native.Nat.{ℕ, _+_}
@@ -13,31 +13,35 @@ use Rattle.fields.specs.declared.field.Tagged.the-variants as Tagged
 use Rattle.fields.specs.declared.field.Found.{Found}
 use Rattle.fields.specs.declared.field.Found.the-variants as Found
 
--- a tag's number, and the field that it stands for
-pub record FieldTag : Type 0 where
-  pub number : ℕ
-  pub kind : Kind
+-- the kinds of field, in the order of their tags: n, L, U, a, α, c
+abbrev pub kinds : List Kind
+kinds = Kind.Order ∷ Kind.Low ∷ Kind.High ∷ Kind.Linear ∷ Kind.Limit ∷ Kind.Centre ∷ []
 
--- "Tag 01: n .. 02 L, 03 U .. 04 a, 06 c .. 05 α"
-unfoldable pub tags : List FieldTag
-tags =
-    record { number = 1; kind = Kind.Order }
-    ∷ record { number = 2; kind = Kind.Low }
-    ∷ record { number = 3; kind = Kind.High }
-    ∷ record { number = 4; kind = Kind.Linear }
-    ∷ record { number = 5; kind = Kind.Limit }
-    ∷ record { number = 6; kind = Kind.Centre }
-    ∷ []
+abbrev pub kindCount : ℕ
+kindCount = length kinds
 
--- the kind that a list of tags gives a number, or 11
-unfoldable pub kindIn : List FieldTag → ℕ → Tagged
+-- a kind's place among them
+abbrev pub placeOf : Kind → ℕ
+placeOf Kind.Order = 0
+placeOf Kind.Low = 1
+placeOf Kind.High = 2
+placeOf Kind.Linear = 3
+placeOf Kind.Limit = 4
+placeOf Kind.Centre = 5
+
+-- a kind's tag, from 01 on
+abbrev pub tagOf : Kind → ℕ
+tagOf k = placeOf k + 1
+
+-- the kind with this tag among those listed, or 11
+unfoldable pub kindIn : List Kind → ℕ → Tagged
 kindIn [] t = Tagged.Refused Tag
-kindIn (k ∷ ks) t = elim (eqb t (k .number)) [ true ↦ Tagged.Known (k .kind) | false ↦ kindIn ks t ]
+kindIn (k ∷ ks) t = elim (eqb t (tagOf k)) [ true ↦ Tagged.Known k | false ↦ kindIn ks t ]
 
 unfoldable pub kindOf : ℕ → Tagged
-kindOf = kindIn tags
+kindOf = kindIn kinds
 
--- "a one-byte tag, a two-byte length (low byte first), then the content"
+-- R16.1: the bytes in front of a content, one of tag and two of length
 abbrev pub head : ℕ
 head = 3
 
@@ -46,7 +50,7 @@ unfoldable pub tagged : ℕ → ℕ → Tagged → Found
 tagged at n (Tagged.Known k) = Found.Here (record { kind = k; start = at + head; length = n; next = at + head + n })
 tagged at n (Tagged.Refused r) = Found.Refused r
 
--- what stands at a place of the file s: its end; 10, "just 1 or 2 bytes left at a field's start, or its length runs past the end"; then 11; or a field
+-- R16.4: what stands at a place of the file s: its end; 10, where bytes of the field are missing; then 11; or a field
 unfoldable pub fieldAt : List ℕ → ℕ → Found
 fieldAt s at =
     let n : ℕ = unsignedAt 2 s (at + 1) in

@@ -1,15 +1,15 @@
-// A field of the file: a tag, a length and the content.
+// A field of the file, R16.1 of docs/RULES.md: a tag, a length and the content.
 ghost use mathlib.Core.Path.{_≡_};
 ghost use Prim.Native.Nat.{_+_, _≤_};
 ghost use lib.ListN.{length};
 ghost use Rattle.words.specs.Numbers.{unsignedAt};
-ghost use Rattle.fields.specs.Fields.{kindOf, head, fieldAt};
+ghost use Rattle.fields.specs.Fields.{placeOf, kindOf, head, fieldAt};
 use tables::Refusal;
 
 // A field's head: one byte of tag, two of length.
 const HEAD: usize = 3;
 
-// The six fields, in the order of their tags.
+// The kinds of field, in the order of their tags.
 pub enum Kind {
     Order,
     Low,
@@ -18,6 +18,9 @@ pub enum Kind {
     Limit,
     Centre,
 }
+
+// How many there are.
+pub const KINDS: usize = 6;
 
 // What a tag says: the kind of field, or the refusal of a tag that no field has.
 pub enum Tagged {
@@ -40,7 +43,7 @@ pub enum Found {
     Refused(Refusal),
 }
 
-// The kind of field that a tag stands for.
+// The kind of field that a tag stands for (R16.2, R20.4).
 pub fn kind_of(tag: u8) -> Tagged
     ensures { λ r. ⌜ r ≡ kindOf tag ⌝ }
 {
@@ -55,6 +58,20 @@ pub fn kind_of(tag: u8) -> Tagged
     }
 }
 
+// A kind's place among the kinds: its tag less 1.
+pub fn place_of(kind: Kind) -> usize
+    ensures { λ r. ⌜ r ≡ placeOf kind ⌝ }
+{
+    match kind {
+        Kind::Order => 0,
+        Kind::Low => 1,
+        Kind::High => 2,
+        Kind::Linear => 3,
+        Kind::Limit => 4,
+        Kind::Centre => 5,
+    }
+}
+
 // The length in a field's head: two bytes, low byte first.
 fn length_at(file: &[u8], at: usize) -> usize
     requires { ⌜ at + head ≤ length (now file) ⌝ }
@@ -65,7 +82,7 @@ fn length_at(file: &[u8], at: usize) -> usize
     low + 256 * high
 }
 
-// The field at a place of the file: 10, then 11.
+// The field at a place of the file (R16.4): 10, then 11.
 pub fn field_at(file: &[u8], at: usize) -> Found
     ensures { λ r. ⌜ r ≡ fieldAt (now (file .entry)) at ⌝ }
 {

@@ -1,19 +1,21 @@
-// The walk over the file's fields: where the content of each stands.
+// The walk over the file's fields, R16.5 of docs/RULES.md: where the content of each stands.
 ghost use mathlib.Core.Path.{_≡_};
 ghost use Prim.Native.Nat.{_+_, _≤_};
 ghost use lib.ListN.{length};
-ghost use Rattle.fields.specs.Layouts.{placeOf, startOf, lengthOf, unseen, stopped, placed, content, walked};
+ghost use Rattle.fields.specs.Layouts.{startOf, lengthOf, unseen, stopped, placed, content, walked};
 use crate::field::Field;
 use crate::field::Found;
+use crate::field::KINDS;
 use crate::field::Kind;
 use crate::field::field_at;
+use crate::field::place_of;
 use tables::Checked;
 use tables::Refusal;
 
-// Where the content of each field stands, by the field's place among the six: start and length. A start of 0 says that there is none.
+// Where the content of each field stands, by the place of its kind: start and length. A start of 0 says that there is none.
 pub struct Layout {
-    pub starts: [usize; 6],
-    pub lengths: [usize; 6],
+    pub starts: [usize; KINDS],
+    pub lengths: [usize; KINDS],
 }
 
 // What the walk finds: the layout of all fields, or the first refusal, with no field.
@@ -27,8 +29,8 @@ fn unseen() -> Layout
     ensures { λ r. ⌜ r ≡ unseen ⌝ }
 {
     Layout {
-        starts: [0; 6],
-        lengths: [0; 6],
+        starts: [0; KINDS],
+        lengths: [0; KINDS],
     }
 }
 
@@ -39,20 +41,6 @@ fn stopped(refusal: Refusal) -> Walked
     Walked {
         checked: Checked::Refused(refusal),
         layout: unseen(),
-    }
-}
-
-// A kind's place among the six.
-fn place_of(kind: Kind) -> usize
-    ensures { λ r. ⌜ r ≡ placeOf kind ⌝ }
-{
-    match kind {
-        Kind::Order => 0,
-        Kind::Low => 1,
-        Kind::High => 2,
-        Kind::Linear => 3,
-        Kind::Limit => 4,
-        Kind::Centre => 5,
     }
 }
 

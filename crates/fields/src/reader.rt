@@ -1,4 +1,5 @@
-// A reader over a lent file: it hands out each field with its content. Its own functions are thin; the work is that of field_at and content_in.
+// R18.1 and R20.5 of docs/RULES.md: a reader over a lent file. It hands out each field with its content; its own functions are thin, and
+// the work is done by field_at and content_in.
 ghost use mathlib.Core.Path.{_≡_};
 ghost use Prim.Native.Nat.{ℕ};
 ghost use Rattle.fields.specs.Fields.{fieldAt};
@@ -12,7 +13,7 @@ pub struct Reader<'a> {
     pub at: usize,
 }
 
-// A field as the reader hands it out: its content, the part of the file that it is, and what stands there.
+// A field as the reader hands it out: its content, which is a part of the file, and what stands there.
 pub struct Piece<'a> {
     pub content: &'a [u8],
     pub found: Found,
@@ -55,7 +56,8 @@ fn piece_of<'a>(content: &'a [u8], found: Found) -> Piece<'a>
 
 // What stands at the reader's place, with its content.
 pub fn next_field<'a>(r: Reader<'a>) -> Piece<'a>
-    ensures { λ p. ⌜ (now (p .content) ≡ contentAt (now (r .entry .file)) (r .entry .at)) × (p .found ≡ fieldAt (now (r .entry .file)) (r .entry .at)) ⌝ }
+    ensures { λ p. ⌜ (now (p .content) ≡ contentAt (now (r .entry .file)) (r .entry .at))
+        × (p .found ≡ fieldAt (now (r .entry .file)) (r .entry .at)) ⌝ }
 {
     let found = field_at(r.file, r.at);
     piece_of(content_in(r.file, found), found)

@@ -1,4 +1,3 @@
 pub mod Codes
-pub mod Entering
 pub mod Judging
 pub mod Boxing

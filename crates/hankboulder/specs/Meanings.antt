@@ -1,22 +1,24 @@
--- Demand 3 at the entries for C: what an answer means, by its number r, of the numbers that the buffers spell.
+-- D3 of docs/RULES.md at the entries for C: what an answer means, by its number r, of the numbers that the buffers spell.
 use mathlib.Core.Path.{_≡_}
 use mathlib.Core.Bool.{true}
 use mathlib.Core.List.{List, List·Memᴰ}
 use Prim.Native.Nat.{ℕ}
-use lib.IntN.{ℤ, pos, negsuc, natAbs}
+use lib.IntN.{ℤ, pos, negsuc}
 use lib.Signed.{_≤ℤ_}
 use Rattle.tables.specs.Matrix.{Matrix, at, nth}
+use Rattle.tables.specs.Checks.{orderOf}
+use Rattle.tables.specs.Problem.{constraintOf}
 use Rattle.tables.specs.Members.{PositiveDefinite, Margin}
 use Rattle.vectors.specs.Least.{shows, Witness}
 use Rattle.verdict.specs.Judge.{listed}
-use Rattle.enclosure.specs.Points.{Point, Held}
+use Rattle.enclosure.specs.Points.{Allowed, Held}
 use Rattle.buffers.specs.Buffers.{tableOf, vectorOf, sidesOf}
 use Rattle.hankboulder.specs.Entries.{testFactorEntry, testVectorEntry}
 
 -- k is the order, L and U the bounds
 module _ (n : ℤ) (l u : List ℕ) where
   abbrev k : ℕ
-  k = natAbs n
+  k = orderOf n
 
   abbrev L : Matrix
   L = at k (tableOf k l)
@@ -25,7 +27,7 @@ module _ (n : ℤ) (l u : List ℕ) where
   U = at k (tableOf k u)
 
   pub record FactorMeaning (r : ℤ) : Type 0 where
-    -- 0, the factor is accepted: x'Mx > 0 for every member M and every nonzero x
+    -- 0, the factor is accepted (D3.1): x'Mx > 0 for every member M and every nonzero x
     pub accepted : r ≡ pos 0 → PositiveDefinite k L U
 
   -- v: the vector that is offered
@@ -37,21 +39,23 @@ module _ (n : ℤ) (l u : List ℕ) where
 
   -- f and v: the buffers as they are left
   pub record JudgeMeaning (r : ℤ) (f v : List ℕ) : Type 0 where
-    -- 0, definite: x'Mx > 0 for every member M and every nonzero x, and hb_test_factor accepts the factor that is written
+    -- 0, definite (D3.2, D3.6): x'Mx > 0 for every member M and every nonzero x, and hb_test_factor accepts the factor that is written
     pub definite : r ≡ pos 0 → PositiveDefinite k L U
     pub accepted : r ≡ pos 0 → testFactorEntry n l u f ≡ pos 0
-    -- -1, not definite: the vector that is written is listed, it is not zero, some member M has x'Mx ≤ 0 for it, and hb_test_vector says yes of it
+    -- -1, not definite (D2.4): the vector that is written is listed and a witness vector, and hb_test_vector says yes of it
     pub shown : r ≡ negsuc 0 → Witness k L U (nth (vectorOf k v))
     pub confirmed : r ≡ negsuc 0 → testVectorEntry n l u v ≡ pos 0
     pub from-list : r ≡ negsuc 0 → List·Memᴰ (vectorOf k v) (listed k L U)
-    -- no refusal, and some listed vector shows it: -1
+    -- no refusal, and some listed vector shows it: -1 (D2.4)
     pub exactly : r ≤ℤ pos 0 → (x : List ℤ) → List·Memᴰ x (listed k L U) → shows k L U (nth x) ≡ true → r ≡ negsuc 0
-    -- no refusal, and x'(L+U)x ≥ Σ (1 + w(i)) x(i)² for every whole-number x: 0
+    -- no refusal, and the margin of R3.5: 0 (D3.5)
     pub margin : r ≤ℤ pos 0 → Margin k L U → r ≡ pos 0
 
   -- a: the linear terms; s: the sides as they are left
   pub record BoxMeaning (a : List ℕ) (α r : ℤ) (s : List ℕ) : Type 0 where
-    -- 0, a box is given: it holds every x of fractions with x'Mx + 2a'x ≤ α for some member M
-    pub holds : r ≡ pos 0 → (X : ℕ → ℤ) (p : ℤ) → Point k L U (nth (vectorOf k a)) α X p → Held k (sidesOf k s) X p
-    -- -1, empty: there is no such x
-    pub none : r ≡ negsuc 0 → (X : ℕ → ℤ) (p : ℤ) → Point k L U (nth (vectorOf k a)) α X p → ⊥
+    -- 0, a box is given: it contains every point of the ellipsoid (D3.3)
+    pub holds : r ≡ pos 0 → (X : ℕ → ℤ) (p : ℤ) →
+        Allowed (constraintOf k (tableOf k l) (tableOf k u) (vectorOf k a) α) X p → Held k (sidesOf k s) X p
+    -- -1, empty: there is no point (D3.4)
+    pub none : r ≡ negsuc 0 → (X : ℕ → ℤ) (p : ℤ) →
+        Allowed (constraintOf k (tableOf k l) (tableOf k u) (vectorOf k a) α) X p → ⊥

@@ -11,13 +11,12 @@ use Rattle.tables.specs.Refusals.{refusalNumber}
 use Rattle.tables.specs.Checks.{firstRefusal, tableChecks}
 use Rattle.tables.specs.declared.Checked.{Checked}
 use Rattle.tables.specs.declared.Checked.the-variants.{Passed, Refused}
-use Rattle.cholesky.specs.Scale.{takeOff, scaled}
-use Rattle.cholesky.specs.Factoring.{factoring}
+use Rattle.cholesky.specs.Factoring.{factored}
 
 -- 0 where factoring ends, -1 where it stops, and a refusal's number
 unfoldable pub endsCode : ℕ → List ℤ → List ℤ → Checked → ℤ
 endsCode n l u (Refused r) = pos (refusalNumber r)
-endsCode n l u Passed = elim (factoring n (scaled takeOff n (at n l) (at n u)) .ends) [ true ↦ pos 0 | false ↦ negsuc 0 ]
+endsCode n l u Passed = elim (factored n (at n l) (at n u) .ends) [ true ↦ pos 0 | false ↦ negsuc 0 ]
 
 -- 2 where n is above the greatest order, or a table has fewer than n² numbers
 unfoldable pub timed : ℕ → List ℤ → List ℤ → ℤ

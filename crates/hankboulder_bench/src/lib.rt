@@ -11,9 +11,11 @@ use tables::GREATEST_ORDER;
 // Checks 3 to 5, and factoring: 0 where it ends, -1 where it stops, else the refusal's number.
 fn ends_code(n: usize, low: &[i64], high: &[i64]) -> i64
     requires { ⌜ (n ≤ greatestOrder) × (n * n ≤ length (now low)) × (n * n ≤ length (now high)) ⌝ }
-    ensures { λ r. ⌜ r ≡ endsCode n (now (low .entry)) (now (high .entry)) (firstRefusal (tableChecks n (now (low .entry)) (now (high .entry)))) ⌝ }
+    ensures { λ r.
+        ⌜ r ≡ endsCode n (now (low .entry)) (now (high .entry))
+        (firstRefusal (tableChecks n (now (low .entry)) (now (high .entry)))) ⌝ }
 {
-    let checked = tables::check_tables(n, low, high);
+    let checked = tables::check_bounds(n, true, low, high);
     if let Checked::Refused(r) = checked {
         return tables::refusal_number(r) as i64;
     }

@@ -1,11 +1,11 @@
 -- Laws of quotients rounded down and up, by a divisor from 1 up.
 use mathlib.Core.Path.{_≡_, refl}
 use mathlib.Core.List.{[], _∷_}
-use Prim.Native.Nat.{_+_, _*_, _/_, _≤_, _<_}
+use Prim.Native.Nat.{ℕ, _+_, _*_, _/_, _≤_, _<_}
 use native.Mathlib.Nat.{div-add-mod', mod-lt, div-le-self}
 use native.Mathlib.Omega.{arith}
 use lib.IntN.{ℤ, pos, negsuc, negℤ, natAbs, _+ℤ_, _-ℤ_, _*ℤ_}
-use lib.Signed.{_≤ℤ_, _<ℤ_, mag}
+use lib.Signed.{_≤ℤ_, _<ℤ_, mag, quotZ}
 use Rattle.integers.specs.Division.{floorDiv, ceilDiv}
 use Rattle.integers.proofs.Parts.{≤-in, <-in, ≡-in, ≤-out, <-out, ≤ℤ-antisym, *ℤ-nonneg, gap-nonneg, product-diff, sum-diff, minus-diff, self-diff}
 use Rattle.integers.proofs.Solver.{_&_, order, solver}
@@ -91,6 +91,10 @@ flip (negsuc n) = pos n
 pub flip-is : (a : ℤ) → negsuc 0 -ℤ a ≡ flip a
 flip-is (pos n) = ≡-in (omega (arith, minus-diff (pos n) (negsuc 0) .is))
 flip-is (negsuc n) = ≡-in (omega (arith, minus-diff (negsuc n) (negsuc 0) .is))
+
+pub quotient-is : (n : ℕ) {d : ℤ} → pos 1 ≤ℤ d → quotZ (pos n) d ≡ pos (n / natAbs d)
+quotient-is n {d = pos d} h = refl
+quotient-is n {d = negsuc d} h = absurd (h .le)
 
 pub mag-of-negative : {a : ℤ} → a <ℤ pos 0 → flip a ≡ pos (mag a)
 mag-of-negative {a = pos n} h = absurd (omega (arith, <-out h))

@@ -169,9 +169,9 @@ read-i64 n h = toZ-pos w64 n h
 pub ruleset signed = (arith, ≤-out, <-out, ≡-out, ≤-in, <-in, ≡-in, fits)
 
 -- ---- a division by a divisor from 1 up
-pub divisor : {d : ℤ} → pos 1 ≤ℤ d → 0 < natAbs d
-divisor {d = pos d} k = omega (arith, ≤-out k)
-divisor {d = negsuc d} k = absurd (k .le)
+pub divisor-bits : {d : ℤ} → pos 1 ≤ℤ d → 0 < ofZ w64 d
+divisor-bits {d = pos d} h = omega (arith, ≤-out h)
+divisor-bits {d = negsuc d} h = absurd (h .le)
 
 pub fits-flip : {a : ℤ} → SFits w64 a → SFits w64 (flip a)
 fits-flip {a = pos n} f = record { sfits = f .sfits }

@@ -6,10 +6,10 @@ use mathlib.Core.List.{[], _∷_}
 use Prim.Native.Nat.{zero, suc, _*_}
 use native.Mathlib.Omega.{arith}
 use lib.Dec.{T}
-use lib.IntN.{ℤ, pos, negsuc, negℤ, _+ℤ_, _-ℤ_, _*ℤ_}
+use lib.IntN.{ℤ, pos, negsuc, negℤ, _+ℤ_, _*ℤ_}
 use lib.Signed.{_≤ℤ_, _<ℤ_, leZ, ≤ℤ-refl}
 use Rattle.integers.specs.Numbers.{absℤ, minℤ, maxℤ}
-use Rattle.integers.proofs.Parts.{≤-in, ≤ℤ-or-<ℤ, ≤ℤ-trans, *ℤ-nonneg, square-nonneg, gap-nonneg, pos-nonneg}
+use Rattle.integers.proofs.Parts.{≤-in, ≤ℤ-or-<ℤ, ≤ℤ-trans, *ℤ-nonneg, gap-nonneg, pos-nonneg}
 use Rattle.integers.proofs.Solver.{_&_, order, solver}
 
 -- x lies from a to b
@@ -93,17 +93,6 @@ abs-+ x y =
     abs-≤ (order (x ∷ y ∷ absℤ x ∷ absℤ y ∷ []) (≤-abs x & ≤-abs y) (search solver depth 40 fits 20000) (omega arith))
     (order (x ∷ y ∷ absℤ x ∷ absℤ y ∷ []) (neg-≤-abs x & neg-≤-abs y) (search solver depth 40 fits 20000) (omega arith))
 
--- |x y| ≤ |x| |y|, from both signs of both factors
-pub product-≤-abs : (x y : ℤ) → (x *ℤ y) ≤ℤ (absℤ x *ℤ absℤ y)
-product-≤-abs x y =
-    order (x ∷ y ∷ absℤ x ∷ absℤ y ∷ [])
-    (*ℤ-nonneg (gap-nonneg (≤-abs x)) (gap-nonneg (neg-≤-abs y)) & *ℤ-nonneg (gap-nonneg (neg-≤-abs x)) (gap-nonneg (≤-abs y)))
-    (search solver depth 40 fits 20000) (omega arith)
-
--- 2 |a b| ≤ a² + b²
-pub twice-product : (a b : ℤ) → (pos 2 *ℤ (a *ℤ b)) ≤ℤ (a *ℤ a +ℤ b *ℤ b)
-twice-product a b = order (a ∷ b ∷ []) (square-nonneg (a -ℤ b)) (search solver depth 40 fits 20000) (omega arith)
-
 -- ---- the smaller and the greater of two
 leZ-by : (x y : ℤ) (P : Bool → Type 0) → (x ≤ℤ y → P true) → (y ≤ℤ x → P false) → P (leZ x y)
 leZ-by x y P f g = go (leZ x y) (λ t. record { le = t }) (≤ℤ-total x y) (λ h. h .le)
@@ -136,6 +125,3 @@ pub ≤-maxʳ : (x y : ℤ) → y ≤ℤ maxℤ x y
 
 pub max-≤ : {x y m : ℤ} → x ≤ℤ m → y ≤ℤ m → maxℤ x y ≤ℤ m
 max-≤ {x} {y} {m} h k = max-by x y (λ z. z ≤ℤ m) (λ l. k) (λ l. h)
-
-pub ≤-min : {x y m : ℤ} → m ≤ℤ x → m ≤ℤ y → m ≤ℤ minℤ x y
-≤-min {x} {y} {m} h k = min-by x y (λ z. m ≤ℤ z) (λ l. h) (λ l. k)

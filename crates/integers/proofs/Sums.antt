@@ -6,15 +6,12 @@ use mathlib.Core.List.{[], _∷_}
 use Prim.Native.Nat.{ℕ, zero, suc, _+_, _≤_, _<_}
 use native.Mathlib.Omega.{arith}
 use native.Mathlib.Decide.{ℕ-discrete}
-use native.Mathlib.Nat.{add-zero, add-suc}
 use lib.Dec.{T, eqb, eqb→eq, eqb-refl}
-use lib.IntN.{ℤ, pos, _+ℤ_, _-ℤ_, _*ℤ_, *ℤ-zero, zero-*ℤ, *ℤ-comm, +ℤ-idr}
+use lib.IntN.{ℤ, pos, _+ℤ_, _*ℤ_, *ℤ-zero, zero-*ℤ, *ℤ-comm}
 use lib.Signed.{_≤ℤ_, ≤ℤ-refl}
-use Rattle.integers.specs.Numbers.{absℤ}
 use Rattle.integers.specs.Sum.{sum, only, except, sumExcept}
-use Rattle.integers.proofs.Parts.{≤ℤ-trans, +ℤ-mono}
+use Rattle.integers.proofs.Parts.{+ℤ-mono}
 use Rattle.integers.proofs.Solver.{_&_, ring, order, solver}
-use Rattle.integers.proofs.Order.{abs-+}
 
 -- ---- the definition's two cases
 pub sum-zero : (f : ℕ → ℤ) → sum zero f ≡ pos 0
@@ -58,13 +55,6 @@ sum-* (suc n) c f =
 pub sum-*ʳ : (n : ℕ) (f : ℕ → ℤ) (c : ℤ) → sum n (λ i. f i *ℤ c) ≡ sum n f *ℤ c
 sum-*ʳ n f c = sum-ext n (λ i. f i *ℤ c) (λ i. c *ℤ f i) (λ i k. *ℤ-comm (f i) c) ∙ sum-* n c f ∙ *ℤ-comm c (sum n f)
 
-pub sum-- : (n : ℕ) (f g : ℕ → ℤ) → sum n (λ i. f i -ℤ g i) ≡ sum n f -ℤ sum n g
-unfolding sum
-sum-- zero f g = refl
-sum-- (suc n) f g =
-    ap (λ (u : ℤ). u +ℤ (f n -ℤ g n)) (sum-- n f g)
-    ∙ ring (sum n f ∷ sum n g ∷ f n ∷ g n ∷ []) (search solver depth 40 fits 20000) refl
-
 pub sum-swap : (n m : ℕ) (f : ℕ → ℕ → ℤ) → sum n (λ i. sum m (λ j. f i j)) ≡ sum m (λ j. sum n (λ i. f i j))
 unfolding sum
 sum-swap zero m f = sym (sum-none m (λ j. pos 0) (λ j k. refl))
@@ -85,19 +75,7 @@ unfolding sum
 sum-nonneg zero f h = ≤ℤ-refl (pos 0)
 sum-nonneg (suc n) f h = +ℤ-mono (sum-nonneg n f (λ i k. h i (omega arith))) (h n (omega arith))
 
-pub sum-abs : (n : ℕ) (f : ℕ → ℤ) → absℤ (sum n f) ≤ℤ sum n (λ i. absℤ (f i))
-unfolding sum absℤ
-sum-abs zero f = ≤ℤ-refl (pos 0)
-sum-abs (suc n) f = ≤ℤ-trans (abs-+ (sum n f) (f n)) (+ℤ-mono (sum-abs n f) (≤ℤ-refl (absℤ (f n))))
-
--- ---- a sum cut in two, and a prefix of which the rest is 0
-pub sum-split : (m n : ℕ) (f : ℕ → ℤ) → sum (m + n) f ≡ sum m f +ℤ sum n (λ i. f (m + i))
-unfolding sum
-sum-split m zero f = rw (add-zero m) (sym (+ℤ-idr (sum m f)))
-sum-split m (suc n) f =
-    rw (add-suc m n) (ap (λ (u : ℤ). u +ℤ f (m + n)) (sum-split m n f)
-    ∙ ring (sum m f ∷ sum n (λ i. f (m + i)) ∷ f (m + n) ∷ []) (search solver depth 40 fits 20000) refl)
-
+-- ---- a prefix of which the rest is 0
 pub sum-prefix : (n m : ℕ) (f : ℕ → ℤ) → m ≤ n → ((k : ℕ) → m ≤ k → k < n → f k ≡ pos 0) → sum n f ≡ sum m f
 sum-prefix zero m f h z = let e : m ≡ 0 = omega arith in rw e refl
 sum-prefix (suc n) m f h z = go (ℕ-discrete m (suc n)) (λ k. sum-prefix n m f k (λ k a b. z k a (omega arith)))

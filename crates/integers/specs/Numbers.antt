@@ -1,4 +1,4 @@
--- The size of an integer, and the smaller and the greater of two.
+-- The size of an integer (R1.5 of docs/RULES.md), and the smaller and the greater of two.
 use mathlib.Core.Bool.{true, false}
 use Prim.Native.Nat.{ℕ, _≤_}
 use lib.IntN.{ℤ, pos, natAbs}

@@ -1,4 +1,4 @@
--- Whole roots.
+-- R1.3 and R1.4 of docs/RULES.md: whole roots.
 use mathlib.Core.Bool.{true, false}
 use Prim.Native.Nat.{ℕ, zero, suc, _+_, _*_, _/_}
 use lib.Dec.{leb}
@@ -14,7 +14,7 @@ unfoldable pub rootWithin : ℕ → ℕ → ℕ
 rootWithin zero x = 0
 rootWithin (suc k) x = elim (leb x 0) [ true ↦ 0 | false ↦ rootDigit x (rootWithin k (x / 4)) ]
 
--- the only r ≥ 0 with r² ≤ x < (r + 1)², for an x that is not negative
+-- R1.3: the only r ≥ 0 with r² ≤ x < (r + 1)², for an x that is not negative
 unfoldable pub wholeRoot : ℤ → ℤ
 wholeRoot x = pos (rootWithin (natAbs x) (natAbs x))
 
@@ -24,6 +24,6 @@ rootAbove (pos zero) = pos 0
 rootAbove (pos (suc q)) = pos (suc (rootWithin q q))
 rootAbove (negsuc q) = pos 0
 
--- the least s ≥ 0 with b ≤ t s², for a t from 1 up
+-- R1.4: the least s ≥ 0 with b ≤ t s², for a t from 1 up
 unfoldable pub leastRoot : ℤ → ℤ → ℤ
 leastRoot t b = rootAbove (ceilDiv b t)

@@ -1,4 +1,4 @@
--- Finite sums over ℤ.
+-- Finite sums over ℤ (R3.3 of docs/RULES.md).
 use mathlib.Core.Bool.{true, false}
 use Prim.Native.Nat.{ℕ, zero, suc}
 use lib.Dec.{eqb}

@@ -1,4 +1,4 @@
-// Floor division and whole root of signed 64-bit numbers.
+// Floor division and whole root of signed 64-bit numbers, R1.1 and R1.3 of docs/RULES.md.
 ghost use mathlib.Core.Path.{_≡_};
 ghost use Prim.Native.Nat.{_+_, _*_, _^_, _/_, _≤_, _<_};
 ghost use lib.IntN.{pos};
@@ -6,23 +6,24 @@ ghost use lib.Signed.{_≤ℤ_, mag};
 ghost use Rattle.integers.specs.Division.{floorDiv};
 ghost use Rattle.integers.specs.Root.{wholeRoot};
 
-// a / d rounded down toward minus infinity, by one unsigned division whatever the sign of a.
+// a / d rounded down toward minus infinity. The machine rounds toward zero: where a is negative, -1 - a is divided, and the quotient is
+// taken off -1.
 pub fn floor_div(a: i64, d: i64) -> i64
     requires { ⌜ pos 1 ≤ℤ d ⌝ }
     ensures { λ r. ⌜ r ≡ floorDiv a d ⌝ }
 {
-    let quotient = (magnitude(a) / (d as u64)) as i64;
+    let quotient = magnitude(a) / d;
     if a < 0 { -1 - quotient } else { quotient }
 }
 
 // -1 - a where a is negative, and a elsewhere.
-fn magnitude(a: i64) -> u64
-    ensures { λ r. ⌜ r ≡ mag a ⌝ }
+fn magnitude(a: i64) -> i64
+    ensures { λ r. ⌜ r ≡ pos (mag a) ⌝ }
 {
-    if a < 0 { (-1 - a) as u64 } else { a as u64 }
+    if a < 0 { -1 - a } else { a }
 }
 
-// The whole root of x, rounded down.
+// The whole root of x (R1.3).
 pub fn whole_root(x: i64) -> i64
     requires { ⌜ pos 0 ≤ℤ x ⌝ }
     ensures { λ r. ⌜ r ≡ wholeRoot x ⌝ }
@@ -30,7 +31,8 @@ pub fn whole_root(x: i64) -> i64
     root(x as u64) as i64
 }
 
-// By Newton's steps, which fall to the root from above and end where a square is not above x: one division for most x, and two for the others.
+// By Newton's steps, which fall to the root from above and end where a square is not above x: one division for most x, and two for the
+// others.
 fn root(x: u64) -> u64
     requires { ⌜ x < 2 ^ 63 ⌝ }
     ensures { λ r. ⌜ (r * r ≤ x) × (x < (r + 1) * (r + 1)) × (r < 2 ^ 32) ⌝ }

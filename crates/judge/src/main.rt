@@ -1,4 +1,4 @@
-// The program: a summary file on standard input, its verdict and its box on standard output.
+// The program, R19 of docs/RULES.md: a summary file on standard input, its verdict and its box on standard output.
 use libc::STDIN_FILENO;
 use libc::STDOUT_FILENO;
 

@@ -1,16 +1,55 @@
--- A problem that was let through has an order, and arrays with room for it.
-use Prim.Native.Nat.{_*_, _≤_, _<_}
-use lib.ListN.{length}
-use Rattle.tables.specs.Ranges.{greatestOrder}
-use Rattle.tables.proofs.Checks.{order-of}
-use Rattle.verdict.proofs.Decisions.{order-positive}
-use Rattle.summary.specs.declared.problem.Problem.{Problem}
+-- A problem that was let through is behind the door of every act, and has what the acts ask of its numbers.
+use mathlib.Core.Path.{_≡_, refl, _∙_}
+use mathlib.Core.Bool.{true}
+use Prim.Native.Nat.{ℕ, _≤_, _<_}
+use native.Mathlib.Omega.{arith}
+use lib.IntN.{pos}
+use Rattle.integers.specs.Numbers.{Within}
+use Rattle.integers.proofs.Parts.{≤-out}
+use Rattle.tables.specs.Ranges.{greatestOrder, limitRange}
+use Rattle.tables.specs.Bounds.{CheckedTables}
+use Rattle.tables.specs.Checks.{orderOf, entryChecks}
+use Rattle.tables.specs.Problem.{problemWithin}
+use Rattle.tables.specs.declared.problem.Constraint.{Constraint}
+use Rattle.tables.specs.declared.problem.Problem.{Problem}
+use Rattle.tables.proofs.Matrix.{table-fits}
+use Rattle.tables.proofs.Checks.{first-passes, first-none, more-checks, order-of, passed-bounds}
+use Rattle.tables.proofs.Admission.{Behind, behind, order-known}
+use Rattle.centre.specs.Contracts.{Centred}
+use Rattle.enclosure.proofs.BoxCases.{limit-within, centred}
 use Rattle.summary.specs.Problems.{LetThrough}
-use Rattle.summary.proofs.Spelled.{Rooms, rooms-fit}
 
 module _ {p : Problem} (l : LetThrough p) where
-  pub rooms : Rooms p
-  rooms = record { order = order-of (l .order) .1; low = l .low-size; high = l .high-size; linear = l .linear-size; centre = l .centre-size }
+  abbrev c : Constraint
+  c = p .constraint
 
-  pub fits : let n = p .order in (0 < n) × (n ≤ greatestOrder) × (n * n ≤ length (p .low)) × (n * n ≤ length (p .high)) × (n ≤ length (p .linear)) × (n ≤ length (p .centre))
-  fits = let f = rooms-fit rooms in (order-positive _ (l .order), f .0, f .1, f .2, f .3, f .4)
+  abbrev n : ℕ
+  n = c .order
+
+  pub known : orderOf (pos n) ≡ n
+  known = order-known (pos n) (l .order)
+
+  pub through : Behind (pos n) true (problemWithin p) (c .low) (c .high)
+  unfolding entryChecks
+  through =
+      behind (pos n) true (problemWithin p) (c .low) (c .high)
+      (more-checks (entryChecks (pos n) true) _ (first-passes _ _ (l .order) ∙ first-passes _ _ refl ∙ first-none) ∙ rw known (l .checks))
+
+  pub order : (0 < n) × (n ≤ greatestOrder)
+  order = (omega (arith, ≤-out (order-of (l .order) .0)), l .rooms .order)
+
+  pub tables : CheckedTables n (c .low) (c .high)
+  tables =
+      let t = table-fits (order .1) in
+      record {
+        order = order .1;
+        low-length = omega (arith, l .rooms .low);
+        high-length = omega (arith, l .rooms .high);
+        bounds = passed-bounds n (c .low) (c .high) (rw known at (through .tables));
+      }
+
+  pub terms : Centred n (c .low) (c .high) (c .linear) (p .centre)
+  terms = centred n (c .linear) (c .limit) (p .centre) (through .within) tables (omega (arith, order .1, l .rooms .linear)) (omega (arith, order .1, l .rooms .centre))
+
+  pub limit : Within limitRange (c .limit)
+  limit = limit-within n (c .linear) (c .limit) (p .centre) (through .within)

@@ -1,33 +1,36 @@
 -- What the program's text means, of any file at all: 'definite' first, 'not' first, and 'empty' last. The first byte tells the verdicts and a refusal apart;
 -- the last but one tells 'empty' from a number's last digit.
 use mathlib.Core.Path.{_≡_, refl, sym, ap, subst, _∙_}
+use mathlib.Core.Bool.{true}
 use mathlib.Core.List.{List, [], _∷_, _++_, append-assoc}
-use Prim.Native.Nat.{ℕ, zero, suc, _<_, _≤_}
+use Prim.Native.Nat.{ℕ, zero, suc, _<_}
 use native.Mathlib.Omega.{arith}
 use lib.IntN.{ℤ, pos}
 use lib.ListN.{getD, drop}
-use Rattle.tables.specs.Ranges.{greatestOrder}
 use Rattle.tables.specs.Matrix.{at, nth}
 use Rattle.tables.specs.Members.{PositiveDefinite}
 use Rattle.tables.specs.Refusals.{refusalNumber}
 use Rattle.tables.specs.declared.Refusal.{Refusal}
 use Rattle.tables.specs.declared.Checked.the-variants as Checked
+use Rattle.tables.specs.declared.problem.Constraint.{Constraint}
+use Rattle.tables.specs.declared.problem.Problem.{Problem}
 use Rattle.vectors.specs.Least.{Witness}
-use Rattle.verdict.specs.Judge.{Judgement, judgement, written, Meaning}
+use Rattle.verdict.specs.Judge.{Judgement, judged, written}
 use Rattle.verdict.specs.Judge as Judge
-use Rattle.verdict.proofs.Meanings.{judgement-means}
+use Rattle.verdict.specs.declared.judge.Verdict.the-variants as Verdict
+use Rattle.verdict.proofs.Meanings.{judged-means}
 use Rattle.enclosure.specs.Points.{Point}
-use Rattle.enclosure.specs.Box.{Box, boxAnswer}
-use Rattle.enclosure.specs.Box as Box
-use Rattle.enclosure.proofs.Enclosing.{Says, answer-says}
-use Rattle.summary.specs.declared.problem.Problem.{Problem}
-use Rattle.summary.specs.Problems.{reading}
+use Rattle.sides.specs.Sides.{Box}
+use Rattle.sides.specs.Sides as Box
+use Rattle.enclosure.specs.Box.{problemBox}
+use Rattle.enclosure.proofs.Enclosing.{Says, box-says}
+use Rattle.summary.specs.Problems.{LetThrough, reading}
 use Rattle.summary.proofs.Spelled.{reading-through}
 use Rattle.text.specs.Text.{ascii, digit, newline, line, lines}
 use Rattle.text.proofs.Endings.{Ends, ends-same, ends-behind, line-ends, lines-end}
 use Rattle.report.specs.Lines.{numbered, verdictText, boxText}
-use Rattle.report.specs.Report.{problemText, printed}
-use Rattle.report.proofs.Fitting.{fits}
+use Rattle.report.specs.Report.{problemVerdict, problemText, printed}
+use Rattle.report.proofs.Fitting.{known, through, order, tables}
 use Rattle.report.proofs.Printed.{printed-problem, printed-passed}
 
 -- a text's first byte
@@ -36,7 +39,9 @@ first t = getD t 0 0
 
 -- what a verdict means, with what it writes
 abbrev Means : ℕ → List ℤ → List ℤ → Judgement → Type 0
-Means n l u g = let j = written g [] [] in Meaning (j .verdict) n l u (j .factor) (j .vector)
+Means n l u g =
+    let j = written g [] [] in
+    (j .verdict ≡ Verdict.Definite → PositiveDefinite n (at n l) (at n u)) × (j .verdict ≡ Verdict.NotDefinite → Witness n (at n l) (at n u) (nth (j .vector)))
 
 -- ---- the verdict's lines, with others behind them
 module _ (n : ℕ) (l u : List ℤ) (behind t : List ℕ) where
@@ -49,8 +54,8 @@ module _ (n : ℕ) (l u : List ℤ) (behind t : List ℕ) where
   first-line : (g : Judgement) → Means n l u g →
       (verdictText n g ++ behind ≡ ascii "definite\n" ++ t → PositiveDefinite n (at n l) (at n u)) × (verdictText n g ++ behind ≡ ascii "not\n" ++ t → Shown)
   unfolding verdictText numbered line
-  first-line (Judge.definite f) m = (λ e. m .definite refl, λ e. absurd (omega (arith, ap first e)))
-  first-line (Judge.notDefinite x) m = (λ e. absurd (omega (arith, ap first e)), λ e. record { vector = x; text = sym (ap (drop 4) e); witness = m .shown refl })
+  first-line (Judge.definite f) m = (λ e. m .0 refl, λ e. absurd (omega (arith, ap first e)))
+  first-line (Judge.notDefinite x) m = (λ e. absurd (omega (arith, ap first e)), λ e. record { vector = x; text = sym (ap (drop 4) e); witness = m .1 refl })
   first-line Judge.undecided m = (λ e. absurd (omega (arith, ap first e)), λ e. absurd (omega (arith, ap first e)))
   first-line (Judge.refused r) m = (λ e. absurd (omega (arith, ap first e)), λ e. absurd (omega (arith, ap first e)))
 
@@ -76,41 +81,43 @@ module _ (s : List ℕ) where
   abbrev p : Problem
   p = reading s .problem
 
+  abbrev c : Constraint
+  c = p .constraint
+
   abbrev n : ℕ
-  n = p .order
-
-  abbrev verdict : Judgement
-  verdict = judgement n (p .low) (p .high)
-
-  abbrev box : Box
-  box = boxAnswer n (p .low) (p .high) (p .linear) (p .limit) (p .centre)
+  n = c .order
 
   module _ (h : reading s .checked ≡ Checked.Passed) where
-    order : (0 < n) × (n ≤ greatestOrder)
-    order = let f = fits (reading-through s h) in (f .0, f .1)
+    passed : LetThrough p
+    passed = reading-through s h
 
-    means : Means n (p .low) (p .high) verdict
-    means = judgement-means (p .low) (p .high) [] [] n (order .1)
+    means : Means n (c .low) (c .high) (problemVerdict p)
+    unfolding problemVerdict
+    means =
+        let b = through passed in
+        let m = judged-means (pos n) true (c .low) (c .high) (record { ordered = b .ordered; sizes = refl; within = refl; checked = b .tables; tables = b .tables }) [] [] in
+        subst (λ (k : ℕ). Means k (c .low) (c .high) (judged k (at k (c .low)) (at k (c .high)))) (known passed) (m .definite, m .shown)
 
   -- 'definite' first: every member of the file's tables is positive definite
-  pub definite-means : (t : List ℕ) → printed s ≡ ascii "definite\n" ++ t → (reading s .checked ≡ Checked.Passed) × PositiveDefinite n (at n (p .low)) (at n (p .high))
+  pub definite-means : (t : List ℕ) → printed s ≡ ascii "definite\n" ++ t → (reading s .checked ≡ Checked.Passed) × PositiveDefinite n (at n (c .low)) (at n (c .high))
   unfolding problemText numbered line
   definite-means t e =
       let h = printed-passed s refl (λ r q. omega (arith, ap first (sym q ∙ e))) in
-      (h, first-line n (p .low) (p .high) (boxText n box) t _ (means h) .0 (sym (printed-problem s refl h) ∙ e))
+      (h, first-line n (c .low) (c .high) (boxText n (problemBox p)) t _ (means h) .0 (sym (printed-problem s refl h) ∙ e))
 
   -- 'not' first: the vector that is printed next has x'Mx ≤ 0 for some member M
-  pub not-means : (t : List ℕ) → printed s ≡ ascii "not\n" ++ t → (reading s .checked ≡ Checked.Passed) × Shown n (p .low) (p .high) (boxText n box) t
+  pub not-means : (t : List ℕ) → printed s ≡ ascii "not\n" ++ t → (reading s .checked ≡ Checked.Passed) × Shown n (c .low) (c .high) (boxText n (problemBox p)) t
   unfolding problemText numbered line
   not-means t e =
       let h = printed-passed s refl (λ r q. omega (arith, ap first (sym q ∙ e))) in
-      (h, first-line n (p .low) (p .high) (boxText n box) t _ (means h) .1 (sym (printed-problem s refl h) ∙ e))
+      (h, first-line n (c .low) (c .high) (boxText n (problemBox p)) t _ (means h) .1 (sym (printed-problem s refl h) ∙ e))
 
   -- 'empty' last: the ellipsoid has no point
   pub empty-means : (t : List ℕ) → printed s ≡ t ++ ascii "empty\n"
-      → (reading s .checked ≡ Checked.Passed) × ((X : ℕ → ℤ) (q : ℤ) → Point n (at n (p .low)) (at n (p .high)) (nth (p .linear)) (p .limit) X q → ⊥)
-  unfolding problemText
+      → (reading s .checked ≡ Checked.Passed) × ((X : ℕ → ℤ) (q : ℤ) → Point n (at n (c .low)) (at n (c .high)) (nth (c .linear)) (c .limit) X q → ⊥)
+  unfolding problemText problemBox
   empty-means t e =
       let h = printed-passed s refl (λ r q. not-empty (numbered-ends (ascii "refused") r) (omega arith) t (sym q ∙ e)) in
-      let b = empty-last n (order h .0) box (verdictText n verdict) t (sym (printed-problem s refl h) ∙ e) in
-      (h, subst (Says n (at n (p .low)) (at n (p .high)) (nth (p .linear)) (p .limit)) b (answer-says n (order h .1) (p .low) (p .high) (p .linear) (p .limit) (p .centre)))
+      let b = empty-last n (order (passed h) .0) (problemBox p) (verdictText n (problemVerdict p)) t (sym (printed-problem s refl h) ∙ e) in
+      let z = tables (passed h) in
+      (h, subst (Says n (at n (c .low)) (at n (c .high)) (nth (c .linear)) (c .limit)) b (box-says n (z .order) (at n (c .low)) (at n (c .high)) (z .bounds) (nth (c .linear)) (c .limit) (nth (p .centre))))

@@ -1,7 +1,7 @@
 -- The rows of a factor: those of its table, and the room that they take up.
 use mathlib.Core.Path.{_≡_}
 use mathlib.Core.List.{List}
-use Prim.Native.Nat.{ℕ, _+_, _*_, _≤_}
+use Prim.Native.Nat.{ℕ, _*_, _≤_}
 use native.Mathlib.Nat.{mul-le-mul}
 use native.Mathlib.Omega.{arith}
 use lib.IntN.{ℤ}
@@ -9,7 +9,7 @@ use Rattle.tables.specs.Ranges.{greatestOrder}
 use Rattle.tables.specs.Matrix.{Matrix, table}
 use Rattle.verdict.specs.FactorTable.{Written}
 use Rattle.verdict.proofs.Writing.{written-nth}
-use Rattle.text.specs.Text.{widest, lines}
+use Rattle.text.specs.Text.{lineRoom, lines}
 use Rattle.text.proofs.SameLines.{lines-ext}
 
 -- the rows of a table that was written
@@ -17,5 +17,5 @@ pub table-lines : (word : List ℕ) {n : ℕ} {M : Matrix} {f : List ℤ} → Wr
 table-lines word {n} {M} {f} w = lines-ext word f (table n M) n n (written-nth w)
 
 -- the rows of the greatest order take up most
-pub rows-room : {n : ℕ} → n ≤ greatestOrder → n * (3 + n * (widest + 1) + 1) ≤ greatestOrder * (3 + greatestOrder * (widest + 1) + 1)
-rows-room {n} h = let l : 3 + n * (widest + 1) + 1 ≤ 3 + greatestOrder * (widest + 1) + 1 = omega arith in mul-le-mul h l
+pub rows-room : {n : ℕ} → n ≤ greatestOrder → n * lineRoom 3 n ≤ greatestOrder * lineRoom 3 greatestOrder
+rows-room {n} h = let l : lineRoom 3 n ≤ lineRoom 3 greatestOrder = omega arith in mul-le-mul h l

@@ -1,25 +1,28 @@
--- Document 01, "Summary file and program": what the program prints of a file.
+-- R19 of docs/RULES.md: what the program prints of a file.
 use mathlib.Core.List.{List, _++_}
-use Prim.Native.Nat.{ℕ, _-_}
+use Prim.Native.Nat.{ℕ, _+_, _-_}
 use lib.ListN.{length, replicate}
+use Rattle.tables.specs.Entering.{lowBounds, highBounds}
 use Rattle.tables.specs.declared.Checked.{Checked}
 use Rattle.tables.specs.declared.Checked.the-variants as Checked
-use Rattle.verdict.specs.Judge.{judgement}
-use Rattle.enclosure.specs.Box.{boxAnswer}
-use Rattle.summary.specs.declared.problem.Problem.{Problem}
+use Rattle.tables.specs.declared.problem.Problem.{Problem}
+use Rattle.verdict.specs.Judge.{Judgement, judged}
+use Rattle.enclosure.specs.Box.{problemBox}
 use Rattle.summary.specs.declared.problem.Reading.{Reading}
 use Rattle.summary.specs.Problems.{reading}
 use Rattle.text.specs.Text.{ascii}
 use Rattle.report.specs.declared.report.Output.{Output}
-use Rattle.report.specs.Lines.{numbered, verdictText, boxText}
+use Rattle.report.specs.Lines.{numbered, verdictText, verdictRoom, boxText, boxRoom}
 
--- the verdict's lines, "then" the box's
+-- the verdict on the bounds of a problem that passed the checks; its box is `problemBox`
+unfoldable pub problemVerdict : Problem → Judgement
+problemVerdict p = let c = p .constraint in judged (c .order) (lowBounds (c .order) (c .low)) (highBounds (c .order) (c .high))
+
+-- R19.4: the lines of the verdict, and behind them those of the box
 unfoldable pub problemText : Problem → List ℕ
-problemText p =
-    verdictText (p .order) (judgement (p .order) (p .low) (p .high))
-    ++ boxText (p .order) (boxAnswer (p .order) (p .low) (p .high) (p .linear) (p .limit) (p .centre))
+problemText p = let n = p .constraint .order in verdictText n (problemVerdict p) ++ boxText n (problemBox p)
 
--- "`refused` and the number, for a file refusal; or" the lines of its problem
+-- R19.2: the file's refusal, or the lines of its problem
 unfoldable pub readingText : Reading → List ℕ
 readingText r = elim (r .checked) [ Checked.Passed ↦ problemText (r .problem) | Checked.Refused k ↦ numbered (ascii "refused") k ]
 
@@ -27,9 +30,9 @@ readingText r = elim (r .checked) [ Checked.Passed ↦ problemText (r .problem) 
 unfoldable pub printed : List ℕ → List ℕ
 printed s = readingText (reading s)
 
--- the size of the program's buffer
+-- the size of the program's buffer: room for a verdict and a box
 abbrev pub reportRoom : ℕ
-reportRoom = 2048
+reportRoom = verdictRoom + boxRoom
 
 unfoldable pub report : List ℕ → Output
 report s = record { text = printed s ++ replicate (reportRoom - length (printed s)) 0; length = length (printed s) }

@@ -1,18 +1,23 @@
-// What the program prints of a summary file.
+// What the program prints of a summary file, R19 of docs/RULES.md.
 ghost use mathlib.Core.Path.{_≡_};
 ghost use Prim.Native.Nat.{_≤_, _<_};
 ghost use lib.ListN.{length, take};
-ghost use Rattle.summary.specs.Problems.{longest, LetThrough};
+ghost use Rattle.tables.specs.Ranges.{greatestOrder, sidesRoom};
+ghost use Rattle.summary.specs.Problems.{longest};
 ghost use Rattle.text.specs.Putting.{Put};
-ghost use Rattle.report.specs.Report.{problemText, reportRoom, report};
+ghost use Rattle.report.specs.Answers.{answersText};
+ghost use Rattle.report.specs.Report.{reportRoom, report};
+use crate::answers::Answers;
+use crate::answers::work_out;
+use crate::lines::BOX_ROOM;
+use crate::lines::VERDICT_ROOM;
 use crate::lines::put_box;
 use crate::lines::put_refused;
 use crate::lines::put_verdict;
-use summary::problem::Problem;
 use tables::Checked;
 
-// The size of the text's buffer.
-const ROOM: usize = 2048;
+// The size of the text's buffer: room for a verdict and a box.
+const ROOM: usize = VERDICT_ROOM + BOX_ROOM;
 
 // What is printed: the first length bytes of text, and zeros after them.
 pub struct Output {
@@ -20,18 +25,19 @@ pub struct Output {
     pub length: usize,
 }
 
-// The lines of a problem: its verdict, then its box.
-fn put_problem(out: &mut [u8], problem: Problem) -> usize
-    requires { ⌜ LetThrough problem × (reportRoom ≤ length (now out)) ⌝ }
-    ensures { λ k. ⌜ Put (now (out .entry)) 0 (problemText problem) reportRoom k (now (out .exit)) ⌝ }
+// The lines of the answers to a problem of order n: the verdict, then the box.
+fn put_answers(out: &mut [u8], n: usize, answers: Answers) -> usize
+    requires { ⌜ (n ≤ greatestOrder) × (length (answers .vector) ≡ greatestOrder) × (length (answers .sides) ≡ sidesRoom)
+        × (reportRoom ≤ length (now out)) ⌝ }
+    ensures { λ k. ⌜ Put (now (out .entry)) 0 (answersText n answers) reportRoom k (now (out .exit)) ⌝ }
 {
-    let n = problem.order;
-    let low = problem.low;
-    let high = problem.high;
-    let linear = problem.linear;
-    let centre = problem.centre;
-    let next = put_verdict(out, 0, n, &low, &high);
-    put_box(out, next, n, &low, &high, &linear, problem.limit, &centre)
+    let verdict = answers.verdict;
+    let factor = answers.factor;
+    let vector = answers.vector;
+    let answer = answers.answer;
+    let sides = answers.sides;
+    let next = put_verdict(out, 0, n, verdict, &factor, &vector);
+    put_box(out, next, n, answer, &sides)
 }
 
 // What the program prints of a file, of any bytes at all.
@@ -45,7 +51,8 @@ pub fn report(file: &[u8]) -> Output
     let problem = reading.problem;
     match checked {
         Checked::Passed => {
-            let length = put_problem(&mut text, problem);
+            let constraint = problem.constraint;
+            let length = put_answers(&mut text, constraint.order, work_out(problem));
             Output { text, length }
         }
         Checked::Refused(r) => {
@@ -55,7 +62,8 @@ pub fn report(file: &[u8]) -> Output
     }
 }
 
-// The same of the file in a buffer, its first size bytes. The buffer has room for more than the longest file, so that a longer one is refused and not cut.
+// The same of the file in a buffer, its first size bytes. The buffer has room for more than the longest file, so that a longer one is
+// refused and not cut.
 pub fn report_read(buffer: &[u8], size: usize) -> Output
     requires { ⌜ (longest < length (now buffer)) × (size ≤ length (now buffer)) ⌝ }
     ensures exact { λ r. ⌜ r ≡ report (take size (now (buffer .entry))) ⌝ }

@@ -1,5 +1,5 @@
--- Demand 3: "Whatever factor is offered, and however it was come by, if the residual test accepts it, then x'Mx > 0 for every symmetric M
--- of fractions between the bounds L and U and every nonzero vector x of fractions". For any order n.
+-- D3.1 of docs/RULES.md: where the residual test accepts an upper triangular matrix, from any source, x'Mx > 0 for all members M
+-- and all x but 0. For any order n.
 use mathlib.Core.Path.{_≡_, ap, ap₂, _∙_}
 use mathlib.Core.Logic.{_≢_, _⊎_, inl, inr}
 use mathlib.Core.List.{[], _∷_}

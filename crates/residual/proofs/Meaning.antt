@@ -1,22 +1,23 @@
--- Demand 3, of an offered factor.
+-- D3.1 of docs/RULES.md: what an accepted factor means.
 use mathlib.Core.Path.{_≡_, subst}
 use mathlib.Core.Bool.{Bool, true, not, _&&_}
 use mathlib.Core.List.{List}
 use Prim.Native.Nat.{ℕ, _≤_, _<_, compare, Ordering, Ordering·lt, Ordering·eq, Ordering·gt}
 use native.Mathlib.Omega.{arith}
 use lib.Dec.{T, isLe, isEq, eqb, leb→le, nleb→lt, eqb→eq, eqb-refl}
-use lib.IntN.{ℤ, pos, natAbs}
+use lib.IntN.{ℤ, pos}
 use lib.Signed.{_≤ℤ_, leZ}
 use Rattle.tables.specs.Ranges.{factorRange}
 use Rattle.tables.specs.Matrix.{Matrix, at}
 use Rattle.tables.specs.Members.{PositiveDefinite}
-use Rattle.tables.specs.Checks.{within, same, tableChecks}
+use Rattle.tables.specs.Checks.{within, same, orderOf}
+use Rattle.tables.specs.Entering.{entered}
 use Rattle.tables.specs.declared.Answer.the-variants as Answer
-use Rattle.tables.proofs.Checks.{true-of, of-true, and-left, all-at, le-of, same-of}
-use Rattle.tables.proofs.Answers.{last-passed, after-yes, yes-true}
+use Rattle.tables.proofs.Checks.{true-of, of-true, and-left, all-at, le-of, same-of, first-passed}
+use Rattle.tables.proofs.Answers.{after-yes, yes-true}
 use Rattle.tables.proofs.Triangular.{UpperTriangular}
 use Rattle.residual.specs.Residual.{accepts}
-use Rattle.residual.specs.FactorTest.{factorEntry, factorShape, factorAnswer, factorTest}
+use Rattle.residual.specs.FactorTest.{factorEntry, factorShape, factorAnswer, factorTested}
 use Rattle.residual.proofs.Definite.{accepted-definite}
 
 -- ---- check 6, of an offered factor: the test of entry (i, j), by cases
@@ -54,19 +55,19 @@ module _ (n : ℕ) (R : Matrix) where
       entry i j h k = all-at _ n (all-at _ n (true-of (factorShape n R) t) i h) j k
 
 -- ---- an offered factor
--- "Whatever factor is offered, and however it was come by, if the residual test accepts it, then x'Mx > 0 for every symmetric M
--- of fractions between the bounds L and U and every nonzero vector x of fractions"
+-- D3.1: where a factor of the right form passes the residual test, the bounds are positive definite,
+-- whoever made the factor
 pub offered-definite : (n : ℕ) (R L U : Matrix) → T (factorShape n R) → T (accepts n R L U) → PositiveDefinite n L U
 offered-definite n R L U s t = accepted-definite n R L U t (shape-upper n R s)
 
-module _ (l u f : List ℤ) where
-  -- so it is where the factor test answers 'accepted'
-  pub answer-definite : (n : ℕ) → factorAnswer n l u f ≡ Answer.Yes → PositiveDefinite n (at n l) (at n u)
-  unfolding factorAnswer
-  answer-definite n e =
-      let p = after-yes _ _ e in
-      offered-definite n (at n f) (at n l) (at n u) (of-true (last-passed (tableChecks n l u) _ (p .0))) (of-true (yes-true (accepts n (at n f) (at n l) (at n u)) (p .1)))
+-- so it is where the factor test answers 'accepted'
+answer-definite : (n : ℕ) (L U R : Matrix) → factorAnswer n L U R ≡ Answer.Yes → PositiveDefinite n L U
+unfolding factorAnswer
+answer-definite n L U R e =
+    let p = after-yes _ _ e in
+    offered-definite n R L U (of-true (first-passed _ _ (p .0))) (of-true (yes-true (accepts n R L U) (p .1)))
 
-  pub test-definite : (n : ℤ) → factorTest n l u f ≡ Answer.Yes → PositiveDefinite (natAbs n) (at (natAbs n) l) (at (natAbs n) u)
-  unfolding factorTest
-  test-definite n e = answer-definite (natAbs n) (after-yes _ _ e .1)
+module _ (l u f : List ℤ) where
+  pub tested-definite : (n : ℤ) (sized : Bool) → factorTested n sized l u f ≡ Answer.Yes → PositiveDefinite (orderOf n) (at (orderOf n) l) (at (orderOf n) u)
+  unfolding factorTested entered
+  tested-definite n sized e = answer-definite (orderOf n) (at (orderOf n) l) (at (orderOf n) u) (at (orderOf n) f) (after-yes _ _ e .1)

@@ -1,8 +1,7 @@
 -- What the rows have over, and the residual test.
 use mathlib.Core.Path.{_≡_, sym, ap, _∙_}
-use mathlib.Core.Bool.{Bool, true, false}
 use mathlib.Core.List.{List, [], _∷_}
-use Prim.Native.Nat.{ℕ, suc, _+_, _*_, _^_, _≤_, _<_}
+use Prim.Native.Nat.{ℕ, suc, _+_, _*_, _≤_, _<_}
 use native.Mathlib.Omega.{arith}
 use native.Mathlib.Decide.{decLt}
 use lib.IntN.{ℤ, pos, _+ℤ_, _-ℤ_, _*ℤ_, *ℤ-comm, zero-*ℤ}
@@ -19,7 +18,7 @@ use Rattle.tables.specs.Matrix.{Matrix, nth, at, gram}
 use Rattle.tables.specs.Checks.{all}
 use Rattle.tables.proofs.Checks.{bool-ext, le-of, all-ext}
 use Rattle.residual.specs.Residual.{residual, radius, rowPasses, accepts}
-use Rattle.residual.specs.Slack.{Offer, gramAt, spread, radiusAt, Room, Charged}
+use Rattle.residual.specs.Slack.{Offer, gramAt, spread, radiusAt, residualRange, RowsWithin, RadiiSubtracted}
 use Rattle.residual.proofs.OfferedFactor.{factor-below}
 use Rattle.residual.proofs.Slack.{radius-within, diagonal-within}
 
@@ -28,7 +27,7 @@ abbrev pub over : ℕ → List ℤ → List ℤ → List ℤ → ℕ → ℕ →
 over n f l u j i = residual n (at n f) (at n l) i i -ℤ sumExcept j i (radius n (at n f) (at n l) (at n u) i)
 
 pub record Rows (n : ℕ) (f l u o : List ℤ) (j : ℕ) : Type 0 where
-  pub room : Room o j
+  pub within : RowsWithin o j
   pub rows : (i : ℕ) → i < j → nth o i ≡ over n f l u j i
 
 module _ {n : ℕ} {f l u : List ℤ} (s : Offer n l u f) where
@@ -56,7 +55,7 @@ module _ {n : ℕ} {f l u : List ℤ} (s : Offer n l u f) where
       let g : sum n (λ k. R k i *ℤ R k j) ≡ sum n (λ k. R k j *ℤ R k i) = sum-ext n _ _ (λ k m. *ℤ-comm (R k i) (R k j)) in
       rw (s .tables .bounds .low-symmetric i j h k, s .tables .bounds .high-symmetric i j h k, g)
 
-  module _ {j : ℕ} (hj : j < n) {o o′ : List ℤ} (w : Rows n f l u o j) (x : Charged n f l u j o o′) where
+  module _ {j : ℕ} (hj : j < n) {o o′ : List ℤ} (w : Rows n f l u o j) (x : RadiiSubtracted n f l u j o o′) where
     -- a row before j
     old-row : (i : ℕ) → i < j → nth o′ i ≡ over n f l u (suc j) i
     old-row i h =
@@ -79,7 +78,7 @@ module _ {n : ℕ} {f l u : List ℤ} (s : Offer n l u f) where
     pub rows-step : Rows n f l u o′ (suc j)
     rows-step =
         record {
-          room = record { size = x .size; rows = λ i h. room-at i h (decLt i j) };
+          within = record { size = x .size; rows = λ i h. within-at i h (decLt i j) };
           rows = λ i h. row-at i h (decLt i j);
         }
       where
@@ -87,11 +86,11 @@ module _ {n : ℕ} {f l u : List ℤ} (s : Offer n l u f) where
         row-at i h (yes k) = old-row i k
         row-at i h (no k) = let e : i ≡ j = omega arith in rw e new-row
 
-        room-at : (i : ℕ) → i < suc j → Dec (i < j) → Within (suc j * 2 ^ 56) (nth o′ i)
-        room-at i h (yes k) = rw (x .before i k) (within-more (omega arith) (within-- (w .room .rows i k) (radius-within s k hj)))
-        room-at i h (no k) =
+        within-at : (i : ℕ) → i < suc j → Dec (i < j) → Within (suc j * residualRange) (nth o′ i)
+        within-at i h (yes k) = rw (x .before i k) (within-more (omega arith) (within-- (w .within .rows i k) (radius-within s k hj)))
+        within-at i h (no k) =
             let e : i ≡ j = omega arith in
-            rw (e, x .own) (within-more (omega arith) (within-- (diagonal-within s hj) (within-sum j (2 ^ 56) _ (λ i h. radius-within s h hj))))
+            rw (e, x .own) (within-more (omega arith) (within-- (diagonal-within s hj) (within-sum j residualRange _ (λ i h. radius-within s h hj))))
 
   -- the residual test is that no row has less than 0 over
   pub rows-test : {o : List ℤ} → Rows n f l u o n → all n (λ i. leZ (pos 0) (nth o i)) ≡ accepts n R L U
@@ -105,4 +104,4 @@ module _ {n : ℕ} {f l u : List ℤ} (s : Offer n l u f) where
           (λ e. leZ-true {x = pos 0} {y = a -ℤ b} (order (a ∷ b ∷ []) (le-of b a e) (search solver depth 40 fits 20000) (omega arith)))
 
 pub rows-start : {n : ℕ} {f l u o : List ℤ} → length o ≡ greatestOrder → Rows n f l u o 0
-rows-start e = record { room = record { size = e; rows = λ i h. absurd (omega arith) }; rows = λ i h. absurd (omega arith) }
+rows-start e = record { within = record { size = e; rows = λ i h. absurd (omega arith) }; rows = λ i h. absurd (omega arith) }

@@ -21,23 +21,24 @@ use Rattle.tables.specs.Ranges.{greatestOrder, entryRange}
 use Rattle.tables.specs.Matrix.{nth, at}
 use Rattle.tables.proofs.CheckedTables.{low-within, high-within}
 use Rattle.cholesky.specs.Scale.{scale}
-use Rattle.residual.specs.Slack.{Shaped, Offer, gramAt, spread, radiusAt, Room, Charged}
+use Rattle.cholesky.specs.Rows.{productRange}
+use Rattle.residual.specs.Slack.{Shaped, Offer, gramAt, spread, radiusAt, gramRange, residualRange, RowsWithin, RadiiSubtracted}
 use Rattle.residual.proofs.OfferedFactor.{factor-within}
 
 -- ---- sizes
-scaled-within : {x : ℤ} → Within entryRange x → Within (2 ^ 52) (scale *ℤ x)
+scaled-within : {x : ℤ} → Within entryRange x → Within productRange (scale *ℤ x)
 scaled-within w = let s : Within (2 ^ 32) scale = record { size = omega arith } in within-more (omega arith) (within-* s w)
 
 pub scaled-fits : {x : ℤ} → Within entryRange x → SFits w64 (scale *ℤ x)
 scaled-fits w = fits-within (scaled-within w) (omega arith)
 
-pub residual-within : {x p : ℤ} → Within entryRange x → Within (2 ^ 55) p → Within (2 ^ 56) (scale *ℤ x -ℤ p)
+pub residual-within : {x p : ℤ} → Within entryRange x → Within gramRange p → Within residualRange (scale *ℤ x -ℤ p)
 residual-within w v = within-more (omega arith) (within-- (scaled-within w) v)
 
-pub residual-fits : {x p : ℤ} → Within entryRange x → Within (2 ^ 55) p → SFits w64 (scale *ℤ x -ℤ p)
+pub residual-fits : {x p : ℤ} → Within entryRange x → Within gramRange p → SFits w64 (scale *ℤ x -ℤ p)
 residual-fits w v = fits-within (residual-within w v) (omega arith)
 
-pub excess-fits : {x p : ℤ} → Within entryRange x → Within (2 ^ 55) p → SFits w64 (p -ℤ scale *ℤ x)
+pub excess-fits : {x p : ℤ} → Within entryRange x → Within gramRange p → SFits w64 (p -ℤ scale *ℤ x)
 excess-fits w v = fits-within (within-- v (scaled-within w)) (omega arith)
 
 -- ---- the greater of the two absolute values, for l ≤ u
@@ -64,74 +65,74 @@ module _ {l u : ℤ} (p : ℤ) (h : l ≤ℤ u) where
   spread-below k = ≤ℤ-antisym (≤ℤ-trans turned (≤ℤ-trans (neg-≤-abs _) (≤-maxˡ _ _))) (spread-is _ k (≤ℤ-refl _))
 
 -- ---- the radii
-pub spread-within : {l u p : ℤ} → l ≤ℤ u → Within entryRange l → Within entryRange u → Within (2 ^ 55) p → Within (2 ^ 56) (spread l u p)
+pub spread-within : {l u p : ℤ} → l ≤ℤ u → Within entryRange l → Within entryRange u → Within gramRange p → Within residualRange (spread l u p)
 unfolding spread
 spread-within {l} {u} {p} h v w q =
     within-in (≤ℤ-trans (leZ-yes tt) (spread-nonneg l u p))
-    (spread-is p h (pos (2 ^ 56)) (within-high (residual-within w q)) (≤ℤ-trans (turned p h) (within-high (within-neg (residual-within v q)))))
+    (spread-is p h (pos residualRange) (within-high (residual-within w q)) (≤ℤ-trans (turned p h) (within-high (within-neg (residual-within v q)))))
   where
     spread-nonneg : (l u p : ℤ) → pos 0 ≤ℤ spread l u p
     spread-nonneg l u p = ≤ℤ-trans (abs-nonneg _) (≤-maxˡ (absℤ (scale *ℤ l -ℤ p)) (absℤ (scale *ℤ u -ℤ p)))
 
 -- ---- an offered factor's products
 module _ {n : ℕ} {f : List ℤ} (s : Shaped n f) where
-  product-within : {i j : ℕ} (k : ℕ) → i ≤ j → j < n → k ≤ i → Within (2 ^ 52) (at n f k i *ℤ at n f k j)
+  product-within : {i j : ℕ} (k : ℕ) → i ≤ j → j < n → k ≤ i → Within productRange (at n f k i *ℤ at n f k j)
   product-within {i} {j} k h m q =
       within-more (omega arith) (within-* (factor-within n (at n f) (s .shape) k i (omega arith) (omega arith)) (factor-within n (at n f) (s .shape) k j (omega arith) m))
 
   pub product-fits : {i j : ℕ} (k : ℕ) → i ≤ j → j < n → k ≤ i → SFits w64 (at n f k i *ℤ at n f k j)
   product-fits k h m q = fits-within (product-within k h m q) (omega arith)
 
-  products-within : {i j : ℕ} (k : ℕ) → i ≤ j → j < n → k ≤ suc i → Within (k * 2 ^ 52) (sum k (λ l. at n f l i *ℤ at n f l j))
-  products-within k h m q = within-sum k (2 ^ 52) _ (λ l p. product-within l h m (omega arith))
+  products-within : {i j : ℕ} (k : ℕ) → i ≤ j → j < n → k ≤ suc i → Within (k * productRange) (sum k (λ l. at n f l i *ℤ at n f l j))
+  products-within k h m q = within-sum k productRange _ (λ l p. product-within l h m (omega arith))
 
   pub products-fit : {i j : ℕ} (k : ℕ) → i ≤ j → j < n → k ≤ i → SFits w64 (sum k (λ l. at n f l i *ℤ at n f l j) +ℤ at n f k i *ℤ at n f k j)
-  products-fit k h m q = let n8 = s .order in fits-within (within-+ (products-within k h m (omega arith)) (product-within k h m q)) (omega arith)
+  products-fit k h m q = let small = s .order in fits-within (within-+ (products-within k h m (omega arith)) (product-within k h m q)) (omega arith)
 
-  pub gram-within : {i j : ℕ} → i ≤ j → j < n → Within (2 ^ 55) (gramAt (at n f) i j)
+  pub gram-within : {i j : ℕ} → i ≤ j → j < n → Within gramRange (gramAt (at n f) i j)
   unfolding gramAt
-  gram-within {i} h k = let n8 = s .order in within-more (omega arith) (products-within (suc i) h k (omega arith))
+  gram-within {i} h k = let small = s .order in within-more (omega arith) (products-within (suc i) h k (omega arith))
 
 -- ---- with the tables
 module _ {n : ℕ} {f l u : List ℤ} (s : Offer n l u f) where
-  pub radius-within : {i j : ℕ} → i < j → j < n → Within (2 ^ 56) (radiusAt n f l u i j)
+  pub radius-within : {i j : ℕ} → i < j → j < n → Within residualRange (radiusAt n f l u i j)
   unfolding radiusAt
   radius-within {i} {j} h k =
       spread-within (s .tables .bounds .ordered i j (omega arith) k) (low-within (s .tables) (omega arith) k) (high-within (s .tables) (omega arith) k) (gram-within (s .factor) (omega arith) k)
 
-  pub diagonal-within : {j : ℕ} → j < n → Within (2 ^ 56) (scale *ℤ at n l j j -ℤ gramAt (at n f) j j)
+  pub diagonal-within : {j : ℕ} → j < n → Within residualRange (scale *ℤ at n l j j -ℤ gramAt (at n f) j j)
   diagonal-within k = residual-within (low-within (s .tables) k k) (gram-within (s .factor) (omega arith) k)
 
--- ---- column j is being charged: rows before i have lost their radius, rows from i on have not, and own is what is left of row j
-pub record Charging (n : ℕ) (f l u : List ℤ) (j : ℕ) (o₀ o : List ℤ) (own : ℤ) (i : ℕ) : Type 0 where
+-- ---- the radii of column j are being subtracted: rows before i have lost theirs, rows from i on have not, and own is what is left of row j
+pub record Subtracting (n : ℕ) (f l u : List ℤ) (j : ℕ) (o₀ o : List ℤ) (own : ℤ) (i : ℕ) : Type 0 where
   pub size : length o ≡ greatestOrder
   pub done : (k : ℕ) → k < i → nth o k ≡ nth o₀ k -ℤ radiusAt n f l u k j
   pub rest : (k : ℕ) → i ≤ k → nth o k ≡ nth o₀ k
   pub own-is : own ≡ scale *ℤ at n l j j -ℤ gramAt (at n f) j j -ℤ sum i (λ k. radiusAt n f l u k j)
 
-module _ {n : ℕ} {f l u : List ℤ} {j : ℕ} {o₀ : List ℤ} (s : Offer n l u f) (hj : j < n) (room : Room o₀ j) where
-  pub charging-start : {own : ℤ} → own ≡ scale *ℤ at n l j j -ℤ gramAt (at n f) j j → Charging n f l u j o₀ o₀ own 0
-  charging-start {own} e =
+module _ {n : ℕ} {f l u : List ℤ} {j : ℕ} {o₀ : List ℤ} (s : Offer n l u f) (hj : j < n) (rows : RowsWithin o₀ j) where
+  pub subtracting-start : {own : ℤ} → own ≡ scale *ℤ at n l j j -ℤ gramAt (at n f) j j → Subtracting n f l u j o₀ o₀ own 0
+  subtracting-start {own} e =
       record {
-        size = room .size;
+        size = rows .size;
         done = λ k h. absurd (omega arith);
         rest = λ k h. refl;
         own-is = e ∙ rw (sum-zero (λ k. radiusAt n f l u k j)) (ring (at n l j j ∷ gramAt (at n f) j j ∷ []) (search solver depth 40 fits 20000) refl);
       }
 
-  module _ {o : List ℤ} {own : ℤ} {i : ℕ} (hi : i < j) (w : Charging n f l u j o₀ o own i) where
-    pub charging-row-fits : SFits w64 (nth o i -ℤ radiusAt n f l u i j)
-    charging-row-fits =
-        let n8 = s .factor .order in
-        rw (w .rest i (omega arith)) (fits-within (within-- (room .rows i hi) (radius-within s hi hj)) (omega arith))
+  module _ {o : List ℤ} {own : ℤ} {i : ℕ} (hi : i < j) (w : Subtracting n f l u j o₀ o own i) where
+    pub subtracting-row-fits : SFits w64 (nth o i -ℤ radiusAt n f l u i j)
+    subtracting-row-fits =
+        let small = s .factor .order in
+        rw (w .rest i (omega arith)) (fits-within (within-- (rows .rows i hi) (radius-within s hi hj)) (omega arith))
 
-    pub charging-own-fits : SFits w64 (own -ℤ radiusAt n f l u i j)
-    charging-own-fits =
-        let n8 = s .factor .order in
-        rw (w .own-is) (fits-within (within-- (within-- (diagonal-within s hj) (within-sum i (2 ^ 56) _ (λ k h. radius-within s (omega arith) hj))) (radius-within s hi hj)) (omega arith))
+    pub subtracting-own-fits : SFits w64 (own -ℤ radiusAt n f l u i j)
+    subtracting-own-fits =
+        let small = s .factor .order in
+        rw (w .own-is) (fits-within (within-- (within-- (diagonal-within s hj) (within-sum i residualRange _ (λ k h. radius-within s (omega arith) hj))) (radius-within s hi hj)) (omega arith))
 
-    pub charging-next : Charging n f l u j o₀ (set o i (nth o i -ℤ radiusAt n f l u i j)) (own -ℤ radiusAt n f l u i j) (suc i)
-    charging-next =
+    pub subtracting-next : Subtracting n f l u j o₀ (set o i (nth o i -ℤ radiusAt n f l u i j)) (own -ℤ radiusAt n f l u i j) (suc i)
+    subtracting-next =
         record {
           size = length-set o i _ ∙ w .size;
           done = λ k h. at-done k (omega arith) (ℕ-discrete k i);
@@ -141,12 +142,12 @@ module _ {n : ℕ} {f l u : List ℤ} {j : ℕ} {o₀ : List ℤ} (s : Offer n l
         }
       where
         at-done : (k : ℕ) → k < suc i → Dec (k ≡ i) → nth (set o i (nth o i -ℤ radiusAt n f l u i j)) k ≡ nth o₀ k -ℤ radiusAt n f l u k j
-        at-done k h (yes e) = let n8 = s .factor .order in rw e (getD-set-same o i _ (pos 0) (rw (w .size) (omega arith)) ∙ ap (λ (z : ℤ). z -ℤ radiusAt n f l u i j) (w .rest i (omega arith)))
+        at-done k h (yes e) = let small = s .factor .order in rw e (getD-set-same o i _ (pos 0) (rw (w .size) (omega arith)) ∙ ap (λ (z : ℤ). z -ℤ radiusAt n f l u i j) (w .rest i (omega arith)))
         at-done k h (no e) = getD-set-other o i k _ (pos 0) e ∙ w .done k (omega arith)
 
-  pub charging-end : {o : List ℤ} {own : ℤ} → Charging n f l u j o₀ o own j → Charged n f l u j o₀ (set o j own)
-  charging-end {o} {own} w =
-      let n8 = s .factor .order in
+  pub subtracting-end : {o : List ℤ} {own : ℤ} → Subtracting n f l u j o₀ o own j → RadiiSubtracted n f l u j o₀ (set o j own)
+  subtracting-end {o} {own} w =
+      let small = s .factor .order in
       record {
         size = length-set o j own ∙ w .size;
         before = λ i h. getD-set-other o j i own (pos 0) (omega arith) ∙ w .done i h;

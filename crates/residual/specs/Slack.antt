@@ -1,8 +1,9 @@
--- How the code works out the residual test: column by column, each pair (i, j) once, and for each row what its left side has over its right side.
+-- How the code works out the residual test: column by column, each pair (i, j) once, and for each row what its left side has over
+-- its right side.
 use mathlib.Core.Path.{_≡_}
 use mathlib.Core.Bool.{true}
 use mathlib.Core.List.{List}
-use Prim.Native.Nat.{ℕ, suc, _*_, _^_, _≤_, _<_}
+use Prim.Native.Nat.{ℕ, suc, _+_, _*_, _≤_, _<_}
 use lib.IntN.{ℤ, _-ℤ_, _*ℤ_}
 use lib.ListN.{length}
 use Rattle.integers.specs.Numbers.{Within, absℤ, maxℤ}
@@ -11,7 +12,15 @@ use Rattle.tables.specs.Ranges.{greatestOrder}
 use Rattle.tables.specs.Matrix.{Matrix, nth, at}
 use Rattle.tables.specs.Bounds.{CheckedTables}
 use Rattle.cholesky.specs.Scale.{scale}
+use Rattle.cholesky.specs.Rows.{productRange}
 use Rattle.residual.specs.FactorTest.{factorShape}
+
+-- ---- sizes: P(i,j), a sum of products of two entries of a factor; and 2^32 M(i,j) - P(i,j), where 2^32 M(i,j) is as small as one of them
+abbrev pub gramRange : ℕ
+gramRange = greatestOrder * productRange
+
+abbrev pub residualRange : ℕ
+residualRange = (greatestOrder + 1) * productRange
 
 -- a factor of order n that passed check 6
 pub record Shaped (n : ℕ) (f : List ℤ) : Type 0 where
@@ -35,13 +44,13 @@ spread l u p = maxℤ (absℤ (scale *ℤ l -ℤ p)) (absℤ (scale *ℤ u -ℤ 
 unfoldable pub radiusAt : ℕ → List ℤ → List ℤ → List ℤ → Matrix
 radiusAt n f l u i j = spread (at n l i j) (at n u i j) (gramAt (at n f) i j)
 
--- before column j: what the rows before it have over, of the columns before it, is within j times 2^56
-pub record Room (o : List ℤ) (j : ℕ) : Type 0 where
+-- before column j: what the rows before it have over, of the columns before it, is within j times the range of one
+pub record RowsWithin (o : List ℤ) (j : ℕ) : Type 0 where
   pub size : length o ≡ greatestOrder
-  pub rows : (i : ℕ) → i < j → Within (j * 2 ^ 56) (nth o i)
+  pub rows : (i : ℕ) → i < j → Within (j * residualRange) (nth o i)
 
--- column j is charged: each row i before it loses its radius at (i, j), and row j begins with its diagonal less all of those
-pub record Charged (n : ℕ) (f l u : List ℤ) (j : ℕ) (o o′ : List ℤ) : Type 0 where
+-- the radii of column j were subtracted: each row i before it lost its radius at (i, j), and row j begins with its diagonal less them all
+pub record RadiiSubtracted (n : ℕ) (f l u : List ℤ) (j : ℕ) (o o′ : List ℤ) : Type 0 where
   pub size : length o′ ≡ greatestOrder
   pub before : (i : ℕ) → i < j → nth o′ i ≡ nth o i -ℤ radiusAt n f l u i j
   pub own : nth o′ j ≡ scale *ℤ at n l j j -ℤ gramAt (at n f) j j -ℤ sum j (λ i. radiusAt n f l u i j)

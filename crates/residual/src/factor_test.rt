@@ -1,10 +1,10 @@
-// The factor test.
+// The factor test, R7.4 of docs/RULES.md.
 ghost use mathlib.Core.Path.{_≡_};
 ghost use Prim.Native.Nat.{_*_, _≤_};
-ghost use lib.IntN.{natAbs};
 ghost use lib.ListN.{length};
-ghost use Rattle.tables.specs.Ranges.{greatestOrder};
 ghost use Rattle.tables.specs.Matrix.{at};
+ghost use Rattle.tables.specs.Checks.{orderOf};
+ghost use Rattle.tables.specs.Bounds.{CheckedTables};
 ghost use Rattle.tables.specs.Members.{PositiveDefinite};
 ghost use Rattle.tables.specs.declared.Answer.the-variants as Answer;
 ghost use Rattle.residual.specs.FactorTest.{factorAnswer, factorTest};
@@ -13,16 +13,15 @@ use crate::row_test::accepted;
 use tables::Answer;
 use tables::Checked;
 use tables::Refusal;
+use tables::TABLE_ROOM;
+use tables::entering::enter;
+use tables::entering::order_of;
 
-// Checks 3 to 6 and the residual test, of tables and a factor of order n: the first n² numbers of each.
+// Check 6 and the residual test, of bounds and a factor of order n: the first n² numbers of each.
 pub fn answer(n: usize, low: &[i64], high: &[i64], factor: &[i64]) -> Answer
-    requires { ⌜ (n ≤ greatestOrder) × (n * n ≤ length (now low)) × (n * n ≤ length (now high)) × (n * n ≤ length (now factor)) ⌝ }
-    ensures { λ r. ⌜ r ≡ factorAnswer n (now (low .entry)) (now (high .entry)) (now (factor .entry)) ⌝ }
+    requires { ⌜ CheckedTables n (now low) (now high) × (n * n ≤ length (now factor)) ⌝ }
+    ensures { λ r. ⌜ r ≡ factorAnswer n (at n (now (low .entry))) (at n (now (high .entry))) (at n (now (factor .entry))) ⌝ }
 {
-    let checked = tables::check_tables(n, low, high);
-    if let Checked::Refused(r) = checked {
-        return Answer::Refused(r);
-    }
     if !factor_shape(n, factor) {
         return Answer::Refused(Refusal::Factor);
     }
@@ -33,19 +32,23 @@ pub fn answer(n: usize, low: &[i64], high: &[i64], factor: &[i64]) -> Answer
     }
 }
 
-// The factor test of document 01, of any numbers at all: n is an order or not, and each slice has any length.
+// The factor test, of any numbers at all: n is an order or not, and each slice has any length.
 // Refused by the first of the checks 1 to 6 that fails; else accepted or not, by the residual test.
 pub fn test_factor(n: i64, low: &[i64], high: &[i64], factor: &[i64]) -> Answer
     ensures exact { λ r. ⌜ r ≡ factorTest n (now (low .entry)) (now (high .entry)) (now (factor .entry)) ⌝ }
-    ensures meaning { λ r. ⌜ (r ≡ Answer.Yes → PositiveDefinite (natAbs n) (at (natAbs n) (now (low .entry))) (at (natAbs n) (now (high .entry)))) ⌝ }
+    ensures meaning { λ r. ⌜ (r ≡ Answer.Yes →
+        PositiveDefinite (orderOf n) (at (orderOf n) (now (low .entry))) (at (orderOf n) (now (high .entry)))) ⌝ }
 {
-    if !tables::order_ok(n) {
+    let m = order_of(n);
+    if m == 0 {
         return Answer::Refused(Refusal::Order);
     }
-    let m = n as usize;
-    let size = m * m;
-    if !tables::sizes_ok(size, size, low.len(), high.len(), factor.len()) {
-        return Answer::Refused(Refusal::Length);
+    let sized = tables::sizes_ok(m * m, m * m, low.len(), high.len(), factor.len());
+    let mut l = [0i64; TABLE_ROOM];
+    let mut u = [0i64; TABLE_ROOM];
+    let checked = enter(n, sized, true, low, high, &mut l, &mut u);
+    if let Checked::Refused(r) = checked {
+        return Answer::Refused(r);
     }
-    answer(m, low, high, factor)
+    answer(m, &l, &u, factor)
 }

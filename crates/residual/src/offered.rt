@@ -1,4 +1,4 @@
-// An offered factor: check 6 of document 01, "Refused calls".
+// An offered factor: check 6 (R4.6 of docs/RULES.md).
 ghost use mathlib.Core.Path.{_≡_};
 ghost use Prim.Native.Nat.{_*_, _≤_, _<_};
 ghost use lib.ListN.{length};

@@ -1,6 +1,6 @@
-// Document 01, "Residual test": 2^32 L(i,i) - P(i,i) against the sum over j ≠ i of the greater of |2^32 L(i,j) - P(i,j)| and |2^32 U(i,j) - P(i,j)|.
+// The residual test, R7 of docs/RULES.md: what each row's diagonal residual has over the radii of the row.
 ghost use mathlib.Core.Path.{_≡_};
-ghost use Prim.Native.Nat.{_+_, _*_, _^_, _≤_, _<_};
+ghost use Prim.Native.Nat.{_*_, _≤_, _<_};
 ghost use lib.IntN.{pos, _-ℤ_, _*ℤ_};
 ghost use lib.Signed.{_≤ℤ_, leZ};
 ghost use lib.ListN.{length};
@@ -10,14 +10,14 @@ ghost use Rattle.tables.specs.Matrix.{at, nth};
 ghost use Rattle.tables.specs.Checks.{all};
 ghost use Rattle.cholesky.specs.Scale.{scale};
 ghost use Rattle.residual.specs.Residual.{accepts};
-ghost use Rattle.residual.specs.Slack.{Shaped, Offer, gramAt, spread, radiusAt, Room, Charged};
+ghost use Rattle.residual.specs.Slack.{Shaped, Offer, gramAt, spread, radiusAt, gramRange, RowsWithin, RadiiSubtracted};
 use cholesky::scaling::SCALE;
 use tables::GREATEST_ORDER;
 use tables::Vector;
 
 // The greater of |2^32 low - p| and |2^32 high - p|, where low is at most high.
 fn spread(low: i64, high: i64, p: i64) -> i64
-    requires { ⌜ (low ≤ℤ high) × Within entryRange low × Within entryRange high × Within (2 ^ 55) p ⌝ }
+    requires { ⌜ (low ≤ℤ high) × Within entryRange low × Within entryRange high × Within gramRange p ⌝ }
     ensures { λ r. ⌜ r ≡ spread low high p ⌝ }
 {
     let above = SCALE * high - p;
@@ -58,10 +58,12 @@ fn diagonal(n: usize, low: &[i64], factor: &[i64], j: usize) -> i64
     SCALE * l - product(n, factor, j, j)
 }
 
-// Charges column j: each row i before it loses its radius at (i, j), and row j begins with what its diagonal has over all of those.
-fn charge(n: usize, low: &[i64], high: &[i64], factor: &[i64], j: usize, over: &mut Vector)
-    requires { ⌜ Offer n (now low) (now high) (now factor) × (j < n) × Room (now over) j ⌝ }
-    ensures { λ _. ⌜ Charged n (now (factor .entry)) (now (low .entry)) (now (high .entry)) j (now (over .entry)) (now (over .exit)) ⌝ }
+// Subtracts the radii of column j: each row i before it loses its radius at (i, j), and row j begins with what its diagonal has over
+// all of those.
+fn subtract_radii(n: usize, low: &[i64], high: &[i64], factor: &[i64], j: usize, over: &mut Vector)
+    requires { ⌜ Offer n (now low) (now high) (now factor) × (j < n) × RowsWithin (now over) j ⌝ }
+    ensures { λ _. ⌜ RadiiSubtracted n (now (factor .entry)) (now (low .entry)) (now (high .entry)) j
+        (now (over .entry)) (now (over .exit)) ⌝ }
 {
     let mut own = diagonal(n, low, factor, j);
     let mut i = 0;
@@ -97,7 +99,7 @@ pub fn accepted(n: usize, low: &[i64], high: &[i64], factor: &[i64]) -> bool
     let mut over = [0i64; GREATEST_ORDER];
     let mut j = 0;
     while j < n {
-        charge(n, low, high, factor, j, &mut over);
+        subtract_radii(n, low, high, factor, j, &mut over);
         j += 1;
     }
     nonnegative(&over, n)

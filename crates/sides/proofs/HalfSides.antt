@@ -2,11 +2,11 @@
 use mathlib.Core.Path.{_≡_, refl, sym, ap, _∙_}
 use mathlib.Core.Bool.{Bool, true, false}
 use mathlib.Core.List.{List, [], _∷_, append-assoc}
-use Prim.Native.Nat.{ℕ, zero, suc, _+_, _*_, _^_, _<_}
+use Prim.Native.Nat.{ℕ, zero, suc, _+_, _*_, _<_}
 use native.Mathlib.Omega.{arith}
 use native.Mathlib.Decide.{ℕ-discrete}
 use lib.IntN.{ℤ, pos, _+ℤ_, _-ℤ_, _*ℤ_}
-use lib.Signed.{_≤ℤ_, leZ}
+use lib.Signed.{leZ}
 use lib.ListN.{length, set, length-set}
 use lib.Seq.{getD-set-same, getD-set-other}
 use mir.Syntax.{w64}
@@ -16,36 +16,20 @@ use Rattle.integers.specs.Sum.{sum}
 use Rattle.integers.specs.Division.{ceilDiv}
 use Rattle.integers.specs.Root.{leastRoot}
 use Rattle.integers.proofs.Sums.{sum-ext}
-use Rattle.integers.proofs.Machine.{within-more, within-+, within--, within-*, fits-within}
-use Rattle.tables.specs.Ranges.{greatestOrder, sidesRoom, limitRange}
-use Rattle.tables.specs.Matrix.{at, nth, tabulate}
-use Rattle.tables.specs.Checks.{all}
-use Rattle.sides.specs.Sides.{gradient, atCentre, gradientRange, bound, firstHalf, secondBound, smallerHalf, halfSide, sidesFrom, Box, sides, empty, boxOf}
+use Rattle.integers.proofs.Machine.{within-more, within-+, within-*, fits-within}
+use Rattle.tables.specs.Ranges.{greatestOrder, sidesRoom}
+use Rattle.tables.specs.Matrix.{nth, tabulate}
+use Rattle.sides.specs.Sides.{bound, firstHalf, secondBound, smallerHalf, halfSide, sidesFrom, Box, sides, empty, boxOf}
 use Rattle.tables.specs.Buffers.{Filled}
-use Rattle.arithmetic.specs.Contracts.{boundRange, Terms}
-use Rattle.sides.specs.Contracts.{Centred, Near, Ready, Halved, SidesIn, boxIn}
-use Rattle.arithmetic.proofs.Quotients.{nonneg-within, within-ceil, within-root}
+use Rattle.arithmetic.specs.Contracts.{boundRange, ProductTerms}
+use Rattle.sides.specs.Contracts.{differenceRange, halfRange, Near, SidesIn, boxIn}
+use Rattle.arithmetic.proofs.Quotients.{within-ceil, within-root}
 use Rattle.arithmetic.proofs.Extremes.{within-min}
-use Rattle.arithmetic.proofs.Products.{terms-within}
-use Rattle.sides.proofs.Magnitudes.{two-within, centre-within, gradient-nonneg, near-within}
+use Rattle.arithmetic.proofs.Products.{terms-within, two-within}
 
--- ---- D and the g(k) of a centre, where each g(k) is let through
-module _ {n : ℕ} {l u a c : List ℤ} (q : Centred n l u a c) {t : ℤ} (s : pos 1 ≤ℤ t) {g : List ℤ} (f : Filled greatestOrder n (gradient n (at n l) (at n u) (nth a) (nth c)) g)
-    (e : all n (λ k. leZ (nth g k) (pos gradientRange)) ≡ true) where
-  pub near-of : Near n t g
-  near-of = record {
-    order = q .tables .order;
-    size = f .size;
-    step = s;
-    entries = λ k h. nonneg-within (rw (f .entries k h) (gradient-nonneg n (at n l) (at n u) (nth a) (nth c) k)) (near-within n (nth g) e k h);
-  }
-
-  pub ready-of : {α : ℤ} → Within limitRange α → Ready n c (atCentre n (at n l) (at n u) (nth a) (nth c) α) t g
-  ready-of w = record { near = near-of; centre-length = q .centre-length; centre = q .centre; difference = within-more (omega arith) (centre-within q w) }
-
--- ---- B and B2: within 2^57
+-- ---- B and B2
 module _ {n : ℕ} {t : ℤ} {g : List ℤ} (q : Near n t g) where
-  pub square-terms : Terms n g g
+  pub square-terms : ProductTerms n g g
   square-terms = record {
     order = q .order;
     first-length = omega (arith, q .order, q .size);
@@ -56,26 +40,26 @@ module _ {n : ℕ} {t : ℤ} {g : List ℤ} (q : Near n t g) where
   pub squares-within : Within boundRange (sum n (λ k. nth g k *ℤ nth g k))
   squares-within = within-more (omega arith) (terms-within square-terms n (omega arith))
 
-  pub bound-within : {d : ℤ} → Within (2 ^ 56) d → Within boundRange (bound n d t (nth g))
+  pub bound-within : {d : ℤ} → Within differenceRange d → Within boundRange (bound n d t (nth g))
   unfolding bound
   bound-within w = within-more (omega arith) (within-+ w (within-ceil t (terms-within square-terms n (omega arith))))
 
   pub gradient-numerator : {k : ℕ} → k < n → Within boundRange (nth g k)
   gradient-numerator {k} h = within-more (omega arith) (q .entries k h)
 
-  -- Y(k): within 2^30
+  -- Y(k)
   module _ {b : ℤ} (w : Within boundRange b) where
-    half-within : {k : ℕ} → k < n → Within (2 ^ 30) (ceilDiv (nth g k) t +ℤ leastRoot t b)
-    half-within {k} h = within-more (omega arith) (within-+ (within-ceil t (q .entries k h)) (within-root t b w))
+    half-within : {k : ℕ} → k < n → Within halfRange (ceilDiv (nth g k) t +ℤ leastRoot t b)
+    half-within {k} h = within-+ (within-ceil t (q .entries k h)) (within-root t b w)
 
     pub half-fits : {k : ℕ} → k < n → SFits w64 (ceilDiv (nth g k) t +ℤ leastRoot t b)
     half-fits h = fits-within (half-within h) (omega arith)
 
     module _ {y : List ℤ} (f : Filled greatestOrder n (λ k. ceilDiv (nth g k) t +ℤ leastRoot t b) y) where
-      pub halves-within : (k : ℕ) → k < n → Within (2 ^ 30) (nth y k)
+      pub halves-within : (k : ℕ) → k < n → Within halfRange (nth y k)
       halves-within k h = rw (f .entries k h) (half-within h)
 
-      pub half-terms : Terms n g y
+      pub half-terms : ProductTerms n g y
       half-terms = record {
         order = q .order;
         first-length = omega (arith, q .order, q .size);
@@ -83,11 +67,11 @@ module _ {n : ℕ} {t : ℤ} {g : List ℤ} (q : Near n t g) where
         products = λ k h. within-more (omega arith) (within-* (q .entries k h) (halves-within k h));
       }
 
-module _ {n : ℕ} {x y : List ℤ} (f : Terms n x y) where
+module _ {n : ℕ} {x y : List ℤ} (f : ProductTerms n x y) where
   pub twice-fits : SFits w64 (pos 2 *ℤ sum n (λ k. nth x k *ℤ nth y k))
   twice-fits = fits-within (within-* two-within (terms-within f n (omega arith))) (omega arith)
 
-  pub second-within : {d : ℤ} → Within (2 ^ 56) d → Within boundRange (d +ℤ pos 2 *ℤ sum n (λ k. nth x k *ℤ nth y k))
+  pub second-within : {d : ℤ} → Within differenceRange d → Within boundRange (d +ℤ pos 2 *ℤ sum n (λ k. nth x k *ℤ nth y k))
   second-within w = within-more (omega arith) (within-+ w (within-* two-within (terms-within f n (omega arith))))
 
 -- ---- h
@@ -100,17 +84,13 @@ module _ (y t b : ℤ) where
   unfolding smallerHalf
   half-root e = sym (ap (λ (r : Bool). elim r as (λ z. ℤ) [ true ↦ y | false ↦ minℤ y (leastRoot t b) ]) e)
 
-  pub smaller-within : Within (2 ^ 30) y → Within boundRange b → Within (2 ^ 30) (smallerHalf y t b)
+  pub smaller-within : Within halfRange y → Within boundRange b → Within halfRange (smallerHalf y t b)
   unfolding smallerHalf
   smaller-within v w = go (leZ t (pos 0))
     where
-      go : (r : Bool) → Within (2 ^ 30) (elim r as (λ z. ℤ) [ true ↦ y | false ↦ minℤ y (leastRoot t b) ])
+      go : (r : Bool) → Within halfRange (elim r as (λ z. ℤ) [ true ↦ y | false ↦ minℤ y (leastRoot t b) ])
       go true = v
       go false = within-min v (within-more (omega arith) (within-root t b w))
-
-module _ {n : ℕ} {c y : List ℤ} {b : ℤ} (q : Halved n c y b) (t : ℤ) {k : ℕ} (h : k < n) where
-  pub side-within : Within (2 ^ 30) (smallerHalf (nth y k) t b)
-  side-within = smaller-within (nth y k) t b (q .halves k h) (q .bound)
 
 -- ---- the sides as they are written
 module _ {c h : ℕ → ℤ} {x : List ℤ} where
@@ -176,17 +156,13 @@ module _ (n : ℕ) (c : ℕ → ℤ) (d t : ℤ) (tk : ℕ → ℤ) (g : ℕ →
   second-decides e r f = ap first e ∙ ap second f
 
   module _ {y : List ℤ} (f : Filled greatestOrder n (λ k. ceilDiv (g k) t +ℤ leastRoot t (bound n d t g)) y) where
-    first-is : (k : ℕ) → k < n → nth y k ≡ firstHalf n d t g k
-    unfolding firstHalf
-    first-is k h = f .entries k h
-
     pub second-is : d +ℤ pos 2 *ℤ sum n (λ k. g k *ℤ nth y k) ≡ secondBound n d t g
-    unfolding secondBound
-    second-is = ap (λ (z : ℤ). d +ℤ pos 2 *ℤ z) (sum-ext n _ _ (λ k h. ap (λ (z : ℤ). g k *ℤ z) (first-is k h)))
+    unfolding secondBound firstHalf
+    second-is = ap (λ (z : ℤ). d +ℤ pos 2 *ℤ z) (sum-ext n _ _ (λ k h. ap (λ (z : ℤ). g k *ℤ z) (f .entries k h)))
 
     pub half-is : (k : ℕ) → k < n → smallerHalf (nth y k) (tk k) (secondBound n d t g) ≡ halfSide n d t g tk k
-    unfolding halfSide
-    half-is k h = ap (λ (z : ℤ). smallerHalf z (tk k) (secondBound n d t g)) (first-is k h)
+    unfolding halfSide firstHalf
+    half-is k h = ap (λ (z : ℤ). smallerHalf z (tk k) (secondBound n d t g)) (f .entries k h)
 
     module _ (e : leZ (pos 0) (bound n d t g) ≡ true) where
       pub box-empty : (x : List ℤ) → leZ (pos 0) (secondBound n d t g) ≡ false → boxOf n c d t tk g ≡ boxIn n false x

@@ -1,6 +1,5 @@
-// Document 01, "Box": from D, t, t(k), g(k) and the centre to the sides.
+// R13 and R14 of docs/RULES.md: from D, t, t(k), g(k) and the centre to the sides.
 ghost use mathlib.Core.Path.{_≡_};
-ghost use Prim.Native.Nat.{_^_};
 ghost use lib.IntN.{pos, _+ℤ_, _*ℤ_};
 ghost use lib.ListN.{length};
 ghost use Rattle.integers.specs.Numbers.{Within};
@@ -10,9 +9,9 @@ ghost use Rattle.integers.specs.Root.{leastRoot};
 ghost use Rattle.tables.specs.Ranges.{greatestOrder, sidesRoom};
 ghost use Rattle.tables.specs.Matrix.{nth};
 ghost use Rattle.tables.specs.Buffers.{Filled};
-ghost use Rattle.arithmetic.specs.Contracts.{boundRange, Terms};
+ghost use Rattle.arithmetic.specs.Contracts.{boundRange, ProductTerms};
 ghost use Rattle.sides.specs.Sides.{bound, smallerHalf, boxOf};
-ghost use Rattle.sides.specs.Contracts.{Near, Ready, Halved, SidesIn, Answered};
+ghost use Rattle.sides.specs.Contracts.{differenceRange, Near, SidesReady, Halved, SidesIn, SidesAnswered};
 use arithmetic::ceil_div;
 use arithmetic::least_root;
 use arithmetic::product_sum;
@@ -21,11 +20,9 @@ use tables::GREATEST_ORDER;
 use tables::Sides;
 use tables::Vector;
 
-pub mod centre;
-
 // B
 fn bound(n: usize, d: i64, t: i64, g: &Vector) -> i64
-    requires { ⌜ Near n t (now g) × Within (2 ^ 56) d ⌝ }
+    requires { ⌜ Near n t (now g) × Within differenceRange d ⌝ }
     ensures { λ r. ⌜ r ≡ bound n d t (nth (now (g .entry))) ⌝ }
 {
     let squares = product_sum(n, g, g);
@@ -47,7 +44,7 @@ fn first_halves(n: usize, t: i64, g: &Vector, b: i64, y: &mut Vector)
 
 // B2
 fn second_bound(n: usize, d: i64, g: &Vector, y: &Vector) -> i64
-    requires { ⌜ Terms n (now g) (now y) × Within (2 ^ 56) d ⌝ }
+    requires { ⌜ ProductTerms n (now g) (now y) × Within differenceRange d ⌝ }
     ensures { λ r. ⌜ r ≡ d +ℤ pos 2 *ℤ sum n (λ k. nth (now (g .entry)) k *ℤ nth (now (y .entry)) k) ⌝ }
 {
     let products = product_sum(n, g, y);
@@ -69,7 +66,8 @@ fn half_side(y: i64, t: i64, b: i64) -> i64
 // Writes the sides: low, then high, for each k.
 fn write_sides(n: usize, c: &[i64], tk: &Vector, y: &Vector, b: i64, out: &mut Sides)
     requires { ⌜ Halved n (now c) (now y) b × (length (now out) ≡ sidesRoom) ⌝ }
-    ensures { λ r. ⌜ SidesIn n (nth (now (c .entry))) (λ k. smallerHalf (nth (now (y .entry)) k) (nth (now (tk .entry)) k) b) (now (out .exit)) ⌝ }
+    ensures { λ r. ⌜ SidesIn n (nth (now (c .entry)))
+        (λ k. smallerHalf (nth (now (y .entry)) k) (nth (now (tk .entry)) k) b) (now (out .exit)) ⌝ }
 {
     let mut k = 0;
     while k < n {
@@ -85,8 +83,9 @@ fn write_sides(n: usize, c: &[i64], tk: &Vector, y: &Vector, b: i64, out: &mut S
 
 // The box. Answers false where it is empty; else side k stands at 2 k and 2 k + 1.
 pub fn box_of(n: usize, c: &[i64], d: i64, t: i64, tk: &Vector, g: &Vector, out: &mut Sides) -> bool
-    requires { ⌜ Ready n (now c) d t (now g) × (length (now out) ≡ sidesRoom) ⌝ }
-    ensures { λ r. ⌜ Answered (boxOf n (nth (now (c .entry))) d t (nth (now (tk .entry))) (nth (now (g .entry)))) n r (now (out .exit)) ⌝ }
+    requires { ⌜ SidesReady n (now c) d t (now g) × (length (now out) ≡ sidesRoom) ⌝ }
+    ensures { λ r. ⌜ SidesAnswered (boxOf n (nth (now (c .entry))) d t (nth (now (tk .entry))) (nth (now (g .entry))))
+        n r (now (out .exit)) ⌝ }
 {
     let b = bound(n, d, t, g);
     if b < 0 {

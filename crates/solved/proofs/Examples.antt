@@ -1,4 +1,4 @@
--- Solved vectors: what the rules give, beside what document 01 says, and what its reference implementation gives.
+-- Solved vectors: what the definitions give, beside what docs/RULES.md (W9) and the second implementation give.
 use mathlib.Core.Path.{_≡_, refl}
 use mathlib.Core.Bool.{false}
 use mathlib.Core.List.{List, [], _∷_, map}
@@ -9,23 +9,23 @@ use Rattle.integers.specs.Division.{floorDiv}
 use Rattle.integers.specs.Root.{wholeRoot, rootWithin}
 use Rattle.tables.specs.Matrix.{at, tabulate, rowWidth}
 use Rattle.tables.specs.Checks.{within}
-use Rattle.cholesky.specs.Scale.{scaled, takeOff}
-use Rattle.cholesky.specs.Factoring.{Factoring, factoring, columnsFrom, nextColumn, rows, goesOn, nextEntry, entries}
+use Rattle.cholesky.specs.Scale.{scaledBy, takeOff}
+use Rattle.cholesky.specs.Factoring.{Factoring, factored, factoring, columnsFrom, nextColumn, rows, goesOn, nextEntry, entries}
 use Rattle.solved.specs.Solved.{stoppedFactor, solvedEntry, solvedRows, solved}
 
 record Line : Type 0 where
   order : ℕ
   stopped : Factoring
   s : ℤ
-  document : List (List ℤ)
+  expected : List (List ℤ)
 
 -- a thin table, L = U
 abbrev thin : ℕ → List ℤ → ℤ → List (List ℤ) → Line
-thin n t s d = record { order = n; stopped = factoring n (scaled takeOff n (at n t) (at n t)); s = s; document = d }
+thin n t s d = record { order = n; stopped = factored n (at n t) (at n t); s = s; expected = d }
 
 -- the factor 2, and r beside it: T is r
 abbrev half : ℤ → List (List ℤ) → Line
-half r d = record { order = 2; stopped = record { ends = false; columns = (pos 2 ∷ []) ∷ []; stopped = r ∷ [] }; s = pos 1; document = d }
+half r d = record { order = 2; stopped = record { ends = false; columns = (pos 2 ∷ []) ∷ []; stopped = r ∷ [] }; s = pos 1; expected = d }
 
 abbrev lines : List Line
 lines =
@@ -47,6 +47,6 @@ lines =
     ∷ half (pos 0) ((pos 0 ∷ pos 1 ∷ []) ∷ [])
     ∷ []
 
-as-printed : map (λ (l : Line). solved (l .order) (l .stopped) (l .s)) lines ≡ map (λ (l : Line). l .document) lines
-unfolding solved solvedRows solvedEntry stoppedFactor factoring columnsFrom nextColumn rows goesOn nextEntry entries scaled at tabulate rowWidth within sum only floorDiv wholeRoot rootWithin
+as-printed : map (λ (l : Line). solved (l .order) (l .stopped) (l .s)) lines ≡ map (λ (l : Line). l .expected) lines
+unfolding solved solvedRows solvedEntry stoppedFactor factoring columnsFrom nextColumn rows goesOn nextEntry entries scaledBy takeOff at tabulate rowWidth within sum only floorDiv wholeRoot rootWithin
 as-printed = refl

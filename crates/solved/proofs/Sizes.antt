@@ -1,7 +1,7 @@
 -- How large the numbers of a solved vector get: 64 bits hold them.
 use mathlib.Core.Path.{_≡_, sym, ap, _∙_}
 use mathlib.Core.List.{List, [], _∷_}
-use Prim.Native.Nat.{ℕ, suc, _+_, _-_, _^_, _≤_, _<_}
+use Prim.Native.Nat.{ℕ, suc, _+_, _*_, _-_, _≤_, _<_}
 use native.Mathlib.Omega.{arith}
 use native.Mathlib.Decide.{decLt}
 use lib.IntN.{ℤ, pos, _+ℤ_, _-ℤ_, _*ℤ_}
@@ -13,9 +13,10 @@ use Rattle.integers.specs.Division.{floorDiv}
 use Rattle.integers.proofs.Machine.{within-more, within-+, within--, within-*, within-sum, within-floor, fits-within}
 use Rattle.integers.proofs.Solver.{order, solver}
 use Rattle.integers.proofs.Sums.{sum-zero, sum-suc}
+use Rattle.tables.specs.Ranges.{greatestOrder, factorRange, vectorRange}
 use Rattle.tables.specs.Matrix.{nth}
 use Rattle.cholesky.specs.Store.{upper}
-use Rattle.solved.specs.Stopped.{Ready, rowSum}
+use Rattle.solved.specs.Stopped.{stopRange, startRange, Ready, rowSum}
 
 -- ---- the sum of a row, a term more at a time
 module _ (t x : List ℤ) (i : ℕ) where
@@ -33,43 +34,49 @@ module _ (t x : List ℤ) (i : ℕ) where
 numeral-within : (m : ℕ) → Within m (pos m)
 numeral-within m = record { size = omega arith }
 
--- ---- sizes
-module _ {t x : List ℤ} {i j : ℕ} (r : Ready t x i j) where
-  small-product : (k : ℕ) → i < k → k < j → Within (2 ^ 41) (upper t i k *ℤ nth x k)
-  small-product k h l = within-more (omega arith) (within-* (r .row k (omega arith) l) (r .entries k h l))
+-- ---- sizes: a term before column j, and T
+abbrev termRange : ℕ
+termRange = factorRange * vectorRange
 
-  product-within : (k : ℕ) → i < k → k ≤ j → Within (2 ^ 61) (upper t i k *ℤ nth x k)
+abbrev sumRange : ℕ
+sumRange = greatestOrder * termRange + stopRange * startRange
+
+module _ {t x : List ℤ} {i j : ℕ} (r : Ready t x i j) where
+  small-product : (k : ℕ) → i < k → k < j → Within termRange (upper t i k *ℤ nth x k)
+  small-product k h l = within-* (r .row k (omega arith) l) (r .entries k h l)
+
+  product-within : (k : ℕ) → i < k → k ≤ j → Within (stopRange * startRange) (upper t i k *ℤ nth x k)
   product-within k h l = go (decLt k j)
     where
-      go : Dec (k < j) → Within (2 ^ 61) (upper t i k *ℤ nth x k)
+      go : Dec (k < j) → Within (stopRange * startRange) (upper t i k *ℤ nth x k)
       go (yes m) = within-more (omega arith) (small-product k h m)
-      go (no m) = let e : k ≡ j = omega arith in rw e (within-more (omega arith) (within-* (r .last) (r .start)))
+      go (no m) = let e : k ≡ j = omega arith in rw e (within-* (r .last) (r .start))
 
   pub product-fits : (k : ℕ) → i < k → k ≤ j → SFits w64 (upper t i k *ℤ nth x k)
   product-fits k h l = fits-within (product-within k h l) (omega arith)
 
   -- the sum before column k, and with it
-  sum-within : (k : ℕ) → k ≤ j → Within (2 ^ 44) (rowSum t x i k)
+  sum-within : (k : ℕ) → k ≤ j → Within (greatestOrder * termRange) (rowSum t x i k)
   unfolding rowSum
-  sum-within k l = let p = r .inside in within-more (omega arith) (within-sum (k - suc i) (2 ^ 41) _ (λ m q. small-product (suc i + m) (omega arith) (omega arith)))
+  sum-within k l = let p = r .inside in within-more (omega arith) (within-sum (k - suc i) termRange _ (λ m q. small-product (suc i + m) (omega arith) (omega arith)))
 
-  next-within : (k : ℕ) → i < k → k ≤ j → Within (2 ^ 44 + 2 ^ 61) (rowSum t x i k +ℤ upper t i k *ℤ nth x k)
+  next-within : (k : ℕ) → i < k → k ≤ j → Within sumRange (rowSum t x i k +ℤ upper t i k *ℤ nth x k)
   next-within k h l = within-+ (sum-within k l) (product-within k h l)
 
   pub next-fits : (k : ℕ) → i < k → k ≤ j → SFits w64 (rowSum t x i k +ℤ upper t i k *ℤ nth x k)
   next-fits k h l = fits-within (next-within k h l) (omega arith)
 
-  whole-within : Within (2 ^ 44 + 2 ^ 61) (rowSum t x i (suc j))
+  whole-within : Within sumRange (rowSum t x i (suc j))
   whole-within = rw (← row-sum-suc t x i j (r .before)) (next-within j (r .before) (omega arith))
 
-  twice-within : Within (2 ^ 45 + 2 ^ 62) (pos 2 *ℤ rowSum t x i (suc j))
-  twice-within = within-more (omega arith) (within-* (numeral-within 2) whole-within)
+  twice-within : Within (2 * sumRange) (pos 2 *ℤ rowSum t x i (suc j))
+  twice-within = within-* (numeral-within 2) whole-within
 
   pub twice-fits : SFits w64 (pos 2 *ℤ rowSum t x i (suc j))
   twice-fits = fits-within twice-within (omega arith)
 
-  numerator-within : Within (2 ^ 46 + 2 ^ 62) (pos 2 *ℤ rowSum t x i (suc j) +ℤ upper t i i)
-  numerator-within = within-more (omega arith) (within-+ twice-within (r .row i (omega arith) (r .before)))
+  numerator-within : Within (2 * sumRange + factorRange) (pos 2 *ℤ rowSum t x i (suc j) +ℤ upper t i i)
+  numerator-within = within-+ twice-within (r .row i (omega arith) (r .before))
 
   pub numerator-fits : SFits w64 (pos 2 *ℤ rowSum t x i (suc j) +ℤ upper t i i)
   numerator-fits = fits-within numerator-within (omega arith)

@@ -10,14 +10,14 @@ use lib.ListN.{length}
 use Rattle.integers.specs.Numbers.{Within}
 use Rattle.integers.specs.Sum.{only}
 use Rattle.integers.proofs.Machine.{within-more}
-use Rattle.integers.proofs.Sums.{only-by, only-same}
+use Rattle.integers.proofs.Sums.{only-by}
 use Rattle.tables.specs.Ranges.{vectorRange}
 use Rattle.tables.specs.Matrix.{Matrix, nth, tabulate}
 use Rattle.tables.specs.Checks.{within}
 use Rattle.tables.proofs.Matrix.{length-tabulate, nth-tabulate}
 use Rattle.tables.proofs.Checks.{within-of}
 use Rattle.cholesky.specs.Factoring.{Factoring}
-use Rattle.cholesky.proofs.Store.{length-columnOf, length-columnsOf}
+use Rattle.cholesky.proofs.Store.{length-columnOf}
 use Rattle.solved.specs.Solved.{stoppedFactor, solvedEntry, solvedRows, solved}
 use Rattle.solved.specs.Stopped.{stoppedAt, Stopped, startRange}
 use Rattle.solved.proofs.Solving.{rows-on, rows-none}
@@ -94,18 +94,8 @@ module _ (n : ℕ) (f : Factoring) (s : ℤ) {v : List ℤ} (e : solved n f s �
           rw (kept-at k (omega arith) l)
           (only-by k (length (f .columns)) s (Within vectorRange) (λ d. within-more (omega arith) w) (λ d. record { size = omega arith }))
 
-  -- x(j) = s
-  pub solved-at-stop : length (f .stopped) ≤ length (f .columns) → length (f .columns) < n → nth v (length (f .columns)) ≡ s
-  solved-at-stop h l = kept-at (length (f .columns)) h l ∙ only-same (length (f .columns)) s
-
 -- ---- the same, of a factoring's table
 module _ {n : ℕ} {t : List ℤ} {j m : ℕ} (a : Stopped n t j m) (s : ℤ) {v : List ℤ} (e : solved n (stoppedAt t j m) s ≡ v ∷ []) where
   pub stopped-vector : Within startRange s → IsVector n v
   unfolding stoppedAt
   stopped-vector w = solved-vector n (stoppedAt t j m) s e w (omega (arith, length-columnOf t j m, a .rows, a .inside))
-
-  pub stopped-at-stop : nth v j ≡ s
-  unfolding stoppedAt
-  stopped-at-stop =
-      let c = length-columnsOf t j in
-      rw c at (solved-at-stop n (stoppedAt t j m) s e (omega (arith, length-columnOf t j m, a .rows)) (omega (arith, a .inside)))

@@ -1,8 +1,8 @@
--- Where factoring stops: the columns that were done are those of a factor, and the entries of the column that it stopped in are within 2^55.
+-- Where factoring stops: the columns that were done are those of a factor, and the entries of the column that it stopped in are within stopRange.
 use mathlib.Core.Path.{_≡_, refl, sym, subst}
 use mathlib.Core.Bool.{Bool, true, false, not}
 use mathlib.Core.List.{List, [], _∷_, _++_}
-use Prim.Native.Nat.{ℕ, zero, suc, _+_, _*_, _^_, _≤_, _<_}
+use Prim.Native.Nat.{ℕ, zero, suc, _+_, _≤_, _<_}
 use native.Mathlib.Omega.{arith}
 use native.Mathlib.Decide.{decLt}
 use lib.Dec.{T}
@@ -11,23 +11,24 @@ use lib.Signed.{_≤ℤ_, leZ-yes}
 use lib.ListN.{length}
 use Rattle.integers.specs.Numbers.{Within}
 use Rattle.integers.proofs.Parts.{≤ℤ-trans}
-use Rattle.integers.proofs.Machine.{within-more, within-+, within--, within-*, within-sum, within-floor, within-in}
-use Rattle.tables.specs.Ranges.{greatestOrder, entryRange, factorRange}
+use Rattle.integers.proofs.Machine.{within-more, within--, within-*, within-sum, within-floor, within-in}
+use Rattle.tables.specs.Ranges.{greatestOrder, factorRange}
 use Rattle.tables.specs.Matrix.{Matrix, nth}
 use Rattle.tables.specs.Bounds.{Bounds}
 use Rattle.tables.proofs.Checks.{of-true}
-use Rattle.cholesky.specs.Scale.{halfScale, takeOff, scaled}
-use Rattle.cholesky.specs.Factoring.{Column, Factoring, entries, nextEntry, goesOn, rows, nextColumn, columnsFrom, factoring}
+use Rattle.cholesky.specs.Scale.{scaled}
+use Rattle.cholesky.specs.Factoring.{Column, Factoring, entries, nextEntry, goesOn, rows, nextColumn, columnsFrom, factoring, factored}
 use Rattle.cholesky.specs.Store.{upper, columnsOf, outcomeOf, Stored}
 use Rattle.cholesky.specs.declared.factoring.Outcome.{Outcome}
 use Rattle.cholesky.specs.declared.factoring.Outcome.the-variants.{Ends, Stops}
+use Rattle.cholesky.specs.Rows.{productRange}
 use Rattle.cholesky.proofs.Factored.{ρ}
 use Rattle.cholesky.proofs.Lists.{length-snoc, nth-before, nth-last}
 use Rattle.cholesky.proofs.Loops.{passes, rows-on, rows-stop, column-ind, columns-by}
 use Rattle.cholesky.proofs.Columns.{Done, column-step}
-use Rattle.cholesky.proofs.ScaledMatrix.{scaled-off, scaled-top, take-off-suffices}
+use Rattle.cholesky.proofs.Filling.{bounds-off, bounds-top}
 use Rattle.cholesky.proofs.Store.{length-columnOf, length-columnsOf, entries-columnsOf, nth-columnOf}
-use Rattle.solved.specs.Stopped.{stoppedAt, Stopped}
+use Rattle.solved.specs.Stopped.{stoppedAt, stopRange, Stopped}
 
 -- ---- lists within a bound
 pub record AllWithin (b : ℕ) (c : List ℤ) : Type 0 where
@@ -49,26 +50,26 @@ wider h a = record { each = λ k l. within-more h (a .each k l) }
 -- ---- a column that it stops in, after the columns cs, and the whole factoring
 pub record Cut (cs : List (List ℤ)) (c : List ℤ) : Type 0 where
   pub rows : length c ≤ length cs
-  pub near : AllWithin (2 ^ 55) c
+  pub near : AllWithin stopRange c
 
 pub record Stop (n : ℕ) (H : Matrix) (f : Factoring) : Type 0 where
   pub inside : length (f .columns) < n
   pub done : Done H (f .columns)
   pub cut : Cut (f .columns) (f .stopped)
 
-module _ (n : ℕ) (H : Matrix) (o : n ≤ greatestOrder) (off : (i j : ℕ) → i < j → j < n → Within (2 ^ 52) (H i j)) where
+module _ (n : ℕ) (H : Matrix) (o : n ≤ greatestOrder) (off : (i j : ℕ) → i < j → j < n → Within productRange (H i j)) where
   module _ (cs : List (List ℤ)) (l : length cs < n) (d : Done H cs) where
     abbrev j : ℕ
     j = length cs
 
-    -- H(i,j), less at most six products, divided
-    entry-within : (c : List ℤ) → length c < j → AllWithin factorRange c → Within (2 ^ 55) (nextEntry H cs j c)
+    -- H(i,j), less a product for each row before, divided
+    entry-within : (c : List ℤ) → length c < j → AllWithin factorRange c → Within stopRange (nextEntry H cs j c)
     unfolding nextEntry
     entry-within c h a =
         within-floor (entries cs (length c) (length c))
         (within-more (omega arith)
         (within-- (off (length c) j h l)
-        (within-sum (length c) (factorRange * factorRange) _
+        (within-sum (length c) productRange _
         (λ k p. within-* {x = entries cs k (length c)} (record { size = d .off k (length c) p h .small }) (a .each k p)))))
 
     rows-cut : (k : ℕ) (rest : ℤ) (c : List ℤ) → length c + k ≡ j → AllWithin factorRange c → T (not (rows H cs j k rest c .done)) → Cut cs (rows H cs j k rest c .column)
@@ -106,20 +107,11 @@ module _ (n : ℕ) (H : Matrix) (o : n ≤ greatestOrder) (off : (i j : ℕ) →
     unfolding factoring
     stop = columns-cut n [] (omega arith) (record { lengths = λ l k. absurd (omega arith); off = λ a b k l. absurd (omega arith); on = λ b k. absurd (omega arith) })
 
--- ---- H of bounds: off the diagonal it is 2^31 (L(i,j) + U(i,j))
-off-within : {n : ℕ} {L U : Matrix} → Bounds n L U → (i j : ℕ) → i < j → j < n → Within (2 ^ 52) (scaled takeOff n L U i j)
-off-within {n} {L} {U} b i j h k =
-    let p : i < n = omega arith in
-    let low : Within entryRange (L i j) = record { size = b .low-range i j p k } in
-    let high : Within entryRange (U i j) = record { size = b .high-range i j p k } in
-    let half : Within (2 ^ 31) halfScale = record { size = omega arith } in
-    rw (scaled-off takeOff n L U i j (omega arith)) (within-more (omega arith) (within-* half (within-+ low high)))
-
--- where factoring of bounds does not end, it stops so
-pub bounds-stop : {n : ℕ} {L U : Matrix} → Bounds n L U → n ≤ greatestOrder → factoring n (scaled takeOff n L U) .ends ≡ false →
-    Stop n (scaled takeOff n L U) (factoring n (scaled takeOff n L U))
+-- ---- where factoring of bounds does not end, it stops so
+pub bounds-stop : {n : ℕ} {L U : Matrix} → Bounds n L U → n ≤ greatestOrder → factored n L U .ends ≡ false →
+    Stop n (scaled n L U) (factored n L U)
 bounds-stop {n} {L} {U} b o e =
-    stop n (scaled takeOff n L U) o (off-within b) (scaled-top takeOff n L U b (take-off-suffices n o)) (subst (λ (q : Bool). T (not q)) (sym e) tt)
+    stop n (scaled n L U) o (bounds-off b o) (bounds-top b o) (subst (λ (q : Bool). T (not q)) (sym e) tt)
 
 -- ---- the stop, by its table
 record StoppedIn (f : Factoring) (j m : ℕ) : Type 0 where
@@ -169,5 +161,5 @@ table-ready {n} {H} {t} {j} {m} o s =
 
 -- the table of a factoring that stopped is as the code asks
 pub stopped-ready : {n : ℕ} {L U : Matrix} {j m : ℕ} {t : List ℤ} → Bounds n L U → n ≤ greatestOrder →
-    Stored (factoring n (scaled takeOff n L U)) (Stops j m) t → Stopped n t j m
+    Stored (factored n L U) (Stops j m) t → Stopped n t j m
 stopped-ready {j = j} {m = m} b o a = table-ready o (rw (stopped-at a) at (bounds-stop b o (stopped-in _ j m (a .outcome) .ends)))

@@ -1,4 +1,4 @@
-// Document 01, "Showing a vector": the solved vectors, from the table of a factoring that stopped.
+// R10 of docs/RULES.md: the solved vectors, from the table of a factoring that stopped.
 // Entry (i, k) of the table lies at STRIDE k + i. The vector's first n entries stand in x.
 ghost use mathlib.Core.Path.{_≡_};
 ghost use Prim.Native.Nat.{suc, _≤_, _<_};
@@ -26,7 +26,7 @@ fn row_sum(t: &Table, x: &Vector, i: usize, j: usize) -> i64
     s
 }
 
-// x(i): minus the rounded-down quotient of 2 T + r(i,i) by 2 r(i,i).
+// x(i): -⌊(2 T + r(i,i)) / (2 r(i,i))⌋ (R10.3).
 fn entry(t: &Table, x: &Vector, i: usize, j: usize) -> i64
     requires { ⌜ Ready (now t) (now x) i j ⌝ }
     ensures { λ r. ⌜ r ≡ entryOf (now (t .entry)) (now (x .entry)) i j ⌝ }
@@ -49,7 +49,8 @@ fn start(n: usize, j: usize, s: i64, x: &mut Vector)
     x[j] = s;
 }
 
-// The solved vector for s, of a factoring of order n that stopped in column j after m rows. Answers false where an entry passes ±2^15: there is none.
+// The solved vector for s, of a factoring of order n that stopped in column j after m rows. Answers false where an entry passes ±2^15:
+// there is none.
 pub fn solve(n: usize, t: &Table, j: usize, m: usize, s: i64, x: &mut Vector) -> bool
     requires { ⌜ Stopped n (now t) j m × Within startRange s × (length (now x) ≡ greatestOrder) ⌝ }
     ensures { λ r. ⌜ Answered (solved n (stoppedAt (now (t .entry)) j m) s) n r (now (x .exit)) ⌝ }

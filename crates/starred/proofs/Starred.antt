@@ -1,5 +1,6 @@
--- Document 01's starred lines: what the rules give, beside what the document says. One list with one proof.
+-- The starred cases of docs/RULES.md, W1 to W12: what the definitions give, beside what is expected. One list with one proof.
 use mathlib.Core.Path.{_≡_, refl}
+use mathlib.Core.Bool.{true}
 use mathlib.Core.List.{List, [], _∷_, map}
 use Prim.Native.Nat.{ℕ}
 use lib.IntN.{ℤ, pos, negsuc}
@@ -8,23 +9,26 @@ use Rattle.integers.specs.Sum.{sum, only, except}
 use Rattle.integers.specs.Division.{floorDiv, ceilDiv}
 use Rattle.integers.specs.Root.{wholeRoot, rootWithin, rootAbove, leastRoot}
 use Rattle.tables.specs.Matrix.{at, nth, table, tabulate, form, gram, rowWidth}
-use Rattle.tables.specs.Checks.{problemChecks, all, firstRefusal, within, allWithin, nowhereCrossed, same, symmetric, tableChecks}
-use Rattle.tables.specs.Answers.{after, yesOrNo}
+use Rattle.tables.specs.Checks.{all, firstRefusal, orderOk, orderOf, entryChecks, within, allWithin, tablesWithin, termsWithin, nowhereCrossed, same, symmetric, boundsChecks}
+use Rattle.tables.specs.Entering.{entered}
+use Rattle.tables.specs.Problem.{problemOf}
+use Rattle.tables.specs.Answers.{after}
 use Rattle.tables.specs.Members.{PositiveDefinite}
 use Rattle.tables.specs.declared.Answer.{Answer as TestAnswer}
 use Rattle.tables.specs.declared.Answer.the-variants.{Yes}
-use Rattle.cholesky.specs.Scale.{scaled}
+use Rattle.cholesky.specs.Scale.{takeOff, scaledBy}
 use Rattle.cholesky.specs.Factoring.{factoring, columnsFrom, nextColumn, rows, goesOn, nextEntry, entries}
 use Rattle.residual.specs.Residual.{residual, radius, rowPasses, accepts}
-use Rattle.residual.specs.FactorTest.{factorEntry, factorShape, factorAnswer}
-use Rattle.residual.proofs.Meaning.{answer-definite}
+use Rattle.residual.specs.FactorTest.{factorEntry, factorShape, factorAnswer, factorTested}
+use Rattle.residual.proofs.Meaning.{tested-definite}
 use Rattle.vectors.specs.Least.{leastMember, leastValue, nonzero, shows}
 use Rattle.tried.specs.Tried.{tried, first}
 use Rattle.solved.specs.Solved.{stoppedFactor, solvedEntry, solvedRows, solved}
-use Rattle.verdict.specs.Judge.{Judgement, definite, notDefinite, undecided, listed, judged, judgement}
+use Rattle.verdict.specs.Judge.{Judgement, definite, notDefinite, undecided, listed, judged, judging}
 use Rattle.steps.specs.Steps.{lowered, trial, bits, step, stepAt}
-use Rattle.sides.specs.Sides.{lowGradient, highGradient, gradient, atCentre, bound, firstHalf, secondBound, smallerHalf, halfSide, sidesFrom, boxOf}
-use Rattle.enclosure.specs.Box.{Box, sides, empty, boxed, boxAnswer}
+use Rattle.centre.specs.Centre.{lowGradient, highGradient, gradient, atCentre}
+use Rattle.sides.specs.Sides.{bound, firstHalf, secondBound, smallerHalf, halfSide, sidesFrom, boxOf}
+use Rattle.enclosure.specs.Box.{Box, sides, empty, boxed, problemBox, boxing}
 
 data Answer : Type 0 where
   verdict : Judgement → Answer
@@ -34,26 +38,26 @@ data Answer : Type 0 where
 
 record Line : Type 0 where
   rules : Answer
-  document : Answer
+  expected : Answer
 
 -- the judge's verdict, on thin tables (L = U) and on others
 abbrev bounded : ℕ → List ℤ → List ℤ → Judgement → Line
-bounded n l u j = record { rules = verdict (judgement n l u); document = verdict j }
+bounded n l u j = record { rules = verdict (judging (pos n) true l u); expected = verdict j }
 
 abbrev thin : ℕ → List ℤ → Judgement → Line
 thin n t j = bounded n t t j
 
 -- the factor test's answer to a factor that is offered for a thin table
 abbrev offered : ℕ → List ℤ → List ℤ → TestAnswer → Line
-offered n t f a = record { rules = test (factorAnswer n t t f); document = test a }
+offered n t f a = record { rules = test (factorTested (pos n) true t t f); expected = test a }
 
 -- the least value of x over the one member of a thin table
 abbrev least : ℕ → List ℤ → List ℤ → ℤ → Line
-least n t x v = record { rules = value (leastValue n (at n t) (at n t) (nth x)); document = value v }
+least n t x v = record { rules = value (leastValue n (at n t) (at n t) (nth x)); expected = value v }
 
 -- the box of order 1: M = [m], a, α, c
 abbrev boxed-one : ℤ → ℤ → ℤ → ℤ → Box → Line
-boxed-one m a α c b = record { rules = box (boxAnswer 1 (m ∷ []) (m ∷ []) (a ∷ []) α (c ∷ [])); document = box b }
+boxed-one m a α c b = record { rules = box (boxing (pos 1) true (problemOf 1 (m ∷ []) (m ∷ []) (a ∷ []) α (c ∷ []))); expected = box b }
 
 -- [1 3; 3 10], and 2^16 times its exact Cholesky factor
 abbrev narrow : List ℤ
@@ -75,19 +79,19 @@ lines =
     ∷ thin 2 (pos 1 ∷ pos 1000 ∷ pos 1000 ∷ pos 10000 ∷ []) (notDefinite (negsuc 1142 ∷ pos 1 ∷ []))
     ∷ least 2 (pos 1 ∷ pos 1000 ∷ pos 1000 ∷ pos 10000 ∷ []) (negsuc 1142 ∷ pos 1 ∷ []) (negsuc 969550)
     ∷ thin 2 narrow undecided
-    -- "though it is definite": the exact factor is accepted
+    -- W10: it is definite all the same, since its exact factor is accepted
     ∷ offered 2 narrow exactFactor Yes
     ∷ boxed-one (pos 4) (pos 0) (negsuc 0) (pos 0) empty
     ∷ boxed-one (pos 4) (pos 0) (pos 0) (pos 0) (sides (pos 0 ∷ pos 0 ∷ []))
-    -- case P
+    -- case P, W21
     ∷ boxed-one (pos 4) (negsuc 7) (pos 0) (pos 2) (sides (negsuc 0 ∷ pos 5 ∷ []))
     ∷ []
 
-as-printed : map (λ (l : Line). l .rules) lines ≡ map (λ (l : Line). l .document) lines
-unfolding judgement judged listed factorAnswer factorShape factorEntry accepts rowPasses radius residual gram except after firstRefusal tableChecks allWithin nowhereCrossed symmetric same all within factoring columnsFrom nextColumn rows goesOn nextEntry entries scaled at table tabulate form rowWidth leastMember leastValue nonzero shows tried first stoppedFactor solvedEntry solvedRows solved sum only floorDiv wholeRoot rootWithin boxAnswer problemChecks boxed boxOf sidesFrom halfSide smallerHalf secondBound firstHalf bound atCentre gradient highGradient lowGradient step stepAt bits trial lowered absℤ minℤ maxℤ ceilDiv rootAbove leastRoot
+as-printed : map (λ (l : Line). l .rules) lines ≡ map (λ (l : Line). l .expected) lines
+unfolding judging judged listed factorTested factorAnswer factorShape factorEntry accepts rowPasses radius residual gram except after entered firstRefusal entryChecks orderOk orderOf boundsChecks tablesWithin allWithin nowhereCrossed symmetric same all within factoring columnsFrom nextColumn rows goesOn nextEntry entries takeOff scaledBy at table tabulate form rowWidth leastMember leastValue nonzero shows tried first stoppedFactor solvedEntry solvedRows solved sum only floorDiv wholeRoot rootWithin boxing problemBox termsWithin boxed boxOf sidesFrom halfSide smallerHalf secondBound firstHalf bound atCentre gradient highGradient lowGradient step stepAt bits trial lowered absℤ minℤ maxℤ ceilDiv rootAbove leastRoot
 as-printed = refl
 
 -- so every member of [1 3; 3 10], on which the judge is undecided, is positive definite
 undecided-definite : PositiveDefinite 2 (at 2 narrow) (at 2 narrow)
-unfolding factorAnswer factorShape factorEntry accepts rowPasses radius residual gram except after firstRefusal tableChecks allWithin nowhereCrossed symmetric same all within at sum absℤ maxℤ
-undecided-definite = answer-definite narrow narrow exactFactor 2 refl
+unfolding factorTested factorAnswer factorShape factorEntry accepts rowPasses radius residual gram except after entered firstRefusal entryChecks orderOk orderOf boundsChecks tablesWithin allWithin nowhereCrossed symmetric same all within at sum absℤ maxℤ
+undecided-definite = tested-definite narrow narrow exactFactor (pos 2) true refl

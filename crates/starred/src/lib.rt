@@ -1,1 +1,1 @@
-// No code: the starred lines of document 01, in proofs/Starred.antt.
+// No code: the starred cases of docs/RULES.md, in proofs/Starred.antt.

@@ -3,7 +3,7 @@ use mathlib.Core.Path.{_≡_, refl, sym, _∙_, subst}
 use mathlib.Core.Bool.{Bool, true, false, _&&_}
 use mathlib.Core.Logic.{_≢_}
 use mathlib.Core.List.{List, [], _∷_}
-use Prim.Native.Nat.{ℕ, suc, _+_, _*_, _-_, _^_, _≤_, _<_}
+use Prim.Native.Nat.{ℕ, suc, _+_, _*_, _-_, _≤_, _<_}
 use native.Mathlib.Omega.{arith}
 use native.Mathlib.Decide.{decLt, ℕ-discrete}
 use lib.Dec.{T, leb, ltb}
@@ -16,7 +16,7 @@ use Rattle.integers.proofs.Parts.{leZ-true}
 use Rattle.integers.proofs.Solver.{_&_, order, solver}
 use Rattle.integers.proofs.Sums.{only-same, only-other}
 use Rattle.integers.proofs.Machine.{within-more, within-in}
-use Rattle.tables.specs.Ranges.{greatestOrder, tableRoom, factorRange}
+use Rattle.tables.specs.Ranges.{greatestOrder, tableRoom}
 use Rattle.tables.specs.Matrix.{Matrix}
 use Rattle.tables.specs.Checks.{all}
 use Rattle.tables.proofs.Checks.{false-of, all-of, all-at, le-of}
@@ -25,7 +25,7 @@ use Rattle.cholesky.specs.Reduced.{endsFrom}
 use Rattle.cholesky.proofs.Store.{upper-same, upper-other}
 use Rattle.cholesky.proofs.Reduced.{ends-diagonal, ends-ext}
 use Rattle.steps.specs.Steps.{lowered}
-use Rattle.cholesky.specs.Rows.{Sized}
+use Rattle.cholesky.specs.Rows.{productRange, restRange, Factorable}
 use Rattle.steps.specs.Tables.{taken, stays, Lowered, Triable}
 
 -- ---- what is taken off
@@ -144,17 +144,17 @@ module _ {n first last : ℕ} {h : List ℤ} (t : Triable n first last h) (e : �
     left i p q = rw (on-is i p q) (le-of (pos 1) _ (sym (stays-is S first e i p) ∙ all-at _ last f i q))
 
     module _ {s : List ℤ} (w : Lowered first last e h s) (p : pos 0 ≤ℤ e) where
-      on-at : (a : ℕ) → first ≤ a → a < n → Dec (a < last) → Within (2 ^ 57) (S′ a a) × (S′ a a ≤ℤ pos (factorRange * factorRange))
+      on-at : (a : ℕ) → first ≤ a → a < n → Dec (a < last) → Within restRange (S′ a a) × (S′ a a ≤ℤ pos productRange)
       on-at a k l (yes q) =
-          let top : S′ a a ≤ℤ pos (factorRange * factorRange) =
-          order (S′ a a ∷ S a a ∷ e ∷ []) (on-is a k q & p & t .sized .top a k l) (search solver depth 40 fits 20000) (omega arith) in
-          (within-more {m = 2 ^ 52} (omega arith) (within-in (order (S′ a a ∷ []) (left a k q) (search solver depth 40 fits 20000) (omega arith)) top), top)
+          let top : S′ a a ≤ℤ pos productRange =
+          order (S′ a a ∷ S a a ∷ e ∷ []) (on-is a k q & p & t .left .top a k l) (search solver depth 40 fits 20000) (omega arith) in
+          (within-more {m = productRange} (omega arith) (within-in (order (S′ a a ∷ []) (left a k q) (search solver depth 40 fits 20000) (omega arith)) top), top)
       on-at a k l (no q) =
-          rw (lowered-none (taken first last e) S a a (taken-out first last e a (λ u v. q v))) (t .sized .on a k l, t .sized .top a k l)
+          rw (lowered-none (taken first last e) S a a (taken-out first last e a (λ u v. q v))) (t .left .on a k l, t .left .top a k l)
 
-      pub trial-sized : Sized s n first
-      trial-sized =
-          let z = t .sized in
+      pub trial-factorable : Factorable s n first
+      trial-factorable =
+          let z = t .left in
           let o = z .order in
           record {
             size = w .size;
@@ -164,7 +164,12 @@ module _ {n first last : ℕ} {h : List ℤ} (t : Triable n first last h) (e : �
             top = λ a k l. rw (w .entries a a (omega arith) (omega arith)) (on-at a k l (decLt a last) .1);
           }
 
+      pub trial-one : first < n → pos 1 ≤ℤ upper s first first
+      trial-one k =
+          let o = t .left .order in
+          rw (w .entries first first (omega arith) (omega arith)) (left first (omega arith) (t .some k))
+
       pub trial-ends : endsFrom (n - first) (upper s) first ≡ endsFrom (n - first) S′ first
       trial-ends =
-          let o = t .sized .order in
+          let o = t .left .order in
           ends-ext n (n - first) first (omega (arith, t .inside, t .ordered)) (record { entries = λ a b k l m. w .entries a b (omega arith) (omega arith) })

@@ -8,7 +8,7 @@ use Rattle.integers.specs.Division.{floorDiv}
 use Rattle.integers.specs.Root.{wholeRoot, rootWithin}
 use Rattle.tables.specs.Matrix.{at, tabulate, rowWidth}
 use Rattle.tables.specs.Checks.{all, within}
-use Rattle.cholesky.specs.Scale.{scaled}
+use Rattle.cholesky.specs.Scale.{scaledBy, takeOff}
 use Rattle.cholesky.specs.Factoring.{factoring, columnsFrom, nextColumn, rows, goesOn, nextEntry, entries}
 use Rattle.steps.specs.Steps.{lowered, trial, bits, step, stepAt}
 
@@ -46,5 +46,5 @@ lines =
     ∷ []
 
 as-printed : map rules lines ≡ map (λ (l : Line). l .expected) lines
-unfolding step stepAt bits trial lowered all within factoring columnsFrom nextColumn rows goesOn nextEntry entries scaled at tabulate rowWidth sum only floorDiv wholeRoot rootWithin
+unfolding step stepAt bits trial lowered all within factoring columnsFrom nextColumn rows goesOn nextEntry entries scaledBy takeOff at tabulate rowWidth sum only floorDiv wholeRoot rootWithin
 as-printed = refl

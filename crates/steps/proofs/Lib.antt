@@ -1,6 +1,5 @@
 pub mod Examples
 pub mod Bits
-pub mod Rows
 pub mod Diagonals
 pub mod Searches
 pub mod Trials

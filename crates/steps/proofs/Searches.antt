@@ -23,7 +23,7 @@ use Rattle.cholesky.specs.Reduced.{endsFrom}
 use Rattle.steps.specs.Steps.{lowered, bits, stepBits}
 use Rattle.steps.specs.Tables.{taken, Triable, stepRange, stepFrom}
 use Rattle.steps.proofs.Bits.{power-suc, bits-more, bits-left, bits-none, bits-most, bits-all}
-use Rattle.steps.proofs.Rows.{ends-last}
+use Rattle.cholesky.proofs.Passing.{ends-last}
 use Rattle.steps.proofs.Diagonals.{taken-in, lowered-on}
 
 -- 1 << b, as the machine reads it

@@ -1,8 +1,8 @@
--- Trials of document 01 are factorings of H with a lowered diagonal. The separate test of L's diagonal says nothing more: H(i,i) is below 1 where it fails.
+-- The trials of R12.1 are factorings of H with a lowered diagonal. The test of L's diagonal adds nothing: H(i,i) is below 1 where it fails.
 use mathlib.Core.Path.{_≡_, refl, sym, ap, _∙_, subst}
 use mathlib.Core.Bool.{Bool, true, false}
 use mathlib.Core.List.{[], _∷_}
-use Prim.Native.Nat.{ℕ, _-_, _≤_, _<_}
+use Prim.Native.Nat.{ℕ, _<_}
 use native.Mathlib.Omega.{arith}
 use native.Mathlib.Decide.{ℕ-discrete}
 use lib.Dec.{T}
@@ -17,9 +17,9 @@ use Rattle.tables.specs.Checks.{all}
 use Rattle.tables.specs.Bounds.{Bounds}
 use Rattle.tables.proofs.Checks.{false-of, all-of}
 use Rattle.cholesky.specs.Scale.{scale, takeOff, scaled}
-use Rattle.cholesky.specs.Factoring.{Factoring, factoring}
+use Rattle.cholesky.specs.Factoring.{Factoring, factoring, factored}
 use Rattle.cholesky.proofs.Extensional.{factoring-ext}
-use Rattle.cholesky.proofs.ScaledMatrix.{scaled-on, scaled-off}
+use Rattle.cholesky.proofs.ScaledMatrix.{scaled-on, scaled-off, take-off-nonneg}
 use Rattle.cholesky.proofs.Reduced.{factoring-by-rows, ends-diagonal}
 use Rattle.steps.specs.Steps.{lowered, trial}
 use Rattle.steps.proofs.Diagonals.{lowered-on, lowered-off}
@@ -27,7 +27,7 @@ use Rattle.steps.proofs.Diagonals.{lowered-on, lowered-off}
 -- ---- H of lowered tables
 module _ (n : ℕ) (L U : Matrix) (d : ℕ → ℤ) where
   abbrev H : Matrix
-  H = scaled takeOff n L U
+  H = scaled n L U
 
   -- 2^32 d(i)
   abbrev pub scaledStep : ℕ → ℤ
@@ -38,22 +38,22 @@ module _ (n : ℕ) (L U : Matrix) (d : ℕ → ℤ) where
   width-kept i =
       sum-ext n _ _ (λ j h. ring (L i j ∷ U i j ∷ only i j (d i) ∷ []) (search solver depth 40 fits 20000) refl)
 
-  pub scaled-lowered : (i j : ℕ) → scaled takeOff n (lowered d L) (lowered d U) i j ≡ lowered scaledStep H i j
+  pub scaled-lowered : (i j : ℕ) → scaled n (lowered d L) (lowered d U) i j ≡ lowered scaledStep H i j
   scaled-lowered i j = go (ℕ-discrete i j)
     where
-      go : Dec (i ≡ j) → scaled takeOff n (lowered d L) (lowered d U) i j ≡ lowered scaledStep H i j
+      go : Dec (i ≡ j) → scaled n (lowered d L) (lowered d U) i j ≡ lowered scaledStep H i j
       go (yes e) =
-          rw (← e) (scaled-on takeOff n (lowered d L) (lowered d U) i
-          ∙ rw (width-kept i, lowered-on d L i, lowered-on d U i, lowered-on scaledStep H i, scaled-on takeOff n L U i)
-          (ring (L i i ∷ U i i ∷ d i ∷ rowWidth n L U i ∷ []) (search solver depth 40 fits 20000) refl))
+          rw (← e) (scaled-on (takeOff n) n (lowered d L) (lowered d U) i
+          ∙ rw (width-kept i, lowered-on d L i, lowered-on d U i, lowered-on scaledStep H i, scaled-on (takeOff n) n L U i)
+          (ring (L i i ∷ U i i ∷ d i ∷ rowWidth n L U i ∷ takeOff n ∷ []) (search solver depth 40 fits 20000) refl))
       go (no e) =
-          scaled-off takeOff n (lowered d L) (lowered d U) i j e
-          ∙ rw (lowered-off d L i j e, lowered-off d U i j e, lowered-off scaledStep H i j e) (sym (scaled-off takeOff n L U i j e))
+          scaled-off (takeOff n) n (lowered d L) (lowered d U) i j e
+          ∙ rw (lowered-off d L i j e, lowered-off d U i j e, lowered-off scaledStep H i j e) (sym (scaled-off (takeOff n) n L U i j e))
 
   decided : Bool → Bool
-  decided b = elim b [ true ↦ factoring n (scaled takeOff n (lowered d L) (lowered d U)) .ends | false ↦ false ]
+  decided b = elim b [ true ↦ factored n (lowered d L) (lowered d U) .ends | false ↦ false ]
 
-  ends-lowered : factoring n (scaled takeOff n (lowered d L) (lowered d U)) .ends ≡ factoring n (lowered scaledStep H) .ends
+  ends-lowered : factored n (lowered d L) (lowered d U) .ends ≡ factoring n (lowered scaledStep H) .ends
   ends-lowered = ap (λ (f : Factoring). f .ends) (factoring-ext n _ _ (λ i j h k. scaled-lowered i j))
 
   module _ (b : Bounds n L U) where
@@ -63,8 +63,8 @@ module _ (n : ℕ) (L U : Matrix) (d : ℕ → ℤ) where
     left-low e i h =
         let one = ends-diagonal (lowered scaledStep H) n 0 i (sym (factoring-by-rows (lowered scaledStep H) n) ∙ e) (omega arith) (omega arith) in
         let width : (U i i -ℤ L i i) ≤ℤ rowWidth n L U i = term-≤-sum n i (λ j. U i j -ℤ L i j) h (λ j k. gap-nonneg (b .ordered i j h k)) in
-        order (L i i ∷ U i i ∷ d i ∷ rowWidth n L U i ∷ lowered d L i i ∷ lowered scaledStep H i i ∷ H i i ∷ [])
-        (one & width & lowered-on d L i & lowered-on scaledStep H i & scaled-on takeOff n L U i) (search solver depth 40 fits 20000) (omega arith)
+        order (L i i ∷ U i i ∷ d i ∷ rowWidth n L U i ∷ lowered d L i i ∷ lowered scaledStep H i i ∷ H i i ∷ takeOff n ∷ [])
+        (one & width & lowered-on d L i & lowered-on scaledStep H i & scaled-on (takeOff n) n L U i & take-off-nonneg n) (search solver depth 40 fits 20000) (omega arith)
 
     pub trial-is : trial n L U d ≡ factoring n (lowered scaledStep H) .ends
     unfolding trial decided

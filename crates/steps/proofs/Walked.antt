@@ -1,33 +1,35 @@
 -- The steps on H, and those of one diagonal entry on what is left of H after the rows before it.
 use mathlib.Core.Path.{_≡_, refl, sym, ap₂, _∙_, subst}
-use mathlib.Core.Bool.{Bool, true, false}
+use mathlib.Core.Bool.{true, false}
 use mathlib.Core.List.{List, [], _∷_}
 use Prim.Native.Nat.{ℕ, zero, suc, _-_, _^_, _≤_, _<_}
 use native.Mathlib.Omega.{arith}
 use native.Mathlib.Decide.{decLt, ℕ-discrete}
 use lib.Dec.{T}
 use lib.IntN.{ℤ, pos, _*ℤ_}
-use lib.Signed.{_≤ℤ_}
+use lib.Signed.{_≤ℤ_, leZ}
 use Rattle.integers.specs.Sum.{only}
 use Rattle.integers.specs.Division.{floorDiv}
 use Rattle.integers.specs.Root.{wholeRoot}
-use Rattle.integers.proofs.Parts.{≤ℤ-trans, pos-nonneg, *ℤ-nonneg}
+use Rattle.integers.proofs.Parts.{≤ℤ-trans, pos-nonneg, *ℤ-nonneg, leZ-true}
 use Rattle.integers.proofs.Solver.{_&_, order, ring, solver}
 use Rattle.integers.proofs.Sums.{only-by, only-other}
 use Rattle.tables.specs.Ranges.{greatestOrder}
 use Rattle.tables.specs.Matrix.{Matrix}
 use Rattle.tables.specs.Bounds.{Bounds}
 use Rattle.tables.proofs.Checks.{bool-ext, false-of}
-use Rattle.cholesky.specs.Scale.{scale, takeOff, scaled}
+use Rattle.cholesky.specs.Scale.{scale, scaled}
 use Rattle.cholesky.specs.Scaling.{Scaled}
 use Rattle.cholesky.specs.Factoring.{factoring}
 use Rattle.cholesky.specs.Store.{upper}
 use Rattle.cholesky.specs.Reduced.{rowEntry, reduced, endsFrom}
-use Rattle.cholesky.proofs.Filling.{sized-scaled}
-use Rattle.cholesky.proofs.Reduced.{leftOf, RowPasses, ends-passes, ends-of, ends-ext, tests-pass, pass-tests, tests-ext, left-falls, ends-rows, rows-end, factoring-by-rows}
-use Rattle.cholesky.proofs.Walked.{Walked, walked-row}
+use Rattle.cholesky.specs.Rows.{ColumnsTaken}
+use Rattle.cholesky.proofs.Filling.{scaled-factorable}
+use Rattle.cholesky.proofs.Reduced.{leftOf, RowPasses, ends-passes, ends-of, ends-ext, left-falls, ends-rows, rows-end, factoring-by-rows}
+use Rattle.cholesky.proofs.Walked.{Walked, walked-row, walked-stop}
+use Rattle.cholesky.proofs.Passing.{row-done}
 use Rattle.steps.specs.Steps.{lowered, stepBits, trial, step, stepAt}
-use Rattle.steps.specs.Tables.{taken, RowPassed, Triable, stepFrom}
+use Rattle.steps.specs.Tables.{taken, Triable, stepFrom}
 use Rattle.steps.proofs.Bits.{bits-ext, bits-none}
 use Rattle.steps.proofs.Diagonals.{taken-in, taken-out, lowered-on, lowered-none, lowered-ext}
 use Rattle.steps.proofs.Trials.{trial-is}
@@ -35,12 +37,12 @@ use Rattle.steps.proofs.Trials.{trial-is}
 -- ---- H, as it stands in the table
 module _ {n : ℕ} {L U : Matrix} {h : List ℤ} (b : Bounds n L U) (o : n ≤ greatestOrder) (w : Scaled n L U h n) where
   pub scaled-triable : Triable n 0 n h
-  scaled-triable = record { sized = sized-scaled b o w; inside = omega arith; ordered = omega arith; some = λ k. k }
+  scaled-triable = record { left = scaled-factorable b o w; inside = omega arith; ordered = omega arith; some = λ k. k }
 
   -- no row was taken
-  pub walked-start : Walked (scaled takeOff n L U) h 0 n
+  pub walked-start : Walked (scaled n L U) h 0 n
   unfolding leftOf
-  walked-start = record { sized = sized-scaled b o w; agree = record { entries = λ i j p q r. w .entries i j q r }; passed = λ i q. absurd (omega arith) }
+  walked-start = record { left = scaled-factorable b o w; agree = record { entries = λ i j p q r. w .entries i j q r }; passed = λ i q. absurd (omega arith) }
 
   -- t
   pub step-is : stepFrom n 0 n (upper h) ≡ step n L U
@@ -52,7 +54,7 @@ module _ {n : ℕ} {L U : Matrix} {h : List ℤ} (b : Bounds n L U) (o : n ≤ g
           let e : n - 0 ≡ n = omega arith in
           rw e (ends-ext n n 0 (omega arith) (record {
             entries = λ i j k l m.
-                lowered-ext _ (λ i. scale *ℤ t) (upper h) (scaled takeOff n L U) i j (taken-in 0 n (scale *ℤ t) i (omega arith) (omega arith)) (w .entries i j l m);
+                lowered-ext _ (λ i. scale *ℤ t) (upper h) (scaled n L U) i j (taken-in 0 n (scale *ℤ t) i (omega arith) (omega arith)) (w .entries i j l m);
           })
           ∙ sym (factoring-by-rows _ n) ∙ sym (trial-is n L U (λ i. t) b))
 
@@ -125,28 +127,32 @@ module _ (n : ℕ) (H : Matrix) (k : ℕ) (d : ℕ → ℤ) (alone : (i : ℕ) �
       go e i q (no r) = ends-passes H′ n (n - k) k i (omega arith) e (omega arith) q
 
 -- ---- t(k)
--- one of them stops
-pub record Stopped (n : ℕ) (H : Matrix) (k : ℕ) : Type 0 where
-  pub stops : ((i : ℕ) → i < k → RowPasses (leftOf H i) i n) → ⊥
+-- one of the rows before k stops, or less than 1 is left of the first diagonal entry
+pub record StoppedBefore (n : ℕ) (H : Matrix) (k : ℕ) : Type 0 where
+  pub stops : 0 < n → pos 1 ≤ℤ H 0 0 → ((i : ℕ) → i < k → RowPasses (leftOf H i) i n) → ⊥
+
+pub first-stops : {n : ℕ} {L U : Matrix} {h : List ℤ} → Scaled n L U h n → leZ (pos 1) (upper h 0 0) ≡ false → StoppedBefore n (scaled n L U) 0
+first-stops {h = h} w e =
+    record { stops = λ z one f. subst T (sym (leZ-true {x = pos 1} {y = upper h 0 0} (rw (w .entries 0 0 (omega arith) z) one)) ∙ e) tt }
 
 module _ {n k : ℕ} {H : Matrix} where
-  pub stopped-more : Stopped n H k → Stopped n H (suc k)
-  stopped-more s = record { stops = λ f. s .stops (λ i q. f i (omega arith)) }
+  pub stopped-more : StoppedBefore n H k → StoppedBefore n H (suc k)
+  stopped-more s = record { stops = λ z o f. s .stops z o (λ i q. f i (omega arith)) }
 
   module _ {h : List ℤ} (w : Walked H h k n) (l : k < n) where
     pub walked-triable : Triable n k (suc k) h
-    walked-triable = record { sized = w .sized; inside = l; ordered = omega arith; some = λ q. omega arith }
+    walked-triable = record { left = w .left; inside = l; ordered = omega arith; some = λ q. omega arith }
 
-    module _ {answer : Bool} {h′ : List ℤ} (r : RowPassed h n k answer h′) where
-      pub walked-on : answer ≡ true → Walked H h′ (suc k) n
-      walked-on e = walked-row w l (tests-pass (upper h) l (sym (r .answered) ∙ e) .first) (omega arith) (r .made e)
+    module _ {h′ : List ℤ} {r : ℕ} (x : ColumnsTaken h k n r h′) where
+      pub walked-on : pos 1 ≤ℤ upper h k k → n ≤ r → Walked H h′ (suc k) n
+      walked-on one q = walked-row w l one (omega arith) (row-done x q)
 
-      pub walked-off : answer ≡ false → Stopped n H (suc k)
-      walked-off e = record { stops = λ f. subst T (sym (pass-tests (leftOf H k) l (f k (omega arith))) ∙ sym (tests-ext (upper h) l (w .agree)) ∙ sym (r .answered) ∙ e) tt }
+      pub walked-off : r < n → StoppedBefore n H (suc k)
+      walked-off q = record { stops = λ z o f. walked-stop w l x q (f k (omega arith)) }
 
 module _ {n : ℕ} {L U : Matrix} (b : Bounds n L U) {k : ℕ} (l : k < n) where
   abbrev G : Matrix
-  G = scaled takeOff n L U
+  G = scaled n L U
 
   -- 2^32 t off entry (k,k)
   off : ℤ → ℕ → ℤ
@@ -179,9 +185,14 @@ module _ {n : ℕ} {L U : Matrix} (b : Bounds n L U) {k : ℕ} (l : k < n) where
           })
           ∙ sym (lowered-ends n G k (off t) (off-none t) l (w .passed)) ∙ sym (trial-is n L U (λ i. only i k t) b)
 
-  pub step-at-none : Stopped n G k → pos 0 ≡ stepAt n L U k
-  unfolding stepAt off
+  pub step-at-none : StoppedBefore n G k → pos 0 ≡ stepAt n L U k
+  unfolding stepAt leftOf off
   step-at-none s =
       sym (bits-none _ stepBits (pos 0) (pos-nonneg 0) (λ t h.
-      trial-is n L U (λ i. only i k t) b
-      ∙ false-of _ (λ e. s .stops (λ i q. pass-after n G k (off t) (off-none t) i q (off-nonneg t h) (ends-rows _ n e i (omega arith))))))
+      trial-is n L U (λ i. only i k t) b ∙ false-of _ (λ e. fails t h (ends-rows (lowered (off t) G) n e))))
+    where
+      fails : (t : ℤ) → pos 0 ≤ℤ t → ((i : ℕ) → i < n → RowPasses (leftOf (lowered (off t) G) i) i n) → ⊥
+      fails t h p =
+          s .stops (omega arith)
+          (order (G 0 0 ∷ lowered (off t) G 0 0 ∷ off t 0 ∷ []) (lowered-on (off t) G 0 & off-nonneg t h 0 & p 0 (omega arith) .first) (search solver depth 40 fits 20000) (omega arith))
+          (λ i q. pass-after n G k (off t) (off-none t) i q (off-nonneg t h) (p i (omega arith)))

@@ -2,7 +2,7 @@
 use mathlib.Core.Path.{_≡_}
 use mathlib.Core.Bool.{Bool, true, false, _&&_}
 use mathlib.Core.List.{List}
-use Prim.Native.Nat.{ℕ, suc, _-_, _^_, _≤_, _<_}
+use Prim.Native.Nat.{ℕ, _-_, _^_, _≤_, _<_}
 use lib.Dec.{leb, ltb}
 use lib.IntN.{ℤ, pos, _-ℤ_, _*ℤ_}
 use lib.Signed.{leZ}
@@ -11,14 +11,9 @@ use Rattle.tables.specs.Ranges.{greatestOrder, tableRoom}
 use Rattle.tables.specs.Matrix.{Matrix}
 use Rattle.cholesky.specs.Scale.{scale}
 use Rattle.cholesky.specs.Store.{upper}
-use Rattle.cholesky.specs.Reduced.{rowFrom, endsFrom}
-use Rattle.cholesky.specs.Rows.{Sized, RowDone}
+use Rattle.cholesky.specs.Reduced.{endsFrom}
+use Rattle.cholesky.specs.Rows.{Factorable}
 use Rattle.steps.specs.Steps.{lowered, bits, stepBits}
-
--- row i was worked out: where all columns before n go on, it is the factor's right of its diagonal, and what is left of the matrix stands in the rows after it
-pub record RowPassed (s : List ℤ) (n i : ℕ) (answer : Bool) (s′ : List ℤ) : Type 0 where
-  pub answered : answer ≡ (leZ (pos 1) (upper s i i) && rowFrom (upper s) i (suc i) (n - suc i))
-  pub made : answer ≡ true → RowDone s i n s′
 
 -- ---- lowered diagonals
 -- a step is below 2^20, and H is 2^32 times the tables
@@ -38,13 +33,15 @@ pub record Lowered (first last : ℕ) (e : ℤ) (s s′ : List ℤ) : Type 0 whe
   pub size : length s′ ≡ tableRoom
   pub entries : (a b : ℕ) → a < greatestOrder → b < greatestOrder → upper s′ a b ≡ lowered (taken first last e) (upper s) a b
 
--- a matrix of order n of which rows and columns from first on are left, and diagonal entries from first to last - 1 that can be lowered: one at least
+-- a matrix of order n of which rows and columns from first on are left, and diagonal entries from first to last - 1 that can be
+-- lowered: one at least
 pub record Triable (n first last : ℕ) (s : List ℤ) : Type 0 where
-  pub sized : Sized s n first
+  pub left : Factorable s n first
   pub inside : last ≤ n
   pub ordered : first ≤ last
   pub some : first < n → first < last
 
--- the step of the diagonal entries first, .., last - 1, of the matrix that is left from row first on: its entries are 2^32 times those of the tables
+-- the step of the diagonal entries first, .., last - 1, of the matrix that is left from row first on: its entries are 2^32 times those
+-- of the tables
 unfoldable pub stepFrom : ℕ → ℕ → ℕ → Matrix → ℤ
 stepFrom n first last S = bits (λ t. endsFrom (n - first) (lowered (taken first last (scale *ℤ t)) S) first) stepBits (pos 0)

@@ -1,4 +1,4 @@
-// Document 01, "Box": the steps t and t(k), which can be taken off every diagonal entry, or off entry (k,k) only, so that factoring ends.
+// R12 of docs/RULES.md: the steps t and t(k), which can be taken off all diagonal entries, or off entry (k,k) alone.
 // A step t of the tables is 2^32 t of their matrix H: trials are made on a copy of it, of which only diagonal entries are lowered.
 ghost use mathlib.Core.Path.{_≡_};
 ghost use Prim.Native.Nat.{suc, _-_, _≤_, _<_};
@@ -14,16 +14,16 @@ ghost use Rattle.tables.specs.Bounds.{CheckedTables};
 ghost use Rattle.cholesky.specs.Store.{upper};
 ghost use Rattle.cholesky.specs.Reduced.{endsFrom};
 ghost use Rattle.steps.specs.Steps.{lowered, step, stepAt};
-ghost use Rattle.cholesky.specs.Rows.{Sized};
+ghost use Rattle.cholesky.specs.Rows.{Factorable};
 ghost use Rattle.steps.specs.Tables.{stepRange, taken, stays, Lowered, Triable, stepFrom};
 use cholesky::STRIDE;
+use cholesky::row_step::ends_from;
+use cholesky::row_step::take_row;
 use cholesky::scaling::SCALE;
 use cholesky::scaling::scale;
 use tables::TABLE_ROOM;
 use tables::Table;
 use tables::Vector;
-
-pub mod reducing;
 
 // A step has 20 bits: 2^19 is tried first.
 const STEP_BITS: usize = 20;
@@ -33,7 +33,7 @@ const MOST_STEP: i64 = (1 << STEP_BITS) - 1;
 
 // Whether at least 1 is left of each diagonal entry from first to last - 1 with e taken off.
 fn stays(first: usize, last: usize, e: i64, s: &Table) -> bool
-    requires { ⌜ Sized (now s) last first × (first ≤ last) × Within stepRange e ⌝ }
+    requires { ⌜ Factorable (now s) last first × (first ≤ last) × Within stepRange e ⌝ }
     ensures { λ r. ⌜ r ≡ all last (stays (upper (now (s .entry))) first e) ⌝ }
 {
     let mut i = first;
@@ -48,7 +48,7 @@ fn stays(first: usize, last: usize, e: i64, s: &Table) -> bool
 
 // Takes e off the diagonal entries first to last - 1.
 fn lower(first: usize, last: usize, e: i64, s: &mut Table)
-    requires { ⌜ Sized (now s) last first × (first ≤ last) × Within stepRange e ⌝ }
+    requires { ⌜ Factorable (now s) last first × (first ≤ last) × Within stepRange e ⌝ }
     ensures { λ r. ⌜ Lowered first last e (now (s .entry)) (now (s .exit)) ⌝ }
 {
     let mut i = first;
@@ -71,7 +71,7 @@ fn trial(n: usize, first: usize, last: usize, e: i64, h: &Table) -> bool
     }
     let mut s = *h;
     lower(first, last, e, &mut s);
-    reducing::ends_from(&mut s, n, first)
+    ends_from(&mut s, n, first)
 }
 
 // The step of the last row, k: the greatest that leaves 1 of its diagonal entry.
@@ -117,21 +117,22 @@ pub fn step(n: usize, low: &[i64], high: &[i64]) -> i64
     search(n, 0, n, &h)
 }
 
-// t(k), of diagonal entry k only, for each k: on what is left after the rows before k. Where factoring stops in one of these, t(k) is 0.
+// t(k), of diagonal entry k only, for each k: on what is left after the rows before k. Where factoring stops in one of these, or less
+// than 1 is left of the first diagonal entry, t(k) is 0.
 pub fn steps_at(n: usize, low: &[i64], high: &[i64], t: &mut Vector)
     requires { ⌜ CheckedTables n (now low) (now high) × (length (now t) ≡ greatestOrder) ⌝ }
     ensures { λ r. ⌜ Filled greatestOrder n (stepAt n (at n (now (low .entry))) (at n (now (high .entry)))) (now (t .exit)) ⌝ }
 {
     let mut h = [0i64; TABLE_ROOM];
     scale(n, low, high, &mut h);
-    let mut goes_on = true;
+    let mut goes_on = 1 <= h[0];
     let mut next = 0;
     while next < n {
         let k = next;
         next += 1;
         if goes_on {
             t[k] = search(n, k, next, &h);
-            goes_on = reducing::pass_row(&mut h, n, k);
+            goes_on = n <= take_row(&mut h, k, n);
         } else {
             t[k] = 0;
         }

@@ -1,4 +1,4 @@
--- "Fields may stand in any order": files with the same contents, kind by kind, are read as the same problem or refused by the same number.
+-- R16.3 of docs/RULES.md: files with the same contents, kind by kind, are read as the same problem or refused by the same number.
 use mathlib.Core.Path.{_≡_, refl, sym, ap, _∙_}
 use mathlib.Core.Bool.{Bool, true, false, false≢true}
 use mathlib.Core.List.{List, []}
@@ -13,11 +13,11 @@ use Rattle.tables.specs.declared.Checked.the-variants as Checked
 use Rattle.fields.specs.declared.field.Kind.{Kind}
 use Rattle.fields.specs.declared.field.Kind.the-variants as Kind
 use Rattle.fields.specs.declared.layout.Layout.{Layout}
-use Rattle.fields.specs.Layouts.{startOf, lengthOf, seen, content, walked, Inside}
+use Rattle.fields.specs.Layouts.{startOf, lengthOf, seen, content, Inside}
 use Rattle.fields.specs.Entries.{entryOf, contentSeen, Written}
 use Rattle.fields.proofs.Parts.{walked-inside, length-content}
 use Rattle.fields.proofs.Entries.{written-passes, written-contents}
-use Rattle.summary.specs.Problems.{longest, allPresent, orderIn, sizesOk, fieldChecks, problemIn, handed, readIn, reading}
+use Rattle.summary.specs.Problems.{longest, allPresent, orderIn, lengthsOk, fieldChecks, problemIn, readingOf, readIn, reading}
 use Rattle.summary.proofs.Spelled.{read-in-passed, read-in-refused, reading-walked}
 
 -- two files with their layouts have the same fields: the same kinds, lengths and contents
@@ -36,9 +36,9 @@ module _ {s s′ : List ℕ} {l l′ : Layout} (a : Alike s s′ l l′) where
   unfolding orderIn
   order-alike = ap (λ (t : List ℕ). getD t 0 0) (a .contents Kind.Order)
 
-  sizes-alike : (n : ℕ) → sizesOk l n ≡ sizesOk l′ n
-  unfolding sizesOk
-  sizes-alike n = rw (a .sizes Kind.Low, a .sizes Kind.High, a .sizes Kind.Linear, a .sizes Kind.Limit, a .sizes Kind.Centre)
+  sizes-alike : (n : ℕ) → lengthsOk l n ≡ lengthsOk l′ n
+  unfolding lengthsOk all lengthOf
+  sizes-alike n = rw (a .sizes Kind.Order, a .sizes Kind.Low, a .sizes Kind.High, a .sizes Kind.Linear, a .sizes Kind.Limit, a .sizes Kind.Centre)
 
   checks-alike : fieldChecks s l ≡ fieldChecks s′ l′
   unfolding fieldChecks
@@ -56,7 +56,7 @@ module _ {s s′ : List ℕ} {l l′ : Layout} (a : Alike s s′ l l′) where
       checked = ap firstRefusal checks-alike
 
       go : (c : Checked) → firstRefusal (fieldChecks s′ l′) ≡ c → readIn s l ≡ readIn s′ l′
-      go Checked.Passed e = read-in-passed s l (checked ∙ e) ∙ ap handed problem-alike ∙ sym (read-in-passed s′ l′ e)
+      go Checked.Passed e = read-in-passed s l (checked ∙ e) ∙ ap readingOf problem-alike ∙ sym (read-in-passed s′ l′ e)
       go (Checked.Refused r) e = read-in-refused s l r (checked ∙ e) ∙ sym (read-in-refused s′ l′ r e)
 
 -- ---- what the contents that are seen say of a layout

@@ -1,19 +1,21 @@
 -- The problems of some files: what the rules give, beside what was worked out apart from them. One list with one proof.
 use mathlib.Core.Path.{_≡_, refl}
 use mathlib.Core.List.{List, [], _∷_, _++_, map}
-use Prim.Native.Nat.{ℕ}
+use Prim.Native.Nat.{ℕ, suc, _-_}
 use lib.IntN.{ℤ, pos, negsuc}
 use lib.ListN.{length, replicate}
 use Rattle.words.specs.Numbers.{fromLeBytes, unsignedAt, signedAt, numbersOf, paddedNumbersOf}
 use Rattle.tables.specs.Matrix.{at}
-use Rattle.tables.specs.Checks.{all, firstRefusal, orderOk, within, allWithin, nowhereCrossed, same, symmetric, tableChecks, problemChecks}
+use Rattle.tables.specs.Problem.{problemOf}
+use Rattle.tables.specs.Ranges.{greatestOrder, tableRoom}
+use Rattle.tables.specs.Checks.{all, firstRefusal, orderOk, within, allWithin, nowhereCrossed, same, symmetric, tablesWithin, termsWithin, boundsChecks}
 use Rattle.tables.specs.declared.Refusal.{Refusal}
 use Rattle.tables.specs.declared.Refusal.the-variants.{Order, Range, Crossed, Tag, Absent, Size, Long}
 use Rattle.tables.specs.declared.Checked.the-variants.{Passed, Refused}
-use Rattle.fields.specs.Fields.{tags, kindIn, kindOf, tagged, fieldAt}
+use Rattle.fields.specs.Fields.{kindIn, kindOf, tagged, fieldAt}
 use Rattle.fields.specs.Layouts.{startOf, lengthOf, seen, unseen, placed, walkOn, walkFields, walk, walked, content}
 use Rattle.summary.specs.declared.problem.Reading.{Reading}
-use Rattle.summary.specs.Problems.{allPresent, orderIn, sizesOk, fieldChecks, problemIn, noProblem, readAs, handed, readIn, readWalked, reading}
+use Rattle.summary.specs.Problems.{longest, allPresent, orderIn, lengthsOk, fieldChecks, problemIn, noProblem, readAs, readingOf, readIn, readWalked, reading}
 
 -- ---- files
 abbrev field : ℕ → List ℕ → List ℕ
@@ -26,7 +28,7 @@ short x = x ∷ replicate 3 0
 abbrev long : ℕ → List ℕ
 long x = x ∷ replicate 7 0
 
--- document 01's case P, with other contents of the tags 01, 02 and 06
+-- case P (W21 of docs/RULES.md), with other contents of the tags 01, 02 and 06
 abbrev file : List ℕ → ℕ → List ℕ → List ℕ
 file n l c = field 1 n ++ field 2 (short l) ++ field 3 (short 4) ++ field 4 (0xf8 ∷ replicate 7 0xff) ++ field 5 (long 0) ++ field 6 c
 
@@ -34,15 +36,15 @@ file n l c = field 1 n ++ field 2 (short l) ++ field 3 (short 4) ++ field 4 (0xf
 abbrev refused : Refusal → Reading
 refused r = record { checked = Refused r; problem = noProblem }
 
--- a number, and zeros after it
+-- a number, and zeros after it: so many in all
 abbrev alone : ℕ → ℤ → List ℤ
-alone zeros x = x ∷ replicate zeros (pos 0)
+alone room x = x ∷ replicate (room - 1) (pos 0)
 
 abbrev readingP : Reading
 readingP =
     record {
       checked = Passed;
-      problem = record { order = 1; low = alone 63 (pos 4); high = alone 63 (pos 4); linear = alone 7 (negsuc 7); limit = pos 0; centre = alone 7 (pos 2) };
+      problem = problemOf 1 (alone tableRoom (pos 4)) (alone tableRoom (pos 4)) (alone greatestOrder (negsuc 7)) (pos 0) (alone greatestOrder (pos 2));
     }
 
 record Line : Type 0 where
@@ -59,24 +61,24 @@ lines =
     ∷ record { bytes = field 1 (1 ∷ 1 ∷ []) ++ field 2 (short 4); expected = refused Absent }
     -- 14 for tag 01 comes before 1
     ∷ record { bytes = file [] 4 (long 2); expected = refused Size }
-    ∷ record { bytes = file (9 ∷ 0 ∷ []) 4 (long 2); expected = refused Size }
+    ∷ record { bytes = file (suc greatestOrder ∷ 0 ∷ []) 4 (long 2); expected = refused Size }
     -- 1 comes before 14 for the other tags
     ∷ record { bytes = file (0 ∷ []) 4 (long 2); expected = refused Order }
-    ∷ record { bytes = file (9 ∷ []) 4 (long 2); expected = refused Order }
+    ∷ record { bytes = file (suc greatestOrder ∷ []) 4 (long 2); expected = refused Order }
     ∷ record { bytes = file (2 ∷ []) 4 (long 2); expected = refused Size }
     -- 14 comes before 4, and 3 before 4
     ∷ record { bytes = file (1 ∷ []) 5 (short 2); expected = refused Size }
     ∷ record { bytes = file (1 ∷ []) 5 (0 ∷ long 1); expected = refused Size }
     ∷ record { bytes = file (1 ∷ []) 5 (0 ∷ 0 ∷ 1 ∷ replicate 5 0); expected = refused Range }
     ∷ record { bytes = file (1 ∷ []) 5 (long 2); expected = refused Crossed }
-    -- 15 comes before 11, from 4097 bytes on
-    ∷ record { bytes = replicate 4096 0; expected = refused Tag }
-    ∷ record { bytes = replicate 4097 0; expected = refused Long }
+    -- 15 comes before 11, from one byte more than the longest file has
+    ∷ record { bytes = replicate longest 0; expected = refused Tag }
+    ∷ record { bytes = replicate (suc longest) 0; expected = refused Long }
     ∷ []
 
 as-worked-out : map (λ (l : Line). reading (l .bytes)) lines ≡ map (λ (l : Line). l .expected) lines
-unfolding reading readWalked readIn readAs handed problemIn fieldChecks allPresent orderIn sizesOk
-    content lengthOf walked walk walkFields walkOn seen startOf unseen placed fieldAt tagged kindOf kindIn tags
+unfolding reading readWalked readIn readAs readingOf problemIn fieldChecks allPresent orderIn lengthsOk
+    content lengthOf walked walk walkFields walkOn seen startOf unseen placed fieldAt tagged kindOf kindIn
     unsignedAt fromLeBytes signedAt numbersOf paddedNumbersOf
-    all firstRefusal orderOk within allWithin nowhereCrossed same symmetric tableChecks problemChecks at
+    all firstRefusal orderOk within allWithin nowhereCrossed same symmetric tablesWithin termsWithin boundsChecks at
 as-worked-out = refl

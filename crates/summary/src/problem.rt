@@ -1,4 +1,4 @@
-// The problem that a file spells.
+// R17 of docs/RULES.md: the problem that a file spells.
 ghost use mathlib.Core.Path.{_≡_};
 ghost use Prim.Native.Nat.{_*_, _≤_};
 ghost use mir.Syntax.{w32, w64};
@@ -6,9 +6,12 @@ ghost use mir.Val.{bytes};
 ghost use Rattle.words.specs.Numbers.{signedAt, paddedNumbersOf};
 ghost use Rattle.tables.specs.Ranges.{greatestOrder, tableRoom};
 ghost use Rattle.tables.specs.Checks.{firstRefusal};
+ghost use Rattle.tables.specs.Problem.{problemChecks};
 ghost use Rattle.tables.specs.declared.Checked.the-variants.{Passed};
 ghost use Rattle.fields.specs.Layouts.{lengthOf, content, Inside};
-ghost use Rattle.summary.specs.Problems.{allPresent, orderIn, sizesOk, Sized, fieldChecks, problemIn, noProblem, handed, readIn, reading, LetThrough};
+ghost use Rattle.summary.specs.Problems.{allPresent, orderIn, lengthsFor, lengthsOk, FieldsFit, fieldChecks, problemIn};
+ghost use Rattle.summary.specs.Problems.{noProblem, ProblemRooms, readingOf, readIn, reading, LetThrough};
+use fields::field::KINDS;
 use fields::field::Kind;
 use fields::layout::Layout;
 use fields::layout::content;
@@ -20,19 +23,11 @@ use tables::Refusal;
 use tables::TABLE_ROOM;
 use tables::Table;
 use tables::Vector;
+use tables::problem::Constraint;
+use tables::problem::Problem;
 
-// A file has at most 4096 bytes.
+// A file has at most 4096 bytes (R17.1 of docs/RULES.md).
 pub const LONGEST: usize = 4096;
-
-// A problem of order n. L and U stand row by row in the first n² numbers of low and high, a and c in the first n of linear and centre; zeros follow.
-pub struct Problem {
-    pub order: usize,
-    pub low: Table,
-    pub high: Table,
-    pub linear: Vector,
-    pub limit: i64,
-    pub centre: Vector,
-}
 
 // What the reading of a file finds: its problem, or the first refusal, with zeros for a problem.
 pub struct Reading {
@@ -44,23 +39,26 @@ pub struct Reading {
 fn no_problem() -> Problem
     ensures { λ r. ⌜ r ≡ noProblem ⌝ }
 {
-    Problem {
+    let constraint = Constraint {
         order: 0,
         low: [0; TABLE_ROOM],
         high: [0; TABLE_ROOM],
         linear: [0; GREATEST_ORDER],
         limit: 0,
+    };
+    Problem {
+        constraint,
         centre: [0; GREATEST_ORDER],
     }
 }
 
-// 13: whether all six fields are there.
+// 13: whether all fields are there.
 fn all_present(layout: Layout) -> bool
     ensures { λ r. ⌜ r ≡ allPresent layout ⌝ }
 {
     let starts = layout.starts;
     let mut k = 0;
-    while k < 6 {
+    while k < KINDS {
         if starts[k] == 0 {
             return false;
         }
@@ -69,18 +67,31 @@ fn all_present(layout: Layout) -> bool
     true
 }
 
-// 14, of the tags 02 to 06: whether each field has the length that n calls for.
-fn sizes_ok(layout: Layout, n: usize) -> bool
+// The length that n calls for, kind by kind.
+fn lengths_for(n: usize) -> [usize; KINDS]
     requires { ⌜ n ≤ greatestOrder ⌝ }
-    ensures { λ r. ⌜ r ≡ sizesOk layout n ⌝ }
+    ensures { λ r. ⌜ r ≡ lengthsFor n ⌝ }
 {
     let table = n * n * words::SHORT_SIZE;
     let vector = n * words::SIZE;
-    length_of(layout, Kind::Low) == table
-        && (length_of(layout, Kind::High) == table
-            && (length_of(layout, Kind::Linear) == vector
-                && (length_of(layout, Kind::Limit) == words::SIZE
-                    && length_of(layout, Kind::Centre) == vector)))
+    [1, table, table, vector, words::SIZE, vector]
+}
+
+// 14: whether each field has the length that n calls for.
+fn lengths_ok(layout: Layout, n: usize) -> bool
+    requires { ⌜ n ≤ greatestOrder ⌝ }
+    ensures { λ r. ⌜ r ≡ lengthsOk layout n ⌝ }
+{
+    let lengths = layout.lengths;
+    let called = lengths_for(n);
+    let mut k = 0;
+    while k < KINDS {
+        if lengths[k] != called[k] {
+            return false;
+        }
+        k += 1;
+    }
+    true
 }
 
 // n, the first byte in the content of tag 01, and 0 where that is empty.
@@ -95,7 +106,7 @@ fn order_in(file: &[u8], layout: Layout) -> u8
     part[0]
 }
 
-// 13, then 14 for tag 01, then 1, then 14 for the other tags.
+// The checks of R5.11 from 13 to the second 14.
 fn check_fields(file: &[u8], layout: Layout) -> Checked
     requires { ⌜ Inside (now file) layout ⌝ }
     ensures { λ r. ⌜ r ≡ firstRefusal (fieldChecks (now (file .entry)) layout) ⌝ }
@@ -112,7 +123,7 @@ fn check_fields(file: &[u8], layout: Layout) -> Checked
     if !ordered {
         return Checked::Refused(Refusal::Order);
     }
-    if sizes_ok(layout, n as usize) {
+    if lengths_ok(layout, n as usize) {
         return Checked::Passed;
     }
     Checked::Refused(Refusal::Size)
@@ -123,7 +134,14 @@ fn table_in(file: &[u8], layout: Layout, kind: Kind, count: usize) -> Table
     requires { ⌜ Inside (now file) layout × (count * bytes w32 ≤ lengthOf layout kind) × (count ≤ tableRoom) ⌝ }
     ensures { λ r. ⌜ r ≡ paddedNumbersOf w32 tableRoom (content (now (file .entry)) layout kind) count ⌝ }
 {
-    words::load_short_table(content(file, layout, kind), count)
+    let mut t = [0i64; TABLE_ROOM];
+    words::load_numbers(
+        content(file, layout, kind),
+        &mut t,
+        count,
+        words::SHORT_SIZE,
+    );
+    t
 }
 
 // The numbers in the content of a kind, count of them.
@@ -131,7 +149,9 @@ fn vector_in(file: &[u8], layout: Layout, kind: Kind, count: usize) -> Vector
     requires { ⌜ Inside (now file) layout × (count * bytes w64 ≤ lengthOf layout kind) × (count ≤ greatestOrder) ⌝ }
     ensures { λ r. ⌜ r ≡ paddedNumbersOf w64 greatestOrder (content (now (file .entry)) layout kind) count ⌝ }
 {
-    words::load_vector(content(file, layout, kind), count)
+    let mut x = [0i64; GREATEST_ORDER];
+    words::load_numbers(content(file, layout, kind), &mut x, count, words::SIZE);
+    x
 }
 
 // The number in the content of a kind.
@@ -139,36 +159,49 @@ fn number_in(file: &[u8], layout: Layout, kind: Kind) -> i64
     requires { ⌜ Inside (now file) layout × (bytes w64 ≤ lengthOf layout kind) ⌝ }
     ensures { λ r. ⌜ r ≡ signedAt w64 (content (now (file .entry)) layout kind) 0 ⌝ }
 {
-    words::load_i64(content(file, layout, kind), 0)
+    words::load_signed(content(file, layout, kind), 0, words::SIZE)
 }
 
-// The problem in fields of the sizes that n calls for.
+// The problem in fields of the lengths that n calls for.
 fn problem_in(file: &[u8], layout: Layout) -> Problem
-    requires { ⌜ Sized (now file) layout ⌝ }
+    requires { ⌜ FieldsFit (now file) layout ⌝ }
     ensures { λ r. ⌜ r ≡ problemIn (now (file .entry)) layout ⌝ }
 {
     let n = order_in(file, layout) as usize;
-    Problem {
+    let constraint = Constraint {
         order: n,
         low: table_in(file, layout, Kind::Low, n * n),
         high: table_in(file, layout, Kind::High, n * n),
         linear: vector_in(file, layout, Kind::Linear, n),
         limit: number_in(file, layout, Kind::Limit),
+    };
+    Problem {
+        constraint,
         centre: vector_in(file, layout, Kind::Centre, n),
     }
 }
 
-// 3, 4 and 5 of a problem, which is handed out where it passes.
-fn handed(problem: Problem) -> Reading
-    requires { ⌜ problem .order ≤ greatestOrder ⌝ }
-    ensures { λ r. ⌜ r ≡ handed problem ⌝ }
+// 3, 4 and 5.
+fn check_problem(problem: Problem) -> Checked
+    requires { ⌜ ProblemRooms problem ⌝ }
+    ensures { λ r. ⌜ r ≡ firstRefusal (problemChecks problem) ⌝ }
 {
-    let low = problem.low;
-    let high = problem.high;
-    let linear = problem.linear;
+    let constraint = problem.constraint;
+    let low = constraint.low;
+    let high = constraint.high;
+    let linear = constraint.linear;
     let centre = problem.centre;
-    let n = problem.order;
-    let checked = tables::check_problem(n, &low, &high, &linear, problem.limit, &centre);
+    let n = constraint.order;
+    let within = tables::sized_within(n, true, &linear, constraint.limit, &centre);
+    tables::check_bounds(n, within, &low, &high)
+}
+
+// A problem where it passes them, or the first refusal.
+fn reading_of(problem: Problem) -> Reading
+    requires { ⌜ ProblemRooms problem ⌝ }
+    ensures { λ r. ⌜ r ≡ readingOf problem ⌝ }
+{
+    let checked = check_problem(problem);
     match checked {
         Checked::Passed => Reading {
             checked: Checked::Passed,
@@ -188,7 +221,7 @@ fn read_in(file: &[u8], layout: Layout) -> Reading
 {
     let checked = check_fields(file, layout);
     match checked {
-        Checked::Passed => handed(problem_in(file, layout)),
+        Checked::Passed => reading_of(problem_in(file, layout)),
         Checked::Refused(r) => Reading {
             checked: Checked::Refused(r),
             problem: no_problem(),
@@ -196,7 +229,8 @@ fn read_in(file: &[u8], layout: Layout) -> Reading
     }
 }
 
-// The problem of a summary file, of any bytes at all: 15; then field by field 10, 11, 12; then 13; 14 for tag 01; 1; 14 for the other tags; 3, 4, 5.
+// The problem of a summary file, of any bytes at all: 15; then field by field 10, 11, 12; then 13; 14 for tag 01; 1; 14 for the other
+// tags; 3, 4, 5.
 pub fn read(file: &[u8]) -> Reading
     ensures exact { λ r. ⌜ r ≡ reading (now (file .entry)) ⌝ }
     ensures meaning { λ r. ⌜ (r .checked ≡ Passed → LetThrough (r .problem)) ⌝ }

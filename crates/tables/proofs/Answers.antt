@@ -1,20 +1,20 @@
 -- Laws of the answers: by which checks an act answers what, and what an answer says of the checks.
-use mathlib.Core.Path.{_≡_, refl, sym, ap, subst, _∙_}
+use mathlib.Core.Path.{_≡_, refl, sym, ap, subst}
 use mathlib.Core.Bool.{Bool, true, false, false≢true}
-use mathlib.Core.List.{List, [], _∷_, _++_}
+use mathlib.Core.List.{List, _++_}
 use Prim.Native.Nat.{_<_}
 use native.Mathlib.Omega.{arith}
-use lib.IntN.{ℤ, pos, negsuc, natAbs}
+use lib.IntN.{pos, negsuc, natAbs}
 use Rattle.tables.specs.Refusals.{refusalNumber}
-use Rattle.tables.specs.Checks.{Check, firstRefusal, orderOk}
-use Rattle.tables.specs.Answers.{after, entryChecks, yesOrNo, answerCode}
+use Rattle.tables.specs.Checks.{Check, firstRefusal}
+use Rattle.tables.specs.Answers.{after, yesOrNo, answerCode}
 use Rattle.tables.specs.declared.Refusal.{Refusal}
 use Rattle.tables.specs.declared.Refusal.the-variants.{Order, Length, Range, Crossed, Lopsided, Factor, Vector, Flat, Far, Cut, Tag, Again, Absent, Size, Long}
 use Rattle.tables.specs.declared.Checked.{Checked}
 use Rattle.tables.specs.declared.Checked.the-variants.{Passed, Refused}
 use Rattle.tables.specs.declared.Answer.{Answer}
 use Rattle.tables.specs.declared.Answer.the-variants as Answer
-use Rattle.tables.proofs.Checks.{first-passes, first-refuses, first-passed, first-none, more-checks, no-more-checks}
+use Rattle.tables.proofs.Checks.{no-more-checks}
 
 -- ---- checks, and one more
 pub prefix-passed : (cs ds : List Check) → firstRefusal (cs ++ ds) ≡ Passed → firstRefusal cs ≡ Passed
@@ -23,9 +23,6 @@ prefix-passed cs ds e = go (firstRefusal cs) refl
     go : (k : Checked) → firstRefusal cs ≡ k → k ≡ Passed
     go Passed q = refl
     go (Refused r) q = cc (no-more-checks cs ds r q)
-
-pub last-passed : (cs : List Check) (c : Check) → firstRefusal (cs ++ (c ∷ [])) ≡ Passed → c .passes ≡ true
-last-passed cs c e = first-passed c [] (sym (more-checks cs (c ∷ []) (prefix-passed cs (c ∷ []) e)) ∙ e)
 
 -- ---- an act's answer, by its checks
 module _ {A : Type 0} (refused : Refusal → A) where
@@ -42,31 +39,6 @@ module _ {A : Type 0} (refused : Refusal → A) where
   unfolding after
   after-is Passed a b f e = (refl, e)
   after-is (Refused r) a b f e = absurd (f r e)
-
-  -- checks 1 and 2, and then the rest of the act
-  module _ (n : ℤ) (sized : Bool) (a : A) where
-    pub order-refused : orderOk n ≡ false → refused Order ≡ after refused (firstRefusal (entryChecks n sized)) a
-    unfolding entryChecks
-    order-refused o = after-refused Order a (first-refuses _ _ o)
-
-    pub size-refused : orderOk n ≡ true → sized ≡ false → refused Length ≡ after refused (firstRefusal (entryChecks n sized)) a
-    unfolding entryChecks
-    size-refused o s = after-refused Length a (first-passes _ _ o ∙ first-refuses _ _ s)
-
-    pub entry-passed : orderOk n ≡ true → sized ≡ true → a ≡ after refused (firstRefusal (entryChecks n sized)) a
-    unfolding entryChecks
-    entry-passed o s = after-passed a (first-passes _ _ o ∙ first-passes _ _ s ∙ first-none)
-
-  -- the checks of the tables, and then that of what is offered with them
-  module _ (cs : List Check) (c : Check) (a : A) where
-    pub tables-refused : (r : Refusal) → firstRefusal cs ≡ Refused r → refused r ≡ after refused (firstRefusal (cs ++ (c ∷ []))) a
-    tables-refused r e = after-refused r a (no-more-checks cs (c ∷ []) r e)
-
-    pub offer-refused : firstRefusal cs ≡ Passed → c .passes ≡ false → refused (c .otherwise) ≡ after refused (firstRefusal (cs ++ (c ∷ []))) a
-    offer-refused p e = after-refused (c .otherwise) a (more-checks cs (c ∷ []) p ∙ first-refuses c [] e)
-
-    pub offer-passed : firstRefusal cs ≡ Passed → c .passes ≡ true → a ≡ after refused (firstRefusal (cs ++ (c ∷ []))) a
-    offer-passed p e = after-passed a (more-checks cs (c ∷ []) p ∙ first-passes c [] e ∙ first-none)
 
 -- ---- yes and no
 pub after-yes : (k : Checked) (a : Answer) → after Answer.Refused k a ≡ Answer.Yes → (k ≡ Passed) × (a ≡ Answer.Yes)

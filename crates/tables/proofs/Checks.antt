@@ -17,7 +17,7 @@ use Rattle.integers.proofs.Parts.{≤ℤ-antisym, ≤ℤ-trans, pos-nonneg, ≤
 use Rattle.integers.proofs.Machine.{within-neg, within-in, within-low, within-high, fits, lt-yes, lt-no, same-bits, as-usize}
 use Rattle.tables.specs.Ranges.{greatestOrder, entryRange}
 use Rattle.tables.specs.Matrix.{at}
-use Rattle.tables.specs.Checks.{all, Check, firstRefusal, orderOk, sizesOk, within, allWithin, nowhereCrossed, same, symmetric, tableChecks}
+use Rattle.tables.specs.Checks.{all, Check, firstRefusal, orderOk, sizesOk, within, allWithin, tablesWithin, nowhereCrossed, same, symmetric, boundsChecks, tableChecks}
 use Rattle.tables.specs.Pairs.{pairBounded, tablesBounded}
 use Rattle.tables.specs.Bounds.{Bounds}
 use Rattle.tables.specs.declared.Refusal.{Refusal}
@@ -57,9 +57,6 @@ and-of h k = rw (h, k)
 
 pub and-first-false : {a : Bool} (b : Bool) → a ≡ false → (a && b) ≡ false
 and-first-false b h = rw h
-
-pub and-second-false : {a b : Bool} → a ≡ true → b ≡ false → (a && b) ≡ false
-and-second-false h k = rw (h, k)
 
 -- what a call found, where the code asks `if !f(..)`
 pub call-false : {r t : Bool} → r ≡ t → not r ≡ true → t ≡ false
@@ -227,7 +224,7 @@ module _ (n : ℕ) (l u : List ℤ) where
 
   -- ---- tables that pass are bounds, and bounds pass
   pub passed-bounds : firstRefusal (tableChecks n l u) ≡ Passed → Bounds n (at n l) (at n u)
-  unfolding tableChecks
+  unfolding boundsChecks tablesWithin
   passed-bounds e =
       let e₁ = rest-passed _ _ e in
       let range = first-passed _ _ e in
@@ -241,7 +238,7 @@ module _ (n : ℕ) (l u : List ℤ) where
       }
 
   pub bounds-passed : Bounds n (at n l) (at n u) → firstRefusal (tableChecks n l u) ≡ Passed
-  unfolding tableChecks firstRefusal
+  unfolding boundsChecks tablesWithin firstRefusal
   bounds-passed b =
       rw (
         range-of n l entryRange (b .low-range),
@@ -334,12 +331,9 @@ order-of {n} e = (le-of (pos 1) n (and-left _ _ e), small n (le-of n (pos greate
 pub order-usize : {n : ℤ} → SFits w64 n → orderOk n ≡ true → T (nonNeg (toZ w64 (ofZ w64 n))) × Fits w64 (natAbs (toZ w64 (ofZ w64 n)))
 order-usize f e = as-usize f (≤ℤ-trans (pos-nonneg 1) (order-of e .0))
 
--- buffers that have their sizes have room
-pub sizes-of : (table offer l u v : ℕ) → sizesOk table offer l u v ≡ true → (table ≤ l) × (table ≤ u) × (offer ≤ v)
+-- buffers that have their sizes
+pub sizes-of : (table offer l u v : ℕ) → sizesOk table offer l u v ≡ true → (l ≡ table) × (u ≡ table) × (v ≡ offer)
 unfolding sizesOk
 sizes-of table offer l u v e =
     let t = and-right (eqb l table) _ e in
-    let a = eqb-true l table (and-left _ _ e) in
-    let b = eqb-true u table (and-left _ _ t) in
-    let c = eqb-true v offer (and-right (eqb u table) _ t) in
-    (omega arith, omega arith, omega arith)
+    (eqb-true l table (and-left _ _ e), eqb-true u table (and-left _ _ t), eqb-true v offer (and-right (eqb u table) _ t))

@@ -30,11 +30,7 @@ module _ (n : ℕ) where
   unfolding doubleSum
   doubleSum-swap f = sum-swap n n f
 
--- ---- forms: equal vectors, equal matrices, sums and multiples of matrices
-pub form-ext : (n : ℕ) (M : Matrix) (x y : ℕ → ℤ) → ((k : ℕ) → k < n → x k ≡ y k) → form n M x ≡ form n M y
-unfolding form
-form-ext n M x y h = sum-ext n _ _ (λ i p. sum-ext n _ _ (λ j q. ap₂ (λ (u v : ℤ). u *ℤ M i j *ℤ v) (h i p) (h j q)))
-
+-- ---- forms: equal matrices, sums and multiples of matrices
 pub form-matrix-ext : (n : ℕ) (A B : Matrix) (x : ℕ → ℤ) → ((i j : ℕ) → i < n → j < n → A i j ≡ B i j) → form n A x ≡ form n B x
 unfolding form
 form-matrix-ext n A B x h = sum-ext n _ _ (λ i p. sum-ext n _ _ (λ j q. ap (λ (z : ℤ). x i *ℤ z *ℤ x j) (h i j p q)))

@@ -3,6 +3,7 @@ pub mod Buffers
 pub mod Checks
 pub mod CheckedTables
 pub mod Answers
+pub mod Admission
 pub mod Forms
 pub mod Dominance
 pub mod Triangular

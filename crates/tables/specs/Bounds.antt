@@ -1,4 +1,4 @@
--- What checks 3, 4 and 5 leave of a problem: all that the theorems ask of it.
+-- What checks 3, 4 and 5 (R5 of docs/RULES.md) leave of a problem: all that the theorems ask of it.
 use mathlib.Core.Path.{_≡_}
 use mathlib.Core.List.{List}
 use Prim.Native.Nat.{ℕ, _*_, _<_, _≤_}

@@ -7,3 +7,5 @@ pub mod Checks
 pub mod Pairs
 pub mod Answers
 pub mod Bounds
+pub mod Entering
+pub mod Problem

@@ -1,4 +1,4 @@
--- Matrices as functions of row and column, counted from 0, and the tables that spell them row by row.
+-- R2.2 and R3.3 of docs/RULES.md: matrices as functions of row and column, counted from 0, and the tables that spell them row by row.
 use mathlib.Core.List.{List, [], _∷_, _++_}
 use Prim.Native.Nat.{ℕ, zero, suc, _+_, _*_, _/_, _%_}
 use lib.IntN.{ℤ, pos, _-ℤ_, _*ℤ_}
@@ -12,7 +12,7 @@ Matrix = ℕ → ℕ → ℤ
 abbrev pub nth : List ℤ → ℕ → ℤ
 nth x i = getD x i (pos 0)
 
--- entry (i, j) of a table of order n, row by row
+-- R2.2: entry (i, j) of a table of order n, row by row
 unfoldable pub at : ℕ → List ℤ → Matrix
 at n t i j = nth t (i * n + j)
 
@@ -25,14 +25,14 @@ tabulate (suc n) f = tabulate n f ++ (f n ∷ [])
 unfoldable pub table : ℕ → Matrix → List ℤ
 table n M = tabulate (n * n) (λ k. M (k / n) (k % n))
 
--- x'Mx: the sum of x(i) M(i,j) x(j) over all i and j
+-- R3.3: x'Mx, the sum of x(i) M(i,j) x(j) over all i and j
 unfoldable pub form : ℕ → Matrix → (ℕ → ℤ) → ℤ
 form n M x = sum n (λ i. sum n (λ j. x i *ℤ M i j *ℤ x j))
 
--- P = R'R: the sum of r(k,i) r(k,j) over all k
+-- R7.1: P = R'R, the sum of r(k,i) r(k,j) over all k
 unfoldable pub gram : ℕ → Matrix → Matrix
 gram n R i j = sum n (λ k. R k i *ℤ R k j)
 
--- w(i): the sum of U(i,j) - L(i,j) over all j, i included
+-- R2.9: w(i), the sum of U(i,j) - L(i,j) over all j, i included
 unfoldable pub rowWidth : ℕ → Matrix → Matrix → ℕ → ℤ
 rowWidth n L U i = sum n (λ j. U i j -ℤ L i j)

@@ -1,4 +1,4 @@
--- Document 01, "What the unit carries": the greatest order, and the range of each kind of number (a factor's is that of check 6 and of "Factoring"), both ends included.
+-- R2 of docs/RULES.md: the greatest order, and the greatest absolute value of each kind of number.
 use Prim.Native.Nat.{ℕ, _*_, _^_}
 
 abbrev pub greatestOrder : ℕ
@@ -11,26 +11,30 @@ tableRoom = greatestOrder * greatestOrder
 abbrev pub sidesRoom : ℕ
 sidesRoom = 2 * greatestOrder
 
--- entries of L and U
+-- R2.3: entries of L and U
 abbrev pub entryRange : ℕ
 entryRange = 2 ^ 20
 
--- entries of a factor
+-- R2.8: entries of a factor
 abbrev pub factorRange : ℕ
 factorRange = 2 ^ 26
 
--- entries of a vector
+-- R2.7: entries of a vector
 abbrev pub vectorRange : ℕ
 vectorRange = 2 ^ 15
 
--- the linear terms a(i)
+-- R2.4: the linear terms a(i)
 abbrev pub linearRange : ℕ
 linearRange = 2 ^ 36
 
--- the limit α
+-- R2.5: the limit α
 abbrev pub limitRange : ℕ
 limitRange = 2 ^ 54
 
--- the centre c(i)
+-- R2.6: the centre c(i)
 abbrev pub centreRange : ℕ
 centreRange = 2 ^ 12
+
+-- R4.9: the greatest g(k) that is let through
+abbrev pub gradientRange : ℕ
+gradientRange = 2 ^ 20

@@ -1,10 +1,11 @@
--- Document 01, "Refused calls": the number and the word of each refusal.
+-- R4 of docs/RULES.md: the number and the word of each refusal; refusal k is rule R4.k.
 use Prim.Native.Nat.{ℕ}
 use Prim.Native.String.{String}
 use Rattle.tables.specs.declared.Refusal.{Refusal}
-use Rattle.tables.specs.declared.Refusal.the-variants.{Order, Length, Range, Crossed, Lopsided, Factor, Vector, Flat, Far, Cut, Tag, Again, Absent, Size, Long}
+use Rattle.tables.specs.declared.Refusal.the-variants.{Order, Length, Range, Crossed, Lopsided, Factor, Vector, Flat}
+use Rattle.tables.specs.declared.Refusal.the-variants.{Far, Cut, Tag, Again, Absent, Size, Long}
 
--- a line of the document's table; no contract cites the word
+-- a line of R4's table; no contract cites the word
 pub record RefusalLine : Type 0 where
   pub number : ℕ
   pub word : String

@@ -1,19 +1,24 @@
-// Bounded symmetric matrices: refusals, and the checks 1 to 5 of a problem.
+// Bounded symmetric matrices, R2, R4 and R5 of docs/RULES.md: refusals, and the checks 1 to 5 of a problem.
 ghost use mathlib.Core.Path.{_≡_};
-ghost use mathlib.Core.Bool.{_&&_};
+ghost use mathlib.Core.Bool.{true, _&&_};
+ghost use mathlib.Core.List.{_++_};
 ghost use Prim.Native.Nat.{_*_, _≤_, _<_};
 ghost use lib.IntN.{pos, natAbs};
 ghost use lib.Signed.{_≤ℤ_};
-ghost use lib.ListN.{length};
-ghost use Rattle.tables.specs.Matrix.{at, nth};
-ghost use Rattle.tables.specs.Buffers.{Filled};
-ghost use Rattle.tables.specs.Ranges.{greatestOrder, entryRange, linearRange, limitRange, centreRange};
+ghost use lib.ListN.{length, take, drop};
+ghost use Rattle.tables.specs.Matrix.{at};
+ghost use Rattle.tables.specs.Ranges.{greatestOrder};
 ghost use Rattle.tables.specs.Refusals.{refusalNumber};
 ghost use Rattle.tables.specs.Answers.{answerCode};
-ghost use Rattle.tables.specs.Checks.{orderOk, sizesOk, within, allWithin, nowhereCrossed, rowSymmetric, symmetric, tableChecks, problemChecks, firstRefusal};
+ghost use Rattle.tables.specs.Checks.{orderOk, sizesOk, within, allWithin, tablesWithin};
+ghost use Rattle.tables.specs.Checks.{termsWithin, nowhereCrossed, rowSymmetric, symmetric, boundsChecks};
+ghost use Rattle.tables.specs.Checks.{firstRefusal};
 ghost use Rattle.tables.specs.Pairs.{pairBounded, rowBounded, tablesBounded};
 
-// Orders are from 1 to this.
+pub mod entering;
+pub mod problem;
+
+// Orders are from 1 to this (R2.1).
 pub const GREATEST_ORDER: usize = 8;
 
 // The same as a number that is compared with n.
@@ -34,25 +39,28 @@ pub type Vector = [i64; GREATEST_ORDER];
 // The sides of a box in scratch memory: side k at 2 k and 2 k + 1.
 pub type Sides = [i64; SIDES_ROOM];
 
-// Entries of L and U are within ±2^20.
+// Entries of L and U are within ±2^20 (R2.3).
 pub const ENTRY_RANGE: i64 = 1 << 20;
 
-// Entries of a factor are within ±2^26.
+// Entries of a factor are within ±2^26 (R2.8).
 pub const FACTOR_RANGE: i64 = 1 << 26;
 
-// Entries of a vector are within ±2^15.
+// Entries of a vector are within ±2^15 (R2.7).
 pub const VECTOR_RANGE: i64 = 1 << 15;
 
-// Linear terms are within ±2^36.
+// Linear terms are within ±2^36 (R2.4).
 pub const LINEAR_RANGE: i64 = 1 << 36;
 
-// The limit is within ±2^54.
+// The limit is within ±2^54 (R2.5).
 pub const LIMIT_RANGE: i64 = 1 << 54;
 
-// Entries of the centre are within ±2^12.
+// Entries of the centre are within ±2^12 (R2.6).
 pub const CENTRE_RANGE: i64 = 1 << 12;
 
-// Document 01, "Refused calls", in the order of their numbers.
+// The greatest g(k) that is let through.
+pub const GRADIENT_RANGE: i64 = 1 << 20;
+
+// The refusals, in the order of their numbers: refusal k is rule R4.k of docs/RULES.md.
 pub enum Refusal {
     Order,
     Length,
@@ -77,14 +85,14 @@ pub enum Checked {
     Refused(Refusal),
 }
 
-// What a test answers: document 01's 'accepted' and 'yes' are Yes, 'not accepted' and 'no' are No.
+// What a test answers (R7.4, R8.4): 'accepted' and 'yes' are Yes, 'not accepted' and 'no' are No.
 pub enum Answer {
     Yes,
     No,
     Refused(Refusal),
 }
 
-// The number of document 01's table.
+// The number of a refusal (R4).
 pub fn refusal_number(r: Refusal) -> u8
     ensures { λ k. ⌜ k ≡ refusalNumber r ⌝ }
 {
@@ -107,7 +115,7 @@ pub fn refusal_number(r: Refusal) -> u8
     }
 }
 
-// An answer's number at a C entry: 0 'accepted' or 'yes', -1 'not accepted' or 'no', else the refusal's.
+// An answer's number at a C entry (R15.4): 0 'accepted' or 'yes', -1 'not accepted' or 'no', else the refusal's.
 pub fn answer_code(a: Answer) -> i64
     ensures { λ r. ⌜ r ≡ answerCode a ⌝ }
 {
@@ -129,7 +137,7 @@ pub fn entry(n: usize, t: &[i64], i: usize, j: usize) -> i64
 // Copies the first numbers of x, count of them, to the front of out.
 pub fn copy_numbers(count: usize, x: &[i64], out: &mut [i64])
     requires { ⌜ (count ≤ length (now x)) × (count ≤ length (now out)) ⌝ }
-    ensures { λ r. ⌜ Filled (length (now (out .entry))) count (nth (now (x .entry))) (now (out .exit)) ⌝ }
+    ensures { λ r. ⌜ now (out .exit) ≡ take count (now (x .entry)) ++ drop count (now (out .entry)) ⌝ }
 {
     let mut k = 0;
     while k < count {
@@ -229,7 +237,7 @@ pub fn symmetric(n: usize, t: &[i64]) -> bool
 // Whether the first numbers of both tables, count of them, are within the range of entries.
 fn entries_within(low: &[i64], high: &[i64], count: usize) -> bool
     requires { ⌜ (count ≤ length (now low)) × (count ≤ length (now high)) ⌝ }
-    ensures { λ r. ⌜ r ≡ (allWithin entryRange count (now (low .entry)) && allWithin entryRange count (now (high .entry))) ⌝ }
+    ensures { λ r. ⌜ r ≡ tablesWithin count (now (low .entry)) (now (high .entry)) ⌝ }
 {
     if !all_within(low, count, ENTRY_RANGE) {
         return false;
@@ -248,28 +256,29 @@ fn both_symmetric(n: usize, low: &[i64], high: &[i64]) -> bool
     symmetric(n, high)
 }
 
-// The first of the checks 3, 4 and 5 that fails, each asked over both tables before the next.
+// The first of the checks 3, 4 and 5 that fails (R5.6).
 fn find_refusal(n: usize, low: &[i64], high: &[i64]) -> Checked
     requires { ⌜ (n ≤ greatestOrder) × (n * n ≤ length (now low)) × (n * n ≤ length (now high)) ⌝ }
-    ensures { λ r. ⌜ r ≡ firstRefusal (tableChecks n (now (low .entry)) (now (high .entry))) ⌝ }
+    ensures { λ r. ⌜ r ≡ firstRefusal (boundsChecks true n (now (low .entry)) (now (high .entry))) ⌝ }
 {
     let count = n * n;
-    let within = entries_within(low, high, count);
+    let entries = entries_within(low, high, count);
     let ordered = nowhere_crossed(low, high, count);
-    let even = both_symmetric(n, low, high);
-    if !within {
+    let mirrored = both_symmetric(n, low, high);
+    if !entries {
         return Checked::Refused(Refusal::Range);
     }
     if !ordered {
         return Checked::Refused(Refusal::Crossed);
     }
-    if !even {
+    if !mirrored {
         return Checked::Refused(Refusal::Lopsided);
     }
     Checked::Passed
 }
 
-// Whether bounds l and u at (i, j), with lt and ut at (j, i), pass checks 3, 4 and 5: not below -2^20, not above 2^20, not crossed, and symmetric.
+// Whether bounds l and u at (i, j), with lt and ut at (j, i), pass checks 3, 4 and 5: not below -2^20, not above 2^20, not crossed, and
+// symmetric.
 fn pair_bounded(l: i64, lt: i64, u: i64, ut: i64) -> bool
     ensures { λ r. ⌜ r ≡ pairBounded l lt u ut ⌝ }
 {
@@ -317,21 +326,25 @@ fn tables_bounded(n: usize, low: &[i64], high: &[i64]) -> bool
     true
 }
 
-// Checks 3, 4 and 5 of a problem of order n. Which of them fails is looked for only where one does.
-pub fn check_tables(n: usize, low: &[i64], high: &[i64]) -> Checked
+// Checks 3, 4 and 5 of bounds of order n, and of an act whose other numbers are in their ranges or not. Which check fails is looked for
+// only where one does.
+pub fn check_bounds(n: usize, within: bool, low: &[i64], high: &[i64]) -> Checked
     requires { ⌜ (n ≤ greatestOrder) × (n * n ≤ length (now low)) × (n * n ≤ length (now high)) ⌝ }
-    ensures { λ r. ⌜ r ≡ firstRefusal (tableChecks n (now (low .entry)) (now (high .entry))) ⌝ }
+    ensures { λ r. ⌜ r ≡ firstRefusal (boundsChecks within n (now (low .entry)) (now (high .entry))) ⌝ }
 {
-    if tables_bounded(n, low, high) {
-        return Checked::Passed;
+    if within {
+        if tables_bounded(n, low, high) {
+            return Checked::Passed;
+        }
+        return find_refusal(n, low, high);
     }
-    find_refusal(n, low, high)
+    Checked::Refused(Refusal::Range)
 }
 
 // Whether the linear terms, the limit and the centre are within their ranges.
 fn terms_within(n: usize, linear: &[i64], limit: i64, centre: &[i64]) -> bool
     requires { ⌜ (n ≤ length (now linear)) × (n ≤ length (now centre)) ⌝ }
-    ensures { λ r. ⌜ r ≡ (allWithin linearRange n (now (linear .entry)) && (within limitRange limit && allWithin centreRange n (now (centre .entry)))) ⌝ }
+    ensures { λ r. ⌜ r ≡ termsWithin n (now (linear .entry)) limit (now (centre .entry)) ⌝ }
 {
     if !all_within(linear, n, LINEAR_RANGE) {
         return false;
@@ -342,20 +355,13 @@ fn terms_within(n: usize, linear: &[i64], limit: i64, centre: &[i64]) -> bool
     all_within(centre, n, CENTRE_RANGE)
 }
 
-// Checks 3, 4 and 5 of a whole problem of order n: the first n² or n numbers of each slice.
-pub fn check_problem(
-    n: usize,
-    low: &[i64],
-    high: &[i64],
-    linear: &[i64],
-    limit: i64,
-    centre: &[i64],
-) -> Checked
-    requires { ⌜ (n ≤ greatestOrder) × (n * n ≤ length (now low)) × (n * n ≤ length (now high)) × (n ≤ length (now linear)) × (n ≤ length (now centre)) ⌝ }
-    ensures { λ r. ⌜ r ≡ firstRefusal (problemChecks n (now (low .entry)) (now (high .entry)) (now (linear .entry)) limit (now (centre .entry))) ⌝ }
+// The same, asked only where the buffers have their sizes.
+pub fn sized_within(n: usize, sized: bool, linear: &[i64], limit: i64, centre: &[i64]) -> bool
+    requires { ⌜ (sized ≡ true → (n ≤ length (now linear)) × (n ≤ length (now centre))) ⌝ }
+    ensures { λ r. ⌜ r ≡ (sized && termsWithin n (now (linear .entry)) limit (now (centre .entry))) ⌝ }
 {
-    if terms_within(n, linear, limit, centre) {
-        return check_tables(n, low, high);
+    if !sized {
+        return false;
     }
-    Checked::Refused(Refusal::Range)
+    terms_within(n, linear, limit, centre)
 }

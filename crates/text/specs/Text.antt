@@ -1,5 +1,5 @@
--- Text as its bytes: words, numbers in decimal, lines. As in document 01's case P there is one space between words, no plus sign and no padding of a number,
--- and a line feed after each line.
+-- R19.5 of docs/RULES.md: text as its bytes, words, numbers in decimal, lines. One space between words, no plus sign, no padding of a
+-- number, and a line feed after each line.
 use mathlib.Core.Bool.{true, false}
 use mathlib.Core.List.{List, [], _∷_, _++_}
 use Prim.Native.Nat.{ℕ, zero, suc, _+_, _*_, _/_, _%_}
@@ -44,6 +44,14 @@ decimal z = elim (leZ (pos 0) z) [ true ↦ natural (natAbs z) | false ↦ minus
 -- a number of 64 bits takes up at most so many bytes
 abbrev pub widest : ℕ
 widest = 20
+
+-- with a space in front of it
+abbrev pub spaced : ℕ
+spaced = widest + 1
+
+-- a line takes up at most so many: a word of so many bytes, n numbers, and the line's end
+abbrev pub lineRoom : ℕ → ℕ → ℕ
+lineRoom word n = word + n * spaced + 1
 
 -- f 0, .., f (n - 1), each behind a space
 unfoldable pub numbers : (ℕ → ℤ) → ℕ → List ℕ

@@ -1,10 +1,14 @@
-// Text in a buffer: words, numbers in decimal, and lines of them. Each function puts its text at a place of the buffer and answers the place behind it.
+// Text in a buffer (R19.5 of docs/RULES.md): words, numbers in decimal, and lines of them. Each function puts its text at a place of the
+// buffer and answers the place behind it.
 ghost use Prim.Native.Nat.{_+_, _*_, _≤_};
 ghost use lib.ListN.{length};
 ghost use mathlib.Core.List.{[], _∷_};
 ghost use Rattle.tables.specs.Matrix.{nth};
-ghost use Rattle.text.specs.Text.{natural, decimal, widest, numbers, line, lines};
+ghost use Rattle.text.specs.Text.{natural, decimal, widest, spaced, lineRoom, numbers, line, lines};
 ghost use Rattle.text.specs.Putting.{Put};
+
+// A number of 64 bits takes up at most so many bytes, with a space in front of it.
+pub const SPACED: usize = 21;
 
 // One byte.
 fn put(out: &mut [u8], at: usize, byte: u8) -> usize
@@ -54,8 +58,9 @@ fn put_decimal(out: &mut [u8], at: usize, v: i64) -> usize
 
 // The numbers of x from the place first on, count of them, each behind a space.
 fn put_numbers(out: &mut [u8], at: usize, x: &[i64], first: usize, count: usize) -> usize
-    requires { ⌜ (at + count * (widest + 1) ≤ length (now out)) × (first + count ≤ length (now x)) ⌝ }
-    ensures { λ r. ⌜ Put (now (out .entry)) at (numbers (λ k. nth (now (x .entry)) (first + k)) count) (count * (widest + 1)) r (now (out .exit)) ⌝ }
+    requires { ⌜ (at + count * spaced ≤ length (now out)) × (first + count ≤ length (now x)) ⌝ }
+    ensures { λ r. ⌜ Put (now (out .entry)) at (numbers (λ k. nth (now (x .entry)) (first + k)) count) (count * spaced)
+        r (now (out .exit)) ⌝ }
 {
     let mut next = at;
     let mut k = 0;
@@ -76,8 +81,9 @@ pub fn put_line(
     first: usize,
     count: usize,
 ) -> usize
-    requires { ⌜ (at + (length (now word) + count * (widest + 1) + 1) ≤ length (now out)) × (first + count ≤ length (now x)) ⌝ }
-    ensures { λ r. ⌜ Put (now (out .entry)) at (line (now (word .entry)) (λ k. nth (now (x .entry)) (first + k)) count) (length (now (word .entry)) + count * (widest + 1) + 1) r (now (out .exit)) ⌝ }
+    requires { ⌜ (at + lineRoom (length (now word)) count ≤ length (now out)) × (first + count ≤ length (now x)) ⌝ }
+    ensures { λ r. ⌜ Put (now (out .entry)) at (line (now (word .entry)) (λ k. nth (now (x .entry)) (first + k)) count)
+        (lineRoom (length (now (word .entry))) count) r (now (out .exit)) ⌝ }
 {
     let behind = put_text(out, at, word);
     let next = put_numbers(out, behind, x, first, count);
@@ -93,8 +99,9 @@ pub fn put_lines(
     width: usize,
     count: usize,
 ) -> usize
-    requires { ⌜ (at + count * (length (now word) + width * (widest + 1) + 1) ≤ length (now out)) × (count * width ≤ length (now x)) ⌝ }
-    ensures { λ r. ⌜ Put (now (out .entry)) at (lines (now (word .entry)) (now (x .entry)) width count) (count * (length (now (word .entry)) + width * (widest + 1) + 1)) r (now (out .exit)) ⌝ }
+    requires { ⌜ (at + count * lineRoom (length (now word)) width ≤ length (now out)) × (count * width ≤ length (now x)) ⌝ }
+    ensures { λ r. ⌜ Put (now (out .entry)) at (lines (now (word .entry)) (now (x .entry)) width count)
+        (count * lineRoom (length (now (word .entry))) width) r (now (out .exit)) ⌝ }
 {
     let mut next = at;
     let mut i = 0;

@@ -1,9 +1,9 @@
--- Demand 3: x'Mx > 0 where the residual test accepts a factor, "and so it is wherever the judge answers 'definite'": the factor that
--- factoring ends with is accepted. For any order n and any take-off τ that suffices for it.
+-- D3.6 of docs/RULES.md: the residual test accepts the factor that
+-- factoring ends with. For any order n and any take-off τ that suffices for it.
 use mathlib.Core.Path.{_≡_, ap, ap₂, _∙_}
 use mathlib.Core.Logic.{_≢_}
 use mathlib.Core.List.{[], _∷_}
-use Prim.Native.Nat.{ℕ, suc, _≤_, _<_}
+use Prim.Native.Nat.{ℕ, suc, _<_}
 use native.Mathlib.Omega.{arith}
 use native.Mathlib.Decide.{decLt}
 use lib.Dec.{T}
@@ -20,7 +20,7 @@ use Rattle.tables.specs.Bounds.{Bounds}
 use Rattle.tables.proofs.Checks.{of-true, all-of}
 use Rattle.tables.proofs.Forms.{gram-symmetric}
 use Rattle.tables.proofs.Triangular.{UpperTriangular}
-use Rattle.cholesky.specs.Scale.{halfScale, scaled}
+use Rattle.cholesky.specs.Scale.{halfScale, scaledBy}
 use Rattle.residual.specs.Residual.{residual, radius, rowPasses, accepts}
 use Rattle.cholesky.proofs.ScaledMatrix.{Suffices, order-positive, scaled-off, scaled-on, scaled-symmetric}
 use Rattle.cholesky.proofs.Factored.{ρ, gap, Factored}
@@ -36,7 +36,7 @@ gram-gap {n} H R up i j h =
 
 module _ (τ : ℤ) (n : ℕ) (L U : Matrix) (b : Bounds n L U) where
   abbrev H : Matrix
-  H = scaled τ n L U
+  H = scaledBy τ n L U
 
   module _ (s : Suffices τ n) where
     module _ (R : Matrix) (f : Factored n H R) where

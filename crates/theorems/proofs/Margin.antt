@@ -19,10 +19,10 @@ use Rattle.integers.proofs.Division.{floor-rest}
 use Rattle.integers.proofs.Sums.{sum-zero, sum-suc, sum-ext, sum-+, sum-*, sum-const, sum-mono, sum-nonneg, sum-single, sum-only, only-by, only-same, only-other}
 use Rattle.tables.specs.Ranges.{greatestOrder, factorRange}
 use Rattle.tables.specs.Matrix.{Matrix, nth, form, gram, rowWidth}
-use Rattle.tables.specs.Members.{Margin}
+use Rattle.tables.specs.Members.{MarginOf}
 use Rattle.tables.proofs.Forms.{form-matrix-ext, form-+, form-*, form-suc, gram-symmetric}
 use Rattle.tables.proofs.Triangular.{UpperTriangular, NullVector, null-vector, null-form}
-use Rattle.cholesky.specs.Scale.{halfScale, takeOff, scaled}
+use Rattle.cholesky.specs.Scale.{halfScale, takeOff, scaledBy}
 use Rattle.cholesky.specs.Factoring.{entries, nextEntry, nextColumn, factoring}
 use Rattle.cholesky.proofs.Factored.{ρ, gap, Factored}
 use Rattle.residual.proofs.Definite.{upper-prefix}
@@ -258,15 +258,6 @@ module _ (n : ℕ) (H : Matrix) (symmetric : (a b : ℕ) → a < n → b < n →
       columns-end H n (Done H) (λ cs h d t. column-step H cs d (top (length cs) h) t) (column-done top) n [] (omega arith)
       (record { lengths = λ l k. absurd (omega arith); off = λ a b k l. absurd (omega arith); on = λ b k. absurd (omega arith) })
 
-pub coercive-weaken : {n : ℕ} {μ ν : ℤ} {H : Matrix} → μ ≤ℤ ν → Coercive n ν H → Coercive n μ H
-coercive-weaken {n} {μ} {ν} {H} h k =
-    record {
-      bound = λ x.
-          order (μ ∷ ν ∷ squares n x ∷ form n H x ∷ [])
-          (*ℤ-nonneg (gap-nonneg h) (sum-nonneg n _ (λ i l. square-nonneg (x i))) & k .bound x)
-          (search solver depth 40 fits 20000) (omega arith);
-    }
-
 -- ---- the margin of bounds L and U
 pub form-diagonal : (n : ℕ) (t x : ℕ → ℤ) → form n (λ i j. only i j (t i)) x ≡ sum n (λ i. t i *ℤ (x i *ℤ x i))
 unfolding form
@@ -275,6 +266,11 @@ form-diagonal n t x =
     sum-single n i (λ j. x i *ℤ only i j (t i) *ℤ x j) h
     (λ j k d. rw (only-other i j (t i) d) (ring (x i ∷ x j ∷ []) (search solver depth 40 fits 20000) refl))
     ∙ rw (only-same i (t i)) (ring (x i ∷ t i ∷ []) (search solver depth 40 fits 20000) refl))
+
+-- ---- what a margin leaves after τ: (n + 1) ρ ≤ 2^31 m/k - τ
+pub record Leaves (τ : ℤ) (m k n : ℕ) : Type 0 where
+  pub some : 1 ≤ k
+  pub enough : (pos k *ℤ ((pos n +ℤ pos 1) *ℤ ρ)) ≤ℤ (halfScale *ℤ pos m -ℤ pos k *ℤ τ)
 
 module _ (τ : ℤ) (n : ℕ) (L U : Matrix) where
   abbrev sums : Matrix
@@ -294,8 +290,8 @@ module _ (τ : ℤ) (n : ℕ) (L U : Matrix) where
       ∙ sum-+ n _ _ ∙ ap₂ (λ (u v : ℤ). u +ℤ v) (sum-* n m _) (sum-* n k _)
 
   form-scaled : (x : ℕ → ℤ) →
-      form n (scaled τ n L U) x ≡ halfScale *ℤ form n sums x +ℤ negsuc 0 *ℤ (τ *ℤ squares n x +ℤ halfScale *ℤ widths x)
-  unfolding scaled
+      form n (scaledBy τ n L U) x ≡ halfScale *ℤ form n sums x +ℤ negsuc 0 *ℤ (τ *ℤ squares n x +ℤ halfScale *ℤ widths x)
+  unfolding scaledBy
   form-scaled x =
       form-matrix-ext n _ (λ i j. halfScale *ℤ sums i j +ℤ negsuc 0 *ℤ only i j (taken i)) x
       (λ i j h k. ring (L i j ∷ U i j ∷ only i j (taken i) ∷ []) (search solver depth 40 fits 20000) refl)
@@ -303,40 +299,22 @@ module _ (τ : ℤ) (n : ℕ) (L U : Matrix) where
       ∙ ap₂ (λ (u v : ℤ). u +ℤ v) (form-* n halfScale sums x)
       (form-* n (negsuc 0) _ x ∙ ap (λ (z : ℤ). negsuc 0 *ℤ z) (form-diagonal n taken x ∙ weighted τ halfScale x))
 
-  -- k x'(L+U)x ≥ Σ (m + k w(i)) x(i)² gives x'Hx ≥ (s m - τ) |x|², where s k is half the scale
-  pub coercive-scaled : (k m s : ℤ) → pos 0 ≤ℤ s → halfScale ≡ s *ℤ k →
-      ((x : ℕ → ℤ) → sum n (λ i. (m +ℤ k *ℤ rowWidth n L U i) *ℤ (x i *ℤ x i)) ≤ℤ (k *ℤ form n (λ i j. L i j +ℤ U i j) x)) →
-      Coercive n (s *ℤ m -ℤ τ) (scaled τ n L U)
-  coercive-scaled k m s h e room =
+  -- so the margin (m, k) gives x'Hx ≥ (n + 1) ρ |x|²
+  pub margin-coercive : {m k : ℕ} → Leaves τ m k n → MarginOf m k n L U → Coercive n ((pos n +ℤ pos 1) *ℤ ρ) (scaledBy τ n L U)
+  margin-coercive {m} {k} l margin =
       record {
         bound = λ x.
-            order (form n (scaled τ n L U) x ∷ form n sums x ∷ squares n x ∷ widths x ∷ τ ∷ k ∷ m ∷ s ∷ [])
-            (form-scaled x & *ℤ-nonneg h (gap-nonneg (rw (weighted m k x) at (room x)))
-            & ap (λ (z : ℤ). z *ℤ form n sums x) e & ap (λ (z : ℤ). z *ℤ widths x) e)
-            (search solver depth 40 fits 20000) (omega arith);
+            *ℤ-cancel (pos k) (≤-in (omega (arith, l .some)))
+            (order (form n (scaledBy τ n L U) x ∷ form n sums x ∷ squares n x ∷ widths x ∷ τ ∷ pos m ∷ pos k ∷ pos n ∷ [])
+            (ap (λ (z : ℤ). pos k *ℤ z) (form-scaled x) & (rw (weighted (pos m) (pos k) x) at (margin .room x))
+            & *ℤ-nonneg (gap-nonneg (l .enough)) (sum-nonneg n _ (λ i h. square-nonneg (x i))))
+            (search solver depth 40 fits 20000) (omega arith));
       }
 
-  -- demand 3's margin
-  pub margin-scaled : Margin n L U → Coercive n (halfScale -ℤ τ) (scaled τ n L U)
-  margin-scaled margin =
-      coercive-scaled (pos 1) (pos 1) halfScale (pos-nonneg _) refl (λ x.
-      rw (weighted (pos 1) (pos 1) x) (order (form n sums x ∷ squares n x ∷ widths x ∷ []) (rw (ones x) at (margin .room x))
-      (search solver depth 40 fits 20000) (omega arith)))
-    where
-      ones : (x : ℕ → ℤ) → sum n (λ i. (pos 1 +ℤ rowWidth n L U i) *ℤ (x i *ℤ x i)) ≡ squares n x +ℤ widths x
-      ones x =
-          sum-ext n _ (λ i. x i *ℤ x i +ℤ rowWidth n L U i *ℤ (x i *ℤ x i))
-          (λ i h. ring (x i ∷ rowWidth n L U i ∷ []) (search solver depth 40 fits 20000) refl) ∙ sum-+ n _ _
-
--- ---- what the margin leaves after τ: (n + 1) ρ ≤ 2^31 - τ
-pub record Leaves (τ : ℤ) (n : ℕ) : Type 0 where
-  pub enough : ((pos n +ℤ pos 1) *ℤ ρ) ≤ℤ (halfScale -ℤ τ)
-
-pub margin-coercive : (τ : ℤ) (n : ℕ) (L U : Matrix) → Leaves τ n → Margin n L U → Coercive n ((pos n +ℤ pos 1) *ℤ ρ) (scaled τ n L U)
-margin-coercive τ n L U l margin = coercive-weaken (l .enough) (margin-scaled τ n L U margin)
-
--- the orders and the take-off of the rules: 2^31 - 2^29 is 24 ρ
-pub take-off-leaves : (n : ℕ) → n ≤ greatestOrder → Leaves takeOff n
+-- demand 3's margin, the orders and the take-off of the rules: 2^31 less the take-off is at least (n + 1) ρ
+pub take-off-leaves : (n : ℕ) → n ≤ greatestOrder → Leaves (takeOff n) 1 1 n
+unfolding takeOff
 take-off-leaves n h = record {
+  some = omega arith;
   enough = order (pos n ∷ []) (≤-in {x = pos n} {y = pos greatestOrder} (omega arith)) (search solver depth 40 fits 20000) (omega arith);
 }

@@ -1,4 +1,4 @@
--- x and -x show the same: "skip x where -x stood earlier".
+-- x and -x show the same, so that x may be passed over where -x stood earlier.
 use mathlib.Core.Path.{_≡_, refl, sym, ap, ap₂, _∙_}
 use mathlib.Core.Bool.{Bool, true, false, not, _&&_, _||_}
 use mathlib.Core.List.{[], _∷_}

@@ -3,7 +3,7 @@ use mathlib.Core.Path.{_≡_, refl, sym, ap, ap₂, _∙_}
 use mathlib.Core.Bool.{Bool, true, false}
 use mathlib.Core.List.{List, [], _∷_}
 use mathlib.Core.Option.{Option, none, some}
-use Prim.Native.Nat.{ℕ, zero, suc, _-_}
+use Prim.Native.Nat.{ℕ, zero, suc}
 use lib.IntN.{ℤ, pos, negsuc, _+ℤ_, +ℤ-idl}
 use lib.Signed.{_<ℤ_}
 use Rattle.integers.proofs.Machine.{lt-holds}
@@ -29,7 +29,7 @@ module _ (S O : Matrix) where
       (ap (front (pos 1)) (ap (seek S O (suc d) k (more S d p) (more O d q)) (swapped c (p d) s) ∙ none-found k (suc d) _ _ (c +ℤ p d) s (one-above c _ (p d) _ (q d) _ h)))
       (ap (front (negsuc 0)) (ap (seek S O (suc d) k (more O d p) (more S d q)) (swapped c (q d) s) ∙ none-found k (suc d) _ _ (c +ℤ q d) s (minus-one-above c _ (p d) _ (q d) _ h))))
 
-  pub passed-none : (n d : ℕ) (p q : ℕ → ℤ) (s : ℤ) → passedOver n S O d p q s ≡ true → seek S O d (n - d) p q s ≡ none
-  passed-none n d p q s t =
-      ap (seek S O d (n - d) p q) (sym (+ℤ-idl s))
-      ∙ none-found (n - d) d p q (pos 0) s (rw (+ℤ-idl (least S O d (n - d) p q s)) (lt-holds (passed-above S O n d p q s t)))
+  pub passed-none : (d k : ℕ) (p q : ℕ → ℤ) (s : ℤ) → passedOver S O d k p q s ≡ true → seek S O d k p q s ≡ none
+  passed-none d k p q s t =
+      ap (seek S O d k p q) (sym (+ℤ-idl s))
+      ∙ none-found k d p q (pos 0) s (rw (+ℤ-idl (least S O d k p q s)) (lt-holds (passed-above S O d k p q s t)))

@@ -1,17 +1,15 @@
 -- The search's steps, as the code takes them: the choices of entry d, of order n, each with what was found from entry d + 1 on.
 use mathlib.Core.Path.{_≡_, refl, ap, ap₂, _∙_}
-use mathlib.Core.Logic.{_⊎_, inl, inr}
 use mathlib.Core.Bool.{Bool, true, false}
 use mathlib.Core.List.{List}
-use Prim.Native.Nat.{ℕ, zero, suc, _+_, _-_, _≤_, _<_}
+use Prim.Native.Nat.{ℕ, zero, suc, _+_, _≤_, _<_}
 use native.Mathlib.Omega.{arith}
-use native.Mathlib.Numerals.{add-one}
 use lib.IntN.{ℤ, pos, negsuc, _+ℤ_}
 use lib.Signed.{leZ}
 use lib.ListN.{length, set}
 use Rattle.tables.specs.Ranges.{greatestOrder}
 use Rattle.tables.specs.Matrix.{Matrix}
-use Rattle.lookahead.specs.Pairs.{sameSign, otherSign, more}
+use Rattle.lookahead.specs.Pairs.{more}
 use Rattle.tried.specs.Search.{front, orElse, seek, bySign, after, seekAfter, inFront, seekHalf, Searched}
 use Rattle.tried.proofs.Choices.{chosen, found-first, found-next, reached-is, nothing-found}
 
@@ -44,88 +42,71 @@ module _ {m : ℕ} (S S′ O O′ : Matrix) (e : (i j : ℕ) → i < m → j < m
       (more-ext S S′ e d p p (omega arith) (λ i j h. refl)) (more-ext O O′ f d p p (omega arith) (λ i j h. refl))))
 
 -- no entry is left
-pub none-left : {n d : ℕ} → d ≡ n → (S O : Matrix) (p q : ℕ → ℤ) (s : ℤ) {r : Bool} {x : List ℤ} → length x ≡ greatestOrder → leZ s (pos 0) ≡ r → Searched (seek S O d (n - d) p q s) r d (n - d) x
-unfolding seek
-none-left {n} {d} e S O p q s {x = x} l f = let z : n - d ≡ 0 = omega arith in rw z (reached-is x d s l f)
+module _ (S O : Matrix) (d : ℕ) {k : ℕ} (e : k ≡ 0) (p : ℕ → ℤ) {x : List ℤ} (l : length x ≡ greatestOrder) where
+  pub none-left : (a : ℤ) (q : ℕ → ℤ) (s : ℤ) {r : Bool} {d′ : ℕ} → leZ s (pos 0) ≡ r → Searched (seekAfter S O d k a p q s) r d′ k x
+  unfolding seek
+  none-left a q s {d′ = d′} f = rw e (reached-is x d′ s l f)
 
-pub half-none-left : {n d : ℕ} → d ≡ n → (S O : Matrix) (p : ℕ → ℤ) {x : List ℤ} → length x ≡ greatestOrder → Searched (seekHalf S O d (n - d) p) false d (n - d) x
-unfolding seekHalf
-half-none-left {n} {d} e S O p l = let z : n - d ≡ 0 = omega arith in rw z (nothing-found l refl)
+  pub half-none-left : Searched (seekHalf S O d k p) false d k x
+  unfolding seekHalf
+  half-none-left = rw e (nothing-found l refl)
 
--- entry d is chosen
-module _ {n d : ℕ} (h : d < n) (t : List ℤ) where
-  abbrev S : Matrix
-  S = sameSign n t
+module _ (S O : Matrix) where
+  -- the entries after entry d, from d′ on, by what the code has of them
+  pub after-found : (n : ℕ) {d d′ k : ℕ} → d′ ≡ suc d → d′ + k ≡ n → (p q p′ q′ : ℕ → ℤ) (a : ℤ) → ((i : ℕ) → d < i → i < n → p′ i ≡ after S O d a p i) →
+      ((i : ℕ) → d < i → i < n → q′ i ≡ after O S d a q i) → (s : ℤ) {r : Bool} {x : List ℤ} →
+      Searched (seek S O d′ k p′ q′ s) r d′ k x → Searched (seekAfter S O d k a p q s) r d′ k x
+  after-found n {d} {k = k} h l p q p′ q′ a f g s w =
+      rw (← seek-ext {m = n} S S O O (λ i j a b. refl) (λ i j a b. refl) k (suc d) (after S O d a p) p′ (after O S d a q) q′ s (omega arith) f g, h) (rw h at w)
 
-  abbrev O : Matrix
-  O = otherSign n t
-
-  left : n - d ≡ suc (n - suc d)
-  left = omega arith
-
-  -- the entries after entry d, by what the code has of them
-  pub after-found : (p q p′ q′ : ℕ → ℤ) (e : ℤ) → ((i : ℕ) → d < i → i < n → p′ i ≡ after S O d e p i) → ((i : ℕ) → d < i → i < n → q′ i ≡ after O S d e q i) →
-      (s : ℤ) {r : Bool} {x : List ℤ} → Searched (seek S O (d + 1) (n - (d + 1)) p′ q′ s) r (d + 1) (n - (d + 1)) x →
-      Searched (seekAfter S O d (n - suc d) e p q s) r (suc d) (n - suc d) x
-  after-found p q p′ q′ e f g s w =
-      rw (← seek-ext {m = n} S S O O (λ i j a b. refl) (λ i j a b. refl) (n - suc d) (suc d) (after S O d e p) p′ (after O S d e q) q′ s (omega arith) f g)
-      (rw add-one at w)
-
-  -- they would add what they did before where entry d is 0, and there are none where it is the last
-  pub kept-found : (p q : ℕ → ℤ) (e : ℤ) → e ≡ pos 0 ⊎ suc d ≡ n → (s : ℤ) {r : Bool} {x : List ℤ} →
-      Searched (seek S O (d + 1) (n - (d + 1)) p q s) r (d + 1) (n - (d + 1)) x →
-      Searched (seekAfter S O d (n - suc d) e p q s) r (suc d) (n - suc d) x
+  -- they would add what they did before where entry d is 0
+  pub kept-found : (n : ℕ) {d d′ k : ℕ} → d′ ≡ suc d → d′ + k ≡ n → (p q : ℕ → ℤ) (a : ℤ) → a ≡ pos 0 → (s : ℤ) {r : Bool} {x : List ℤ} →
+      Searched (seek S O d′ k p q s) r d′ k x → Searched (seekAfter S O d k a p q s) r d′ k x
   unfolding after bySign
-  kept-found p q e (inl z) s w = after-found p q p q e (λ i a b. rw z refl) (λ i a b. rw z refl) s w
-  kept-found p q e (inr l) s w = after-found p q p q e (λ i a b. absurd (omega arith)) (λ i a b. absurd (omega arith)) s w
+  kept-found n h l p q a z s w = after-found n h l p q p q a (λ i a b. rw z refl) (λ i a b. rw z refl) s w
 
-  -- an entry in front
-  pub with-found : n ≤ greatestOrder → (e : ℤ) (p q : ℕ → ℤ) (s : ℤ) {r : Bool} {x : List ℤ} →
-      Searched (seekAfter S O d (n - suc d) e p q (bySign e s (s +ℤ p d) (s +ℤ q d))) r (suc d) (n - suc d) x →
-      Searched (inFront S O d (n - suc d) e p q s) r d (n - d) (set x d e)
-  unfolding inFront
-  with-found b e p q s f = rw left (chosen e (omega arith) f)
+  -- entry d is chosen, and k are left after it
+  module _ (d : ℕ) {k left : ℕ} (e : left ≡ suc k) where
+    -- an entry in front
+    pub with-found : {d₀ d₁ : ℕ} → d₀ ≡ d → d₁ ≡ suc d → d < greatestOrder → (a : ℤ) (p q : ℕ → ℤ) (s : ℤ) {r : Bool} {x : List ℤ} →
+        Searched (seekAfter S O d₀ k a p q (bySign a s (s +ℤ p d) (s +ℤ q d))) r d₁ k x → Searched (inFront S O d k a p q s) r d left (set x d a)
+    unfolding inFront
+    with-found f g b a p q s w = rw e (chosen a b (rw (f, g) at w))
 
-  -- the choices of entry d
-  module _ (p q : ℕ → ℤ) (s : ℤ) where
-    abbrev With : ℤ → Bool → List ℤ → Type 0
-    With e r x = Searched (inFront S O d (n - suc d) e p q s) r d (n - d) x
+    -- the choices of entry d
+    module _ (p q : ℕ → ℤ) (s : ℤ) where
+      abbrev With : ℤ → Bool → List ℤ → Type 0
+      With a r x = Searched (inFront S O d k a p q s) r d left x
 
-    abbrev Here : Bool → List ℤ → Type 0
-    Here r x = Searched (seek S O d (n - d) p q s) r d (n - d) x
+      abbrev Here : Bool → List ℤ → Type 0
+      Here r x = Searched (seek S O d left p q s) r d left x
 
-    parts : seek S O d (n - d) p q s ≡ orElse (inFront S O d (n - suc d) (pos 0) p q s) (orElse (inFront S O d (n - suc d) (pos 1) p q s) (inFront S O d (n - suc d) (negsuc 0) p q s))
-    unfolding seek inFront after bySign
-    parts = rw left refl
+      parts : seek S O d left p q s ≡ orElse (inFront S O d k (pos 0) p q s) (orElse (inFront S O d k (pos 1) p q s) (inFront S O d k (negsuc 0) p q s))
+      unfolding seek inFront after bySign
+      parts = rw e refl
 
-    pub zero-hit : {x : List ℤ} → With (pos 0) true x → Here true x
-    zero-hit f = rw parts (found-first _ f)
+      pub zero-hit : {x : List ℤ} → With (pos 0) true x → Here true x
+      zero-hit f = rw parts (found-first _ f)
 
-    module _ {x₀ : List ℤ} (f : With (pos 0) false x₀) where
-      pub one-hit : {x : List ℤ} → With (pos 1) true x → Here true x
-      one-hit g = rw parts (found-next _ f (found-first _ g))
+      module _ {x₀ : List ℤ} (f : With (pos 0) false x₀) where
+        pub one-hit : {x : List ℤ} → With (pos 1) true x → Here true x
+        one-hit g = rw parts (found-next _ f (found-first _ g))
 
-      pub minus-one : {x₁ : List ℤ} → With (pos 1) false x₁ → {x : List ℤ} {r : Bool} → With (negsuc 0) r x → Here r x
-      minus-one g k = rw parts (found-next _ f (found-next _ g k))
+        pub minus-one : {x₁ : List ℤ} → With (pos 1) false x₁ → {x : List ℤ} {r : Bool} → With (negsuc 0) r x → Here r x
+        minus-one g h = rw parts (found-next _ f (found-next _ g h))
 
-  -- the same where all entries before d are 0
-  module _ (p : ℕ → ℤ) where
-    abbrev HalfHere : Bool → List ℤ → Type 0
-    HalfHere r x = Searched (seekHalf S O d (n - d) p) r d (n - d) x
+    -- the same where all entries before d are 0
+    module _ (p : ℕ → ℤ) {d₁ : ℕ} (g : d₁ ≡ suc d) (b : d < greatestOrder) where
+      half-parts : seekHalf S O d left p ≡ orElse (front (pos 0) (seekHalf S O (suc d) k p)) (inFront S O d k (pos 1) p p (pos 0))
+      unfolding seekHalf inFront after bySign
+      half-parts = rw e refl
 
-    abbrev HalfAfter : Bool → List ℤ → Type 0
-    HalfAfter r x = Searched (seekHalf S O (d + 1) (n - (d + 1)) p) r (d + 1) (n - (d + 1)) x
+      half-zero : {r : Bool} {x : List ℤ} → Searched (seekHalf S O d₁ k p) r d₁ k x → Searched (front (pos 0) (seekHalf S O (suc d) k p)) r d left (set x d (pos 0))
+      half-zero f = rw e (chosen (pos 0) b (rw g at f))
 
-    half-parts : seekHalf S O d (n - d) p ≡ orElse (front (pos 0) (seekHalf S O (suc d) (n - suc d) p)) (inFront S O d (n - suc d) (pos 1) p p (pos 0))
-    unfolding seekHalf inFront after bySign
-    half-parts = rw left refl
+      pub half-hit : {x : List ℤ} → Searched (seekHalf S O d₁ k p) true d₁ k x → Searched (seekHalf S O d left p) true d left (set x d (pos 0))
+      half-hit f = rw half-parts (found-first _ (half-zero f))
 
-    -- 0 in front
-    half-zero : n ≤ greatestOrder → {r : Bool} {x : List ℤ} → HalfAfter r x → Searched (front (pos 0) (seekHalf S O (suc d) (n - suc d) p)) r d (n - d) (set x d (pos 0))
-    half-zero b f = rw left (chosen (pos 0) (omega arith) (rw add-one at f))
-
-    pub half-hit : n ≤ greatestOrder → {x : List ℤ} → HalfAfter true x → HalfHere true (set x d (pos 0))
-    half-hit b f = rw half-parts (found-first _ (half-zero b f))
-
-    pub half-one : n ≤ greatestOrder → {x₀ : List ℤ} → HalfAfter false x₀ → {x : List ℤ} {r : Bool} → With p p (pos 0) (pos 1) r x → HalfHere r x
-    half-one b f g = rw half-parts (found-next _ (half-zero b f) g)
+      pub half-one : {x₀ : List ℤ} → Searched (seekHalf S O d₁ k p) false d₁ k x₀ → {x : List ℤ} {r : Bool} → With p p (pos 0) (pos 1) r x →
+          Searched (seekHalf S O d left p) r d left x
+      half-one f h = rw half-parts (found-next _ (half-zero f) h)

@@ -1,17 +1,16 @@
--- The search through the tried vectors that the code makes: by recursion over the remaining order, with the sum so far and, for each entry that
--- is still open, what it would add if it were 1 and if it were -1.
+-- The search through the tried vectors that the code makes: by recursion over the remaining order, with the sum so far and, for each
+-- entry that is still open, what it would add if it were 1 and if it were -1.
 use mathlib.Core.Bool.{Bool, true, false}
 use mathlib.Core.List.{List, [], _∷_}
 use mathlib.Core.Option.{Option, none, some}
 use mathlib.Core.Path.{_≡_}
-use Prim.Native.Nat.{ℕ, zero, suc, _+_, _*_, _≤_, _<_}
+use Prim.Native.Nat.{ℕ, zero, suc, _+_, _<_}
 use lib.IntN.{ℤ, pos, negsuc, _+ℤ_, _*ℤ_}
 use lib.Signed.{ltZ, leZ}
 use lib.ListN.{length, drop}
-use Rattle.integers.specs.Numbers.{Within}
-use Rattle.tables.specs.Ranges.{greatestOrder, tableRoom, entryRange}
+use Rattle.tables.specs.Ranges.{greatestOrder, tableRoom}
 use Rattle.tables.specs.Matrix.{Matrix, at, nth, tabulate}
-use Rattle.lookahead.specs.Pairs.{sameSign, otherSign, more, Doubled, Open}
+use Rattle.lookahead.specs.Pairs.{sameSign, otherSign, more, PairTables, Open}
 
 -- the vector that was found, with an entry put in front
 unfoldable pub front : ℤ → Option (List ℤ) → Option (List ℤ)
@@ -26,8 +25,8 @@ orElse (some x) b = some x
 unfoldable pub reached : ℤ → Option (List ℤ)
 reached s = elim (leZ s (pos 0)) [ true ↦ some [] | false ↦ none ]
 
--- the first choice of k entries from entry d on with which the sum s becomes 0 or less; p and q: what an entry would add if it were 1, and -1;
--- S and O: what it adds to what a later one would add, with the same sign and with the other one
+-- the first choice of k entries from entry d on with which the sum s becomes 0 or less; p and q: what an entry would add if it were 1,
+-- and -1; S and O: what it adds to what a later one would add, with the same sign and with the other one
 unfoldable pub seek : Matrix → Matrix → ℕ → ℕ → (ℕ → ℤ) → (ℕ → ℤ) → ℤ → Option (List ℤ)
 seek S O d zero p q s = reached s
 seek S O d (suc k) p q s =
@@ -51,7 +50,8 @@ seekAfter S O d k e p q s = seek S O (suc d) k (after S O d e p) (after O S d e 
 unfoldable pub inFront : Matrix → Matrix → ℕ → ℕ → ℤ → (ℕ → ℤ) → (ℕ → ℤ) → ℤ → Option (List ℤ)
 inFront S O d k e p q s = front e (seekAfter S O d k e p q (bySign e s (s +ℤ p d) (s +ℤ q d)))
 
--- `seek` where all entries before d are 0: the zero vector is skipped, and so is x where -x stood earlier: its first entry that is not 0 is -1
+-- `seek` where all entries before d are 0: the zero vector is skipped, and so is x where -x stood earlier: its first entry that is not 0
+-- is -1
 unfoldable pub seekHalf : Matrix → Matrix → ℕ → ℕ → (ℕ → ℤ) → Option (List ℤ)
 seekHalf S O d zero p = none
 seekHalf S O d (suc k) p =
@@ -67,15 +67,9 @@ pub record Searched (o : Option (List ℤ)) (r : Bool) (d k : ℕ) (x : List ℤ
   pub size : length x ≡ greatestOrder
 
 -- ---- what the code asks of its numbers, and how it makes them
--- a table of order n, its entries in their range
-pub record Table (n : ℕ) (t : List ℤ) : Type 0 where
-  pub order : n ≤ greatestOrder
-  pub size : n * n ≤ length t
-  pub range : (i j : ℕ) → i < n → j < n → Within entryRange (at n t i j)
-
 -- the first entries, to m, of the two tables that the search reads: 2 L and -2 U
-pub record Doubling (n : ℕ) (l u t : List ℤ) (m : ℕ) : Type 0 where
-  pub doubled : Doubled n t
+pub record FilledPairs (n : ℕ) (l u t : List ℤ) (m : ℕ) : Type 0 where
+  pub tables : PairTables n t
   pub same : (k : ℕ) → k < m → nth t k ≡ pos 2 *ℤ nth l k
   pub other : (k : ℕ) → k < m → nth (drop tableRoom t) k ≡ negsuc 1 *ℤ nth u k
 

@@ -1,12 +1,12 @@
--- Document 01, "Showing a vector": the tried vectors, in their order, and the first vector of a list that passes a test.
+-- R9 of docs/RULES.md: the tried vectors, in their order, and the first vector of a list that passes a test.
 use mathlib.Core.Bool.{Bool, true, false}
 use mathlib.Core.List.{List, [], _∷_, _++_, map}
 use mathlib.Core.Option.{Option, none, some}
 use Prim.Native.Nat.{ℕ, zero, suc}
 use lib.IntN.{ℤ, pos, negsuc}
 
--- "The tried vectors of order n are those of order n − 1 with one entry put in front: first all with 0 in front, then 1, then −1.
--- Order 0 has the empty vector only." The zero vector is among them, and skipped: it shows nothing.
+-- R9.2: three copies of the list for one entry less, with 0, with 1 and with -1 prefixed to each vector; for no entries, one vector.
+-- R9.3: the zero vector is in the list and is passed over, since it shows nothing.
 unfoldable pub tried : ℕ → List (List ℤ)
 tried zero = [] ∷ []
 tried (suc n) =

@@ -1,5 +1,5 @@
--- Document 01, "Showing a vector": "The least value of x is the least x'Mx over members". A member attains it, no member goes below it,
--- and so x shows 'not definite' exactly if it is nonzero and some member M has x'Mx ≤ 0. For any order n.
+-- R8 of docs/RULES.md: a member attains the least value of x, and no member goes below it,
+-- and so R8.3 holds of x exactly if it is a witness vector: nonzero, with x'Mx ≤ 0 for some member M. For any order n.
 use mathlib.Core.Path.{_≡_, refl, sym}
 use mathlib.Core.Bool.{Bool, true, false, false≢true, not, _&&_, _||_}
 use mathlib.Core.Logic.{_≢_}
@@ -21,7 +21,7 @@ use Rattle.tables.proofs.Checks.{and-left, and-right, and-of, all-false, le-of,
 use Rattle.tables.proofs.Forms.{form-*}
 use Rattle.vectors.specs.Least.{leastMember, leastValue, nonzero, shows, Witness}
 
--- ---- entry (i, j) of the member that attains the least value, by cases: "L on the diagonal and where x(i)·x(j) > 0, U elsewhere"
+-- ---- entry (i, j) of the member that attains the least value, by the cases of R8.1
 module _ (L U : Matrix) (x : ℕ → ℤ) where
   pub least-by : (i j : ℕ) (P : ℤ → Type 0) → (i ≡ j → P (L i j)) → (i ≢ j → pos 0 <ℤ (x i *ℤ x j) → P (L i j)) →
       (i ≢ j → (x i *ℤ x j) ≤ℤ pos 0 → P (U i j)) → P (leastMember L U x i j)
@@ -112,7 +112,7 @@ module _ {n : ℕ} {x : ℕ → ℤ} where
   unfolding nonzero
   nonzero-true z = rw (all-false (λ i. same (x i) (pos 0)) n (z .index) (z .inside) (same-false (z .differs))) refl
 
--- ---- "x shows 'not definite' exactly if it is nonzero and its least value is 0 or less": exactly if some member M has x'Mx ≤ 0
+-- ---- R8.3: a nonzero x shows 'not definite' exactly if some member M has x'Mx ≤ 0
 module _ {n : ℕ} {L U : Matrix} {x : ℕ → ℤ} where
   pub shows-witness : Bounds n L U → shows n L U x ≡ true → Witness n L U x
   unfolding shows leastValue

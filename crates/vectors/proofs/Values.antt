@@ -3,7 +3,7 @@ use mathlib.Core.Path.{_≡_, refl, sym, ap, _∙_}
 use mathlib.Core.Bool.{Bool, true, false, _||_}
 use mathlib.Core.Logic.{_≢_}
 use mathlib.Core.List.{List, [], _∷_}
-use Prim.Native.Nat.{ℕ, zero, suc, _*_, _^_, _≤_, _<_}
+use Prim.Native.Nat.{ℕ, zero, suc, _*_, _≤_, _<_}
 use native.Mathlib.Omega.{arith}
 use lib.IntN.{ℤ, pos, _+ℤ_, _*ℤ_, *ℤ-zero, zero-*ℤ}
 use lib.Signed.{ltZ}
@@ -14,13 +14,13 @@ use Rattle.integers.specs.Sum.{sum}
 use Rattle.integers.proofs.Machine.{within-more, within-+, within-*, within-sum, fits-within}
 use Rattle.integers.proofs.Solver.{ring, order, solver}
 use Rattle.integers.proofs.Sums.{sum-zero, sum-suc, sum-ext, sum-none, sum-*, eqb-by}
-use Rattle.tables.specs.Ranges.{entryRange}
+use Rattle.tables.specs.Ranges.{greatestOrder, entryRange}
 use Rattle.tables.specs.Matrix.{Matrix, at, nth, form}
 use Rattle.tables.specs.Bounds.{Bounds}
 use Rattle.tables.proofs.Forms.{form-suc}
 use Rattle.tables.proofs.CheckedTables.{low-within, high-within}
 use Rattle.vectors.specs.Least.{leastMember, leastValue}
-use Rattle.vectors.specs.LeastShares.{leastTerm, leastPair, leastRow, leastShare, Asked}
+use Rattle.vectors.specs.LeastShares.{leastTerm, leastPair, leastRow, leastShare, vectorPairRange, leastTermRange, leastShareRange, Asked}
 use Rattle.vectors.proofs.Showing.{least-by, least-symmetric}
 
 -- ---- a pair's cases
@@ -40,36 +40,36 @@ share-none n l u v i e =
     rw (row, e) (ring (at n l i i ∷ []) (search solver depth 40 fits 20000) refl)
 
 -- ---- sizes
-pub share-fits : {l p : ℤ} → Within entryRange l → Within (2 ^ 30) p → SFits w64 (l *ℤ p)
+pub share-fits : {l p : ℤ} → Within entryRange l → Within vectorPairRange p → SFits w64 (l *ℤ p)
 share-fits h k = fits-within (within-* h k) (omega arith)
 
 two-within : Within 2 (pos 2)
 two-within = record { size = omega arith }
 
-term-within : {l u p : ℤ} → Within entryRange l → Within entryRange u → Within (2 ^ 30) p → Within (2 ^ 50) (leastTerm l u p)
+term-within : {l u p : ℤ} → Within entryRange l → Within entryRange u → Within vectorPairRange p → Within leastTermRange (leastTerm l u p)
 unfolding leastTerm
 term-within {l} {u} {p} a b k = go (ltZ (pos 0) p)
   where
-    go : (t : Bool) → Within (2 ^ 50) (elim t as (λ z. ℤ) [ true ↦ l *ℤ p | false ↦ u *ℤ p ])
-    go true = within-more (omega arith) (within-* a k)
-    go false = within-more (omega arith) (within-* b k)
+    go : (t : Bool) → Within leastTermRange (elim t as (λ z. ℤ) [ true ↦ l *ℤ p | false ↦ u *ℤ p ])
+    go true = within-* a k
+    go false = within-* b k
 
 module _ {n : ℕ} {l u v : List ℤ} (a : Asked n l u v) where
   module _ {i j : ℕ} (h : i < n) (k : j < n) where
-    pub product-within : Within (2 ^ 30) (nth v i *ℤ nth v j)
-    product-within = within-more (omega arith) (within-* (a .entries i h) (a .entries j k))
+    pub product-within : Within vectorPairRange (nth v i *ℤ nth v j)
+    product-within = within-* (a .entries i h) (a .entries j k)
 
     pub product-fits : SFits w64 (nth v i *ℤ nth v j)
     product-fits = fits-within product-within (omega arith)
 
-    pair-within : Within (2 ^ 50) (leastPair n l u v i j)
+    pair-within : Within leastTermRange (leastPair n l u v i j)
     unfolding leastPair
     pair-within = term-within (low-within (a .tables) h k) (high-within (a .tables) h k) product-within
 
   module _ {i : ℕ} (h : i < n) where
-    row-within : {k : ℕ} → k ≤ n → Within (2 ^ 53) (leastRow n l u v i k)
+    row-within : {k : ℕ} → k ≤ n → Within (greatestOrder * leastTermRange) (leastRow n l u v i k)
     unfolding leastRow
-    row-within {k} m = within-more (omega (arith, a .tables .order)) (within-sum k (2 ^ 50) _ (λ j q. pair-within h (omega arith)))
+    row-within {k} m = within-more (omega (arith, a .tables .order)) (within-sum k leastTermRange _ (λ j q. pair-within h (omega arith)))
 
     -- the next pair added up
     pub row-fits : {k : ℕ} → k < n → SFits w64 (leastRow n l u v i k +ℤ leastPair n l u v i k)
@@ -78,17 +78,16 @@ module _ {n : ℕ} {l u v : List ℤ} (a : Asked n l u v) where
     pub twice-fits : SFits w64 (pos 2 *ℤ leastRow n l u v i i)
     twice-fits = fits-within (within-* two-within (row-within (omega arith))) (omega arith)
 
-    share-within : Within (2 ^ 55) (leastShare n l u v i)
+    share-within : Within leastShareRange (leastShare n l u v i)
     unfolding leastShare
-    share-within =
-        within-more (omega arith) (within-+ (within-* two-within (row-within (omega arith))) (within-* (low-within (a .tables) h h) (product-within h h)))
+    share-within = within-+ (within-* two-within (row-within (omega arith))) (within-* (low-within (a .tables) h h) (product-within h h))
 
     pub share-adds : SFits w64 (pos 2 *ℤ leastRow n l u v i i +ℤ at n l i i *ℤ (nth v i *ℤ nth v i))
     unfolding leastShare
     share-adds = fits-within share-within (omega arith)
 
-  sum-within : (k : ℕ) → k ≤ n → Within (2 ^ 58) (sum k (leastShare n l u v))
-  sum-within k m = within-more (omega (arith, a .tables .order)) (within-sum k (2 ^ 55) _ (λ i h. share-within (omega arith)))
+  sum-within : (k : ℕ) → k ≤ n → Within (greatestOrder * leastShareRange) (sum k (leastShare n l u v))
+  sum-within k m = within-more (omega (arith, a .tables .order)) (within-sum k leastShareRange _ (λ i h. share-within (omega arith)))
 
   -- the next share added up
   pub sum-fits : {k : ℕ} → k < n → SFits w64 (sum k (leastShare n l u v) +ℤ leastShare n l u v k)

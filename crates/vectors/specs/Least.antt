@@ -1,4 +1,4 @@
--- Document 01, "Showing a vector": the least value of a vector over the members, and the vectors that show 'not definite'.
+-- R8 of docs/RULES.md: the least value of a vector, and which vectors show 'not definite'.
 use mathlib.Core.Bool.{Bool, true, false, not, _&&_, _||_}
 use Prim.Native.Nat.{ℕ}
 use lib.Dec.{eqb}
@@ -8,22 +8,22 @@ use Rattle.tables.specs.Matrix.{Matrix, form}
 use Rattle.tables.specs.Members.{Member, Nonzero}
 use Rattle.tables.specs.Checks.{all, same}
 
--- "L on the diagonal and where x(i)·x(j) > 0, U elsewhere"
+-- R8.1: the member with the least x'Mx has L(i,j) if i = j or x(i) x(j) > 0, and U(i,j) if not
 unfoldable pub leastMember : Matrix → Matrix → (ℕ → ℤ) → Matrix
 leastMember L U x i j = elim (eqb i j || ltZ (pos 0) (x i *ℤ x j)) [ true ↦ L i j | false ↦ U i j ]
 
--- "the least x'Mx over members"
+-- R8.2: its x'Mx, the least value of x
 unfoldable pub leastValue : ℕ → Matrix → Matrix → (ℕ → ℤ) → ℤ
 leastValue n L U x = form n (leastMember L U x) x
 
 unfoldable pub nonzero : ℕ → (ℕ → ℤ) → Bool
 nonzero n x = not (all n (λ i. same (x i) (pos 0)))
 
--- "x shows 'not definite' exactly if it is nonzero and its least value is 0 or less"
+-- R8.3: x shows 'not definite', being nonzero with a least value that is not positive
 unfoldable pub shows : ℕ → Matrix → Matrix → (ℕ → ℤ) → Bool
 shows n L U x = nonzero n x && leZ (leastValue n L U x) (pos 0)
 
--- x is nonzero, and some member M has x'Mx ≤ 0
+-- a witness vector: x is nonzero, and some member M has x'Mx ≤ 0
 pub record Witness (n : ℕ) (L U : Matrix) (x : ℕ → ℤ) : Type 0 where
   pub differs : Nonzero n x
   pub matrix : Matrix

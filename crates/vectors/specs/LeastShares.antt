@@ -1,15 +1,25 @@
 -- How the code works out the least value: share by share, each pair of entries once.
 use mathlib.Core.Bool.{true, false}
 use mathlib.Core.List.{List}
-use Prim.Native.Nat.{ℕ, _≤_, _<_}
+use Prim.Native.Nat.{ℕ, _+_, _*_, _≤_, _<_}
 use lib.IntN.{ℤ, pos, _+ℤ_, _*ℤ_}
 use lib.Signed.{ltZ}
 use lib.ListN.{length}
 use Rattle.integers.specs.Numbers.{Within}
 use Rattle.integers.specs.Sum.{sum}
-use Rattle.tables.specs.Ranges.{vectorRange}
+use Rattle.tables.specs.Ranges.{greatestOrder, entryRange, vectorRange}
 use Rattle.tables.specs.Matrix.{at, nth}
 use Rattle.tables.specs.Bounds.{CheckedTables}
+
+-- ---- sizes: a product of two entries of a vector, a bound times such a product, and what an entry adds
+abbrev pub vectorPairRange : ℕ
+vectorPairRange = vectorRange * vectorRange
+
+abbrev pub leastTermRange : ℕ
+leastTermRange = entryRange * vectorPairRange
+
+abbrev pub leastShareRange : ℕ
+leastShareRange = 2 * (greatestOrder * leastTermRange) + leastTermRange
 
 -- what a pair of entries with product p adds, once
 unfoldable pub leastTerm : ℤ → ℤ → ℤ → ℤ

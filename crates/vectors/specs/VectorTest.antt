@@ -1,38 +1,44 @@
--- The vector test: document 01, "Refused calls" 1 to 5 and 7, and "Showing a vector".
+-- The vector test, R5.4 and R8.4 of docs/RULES.md: checks 1 to 5 and 7, and then what the vector shows.
 use mathlib.Core.Path.{_≡_}
-use mathlib.Core.Bool.{Bool, _&&_}
-use mathlib.Core.List.{List, [], _∷_, _++_}
+use mathlib.Core.Bool.{Bool, true, _&&_}
+use mathlib.Core.List.{List, [], _∷_}
 use Prim.Native.Nat.{ℕ, _*_}
-use lib.IntN.{ℤ, natAbs}
+use lib.IntN.{ℤ}
 use lib.ListN.{length}
 use Rattle.tables.specs.Ranges.{vectorRange}
-use Rattle.tables.specs.Matrix.{at, nth}
-use Rattle.tables.specs.Checks.{allWithin, firstRefusal, sizesOk, tableChecks}
-use Rattle.tables.specs.Answers.{after, entryChecks, yesOrNo}
+use Rattle.tables.specs.Matrix.{Matrix, at, nth}
+use Rattle.tables.specs.Checks.{Check, all, within, firstRefusal, orderOf, sizesOk}
+use Rattle.tables.specs.Answers.{after, yesOrNo}
+use Rattle.tables.specs.Entering.{lowBounds, highBounds, entered}
 use Rattle.tables.specs.declared.Refusal.the-variants.{Vector}
 use Rattle.tables.specs.declared.Answer.{Answer}
 use Rattle.tables.specs.declared.Answer.the-variants as Answer
 use Rattle.vectors.specs.Least.{nonzero, shows, Witness}
 
--- 7: an offered vector is not all zero, and its entries are within ±2^15
-unfoldable pub vectorShape : ℕ → List ℤ → Bool
-vectorShape n v = nonzero n (nth v) && allWithin vectorRange n v
+-- 7, R4.7: some entry of an offered vector is not 0, and all are within ±2^15
+unfoldable pub vectorShape : ℕ → (ℕ → ℤ) → Bool
+vectorShape n x = nonzero n x && all n (λ i. within vectorRange (x i))
 
--- checks 3, 4, 5 and 7, and what the vector shows, of tables and a vector of order n
-unfoldable pub vectorAnswer : ℕ → List ℤ → List ℤ → List ℤ → Answer
-vectorAnswer n l u v =
-    after Answer.Refused (firstRefusal (tableChecks n l u ++ (record { passes = vectorShape n v; otherwise = Vector } ∷ [])))
-    (yesOrNo (shows n (at n l) (at n u) (nth v)))
+abbrev pub checkVector : ℕ → (ℕ → ℤ) → Check
+checkVector n x = record { passes = vectorShape n x; otherwise = Vector }
 
--- 2: each lent buffer has the size that n calls for
+-- check 7, and what a vector x shows of bounds L and U, of order n
+unfoldable pub vectorAnswer : ℕ → Matrix → Matrix → (ℕ → ℤ) → Answer
+vectorAnswer n L U x = after Answer.Refused (firstRefusal (checkVector n x ∷ [])) (yesOrNo (shows n L U x))
+
+-- the vector test, where check 2 finds `sized`
+unfoldable pub vectorTested : ℤ → Bool → List ℤ → List ℤ → List ℤ → Answer
+vectorTested n sized l u v =
+    let k : ℕ = orderOf n in
+    entered Answer.Refused n sized true l u (vectorAnswer k (lowBounds k l) (highBounds k u) (nth v))
+
+-- 2, R4.2: each lent buffer has the size that belongs to n
 abbrev pub vectorSizes : ℕ → ℕ → ℕ → ℕ → Bool
 vectorSizes n = sizesOk (n * n) n
 
 -- the vector test, of anything at all
 unfoldable pub vectorTest : ℤ → List ℤ → List ℤ → List ℤ → Answer
-vectorTest n l u v =
-    after Answer.Refused (firstRefusal (entryChecks n (vectorSizes (natAbs n) (length l) (length u) (length v))))
-    (vectorAnswer (natAbs n) l u v)
+vectorTest n l u v = vectorTested n (vectorSizes (orderOf n) (length l) (length u) (length v)) l u v
 
 -- what an answer means: 'yes' that some member M has x'Mx ≤ 0, for this x, which is nonzero; 'no' that none has
 pub record Meaning (r : Answer) (n : ℕ) (l u v : List ℤ) : Type 0 where

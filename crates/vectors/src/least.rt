@@ -1,15 +1,15 @@
-// Document 01, "Showing a vector": the least value of a vector.
+// R8.2 of docs/RULES.md: the least value of a vector.
 ghost use mathlib.Core.Path.{_≡_};
-ghost use Prim.Native.Nat.{_^_, _<_};
+ghost use Prim.Native.Nat.{_<_};
 ghost use Rattle.integers.specs.Numbers.{Within};
 ghost use Rattle.tables.specs.Ranges.{entryRange};
 ghost use Rattle.tables.specs.Matrix.{at, nth};
 ghost use Rattle.vectors.specs.Least.{leastValue};
-ghost use Rattle.vectors.specs.LeastShares.{leastTerm, leastPair, leastRow, leastShare, Asked};
+ghost use Rattle.vectors.specs.LeastShares.{leastTerm, leastPair, leastRow, leastShare, vectorPairRange, Asked};
 
 // What two entries whose product is p add: the low bound's share where p is positive, else the high bound's.
 fn least_term(low: i64, high: i64, p: i64) -> i64
-    requires { ⌜ Within entryRange low × Within entryRange high × Within (2 ^ 30) p ⌝ }
+    requires { ⌜ Within entryRange low × Within entryRange high × Within vectorPairRange p ⌝ }
     ensures { λ r. ⌜ r ≡ leastTerm low high p ⌝ }
 {
     if 0 < p { low * p } else { high * p }

@@ -16,13 +16,11 @@ use Rattle.integers.proofs.Machine.{within-in}
 use Rattle.tables.specs.Ranges.{greatestOrder, factorRange, vectorRange}
 use Rattle.tables.specs.Matrix.{Matrix, at, nth, table}
 use Rattle.tables.specs.Bounds.{Bounds}
-use Rattle.tables.specs.Checks.{within, firstRefusal, tableChecks}
-use Rattle.tables.specs.Answers.{after}
-use Rattle.tables.specs.declared.Checked.{Checked}
-use Rattle.tables.specs.declared.Checked.the-variants.{Passed, Refused}
+use Rattle.tables.specs.Checks.{within, orderOf}
 use Rattle.tables.proofs.Checks.{of-true, true-of, and-left, and-right, all-at, le-of, same-of, within-of, passed-bounds}
 use Rattle.tables.proofs.Matrix.{length-table, nth-at, at-table, row-inside, column-inside}
-use Rattle.cholesky.specs.Factoring.{Factoring}
+use Rattle.tables.proofs.Admission.{order-small, entered-means}
+use Rattle.cholesky.specs.Factoring.{Factoring, factored}
 use Rattle.cholesky.proofs.Lists.{nth-past}
 use Rattle.residual.specs.FactorTest.{factorShape}
 use Rattle.residual.proofs.Meaning.{entry-by}
@@ -34,21 +32,21 @@ use Rattle.solved.specs.Stopped.{startRange}
 use Rattle.solved.proofs.Solving.{rows-on, rows-none}
 use Rattle.solved.proofs.SolvedVector.{solved-vector}
 use Rattle.solved.proofs.Stops.{bounds-stop}
-use Rattle.verdict.specs.Judge.{Judgement, definite, notDefinite, undecided, refused, ours, listed, shownBy, judged, judgement}
+use Rattle.verdict.specs.Judge.{Judgement, definite, notDefinite, undecided, refused, listed, shownBy, judged, judging}
 use Rattle.verdict.proofs.Decisions.{judged-ends, judged-stops}
 
 -- the numbers of a list, past its end too (where it reads 0), are within ±b
-pub record Sized (m b : ℕ) (x : List ℤ) : Type 0 where
+pub record Small (m b : ℕ) (x : List ℤ) : Type 0 where
   pub size : length x ≡ m
   pub small : (i : ℕ) → Within b (nth x i)
 
 abbrev pub Fitting : ℕ → Judgement → Type 0
-Fitting n (definite t) = Sized (n * n) factorRange t
-Fitting n (notDefinite x) = Sized n vectorRange x
+Fitting n (definite t) = Small (n * n) factorRange t
+Fitting n (notDefinite x) = Small n vectorRange x
 Fitting n undecided = Unit {0}
 Fitting n (refused r) = Unit {0}
 
-sized : {m b : ℕ} {x : List ℤ} → length x ≡ m → ((i : ℕ) → i < m → Within b (nth x i)) → Sized m b x
+sized : {m b : ℕ} {x : List ℤ} → length x ≡ m → ((i : ℕ) → i < m → Within b (nth x i)) → Small m b x
 sized {m} {b} {x} e h = record { size = e; small = λ i. number i (decLt i m) }
   where
     number : (i : ℕ) → Dec (i < m) → Within b (nth x i)
@@ -64,7 +62,7 @@ module _ (n : ℕ) (R : Matrix) (t : T (factorShape n R)) where
       (λ m e. within-in (≤ℤ-trans (leZ-yes tt) (le-of (pos 1) (R i j) (and-left _ _ e))) (le-of (R i j) (pos factorRange) (and-right (leZ (pos 1) (R i j)) _ e)))
       (λ m e. rw (same-of (R i j) (pos 0) e) (record { size = omega arith })) (all-at _ n (all-at _ n (true-of (factorShape n R) t) i h) j k)
 
-  factor-sized : Sized (n * n) factorRange (table n R)
+  factor-sized : Small (n * n) factorRange (table n R)
   factor-sized =
       sized (length-table n R)
       (λ k h. let p = row-inside n k h in let q = column-inside n k h in rw (nth-at n k (table n R), at-table n R (k / n) (k % n) p q) (factor-small (k / n) (k % n) p q))
@@ -96,7 +94,7 @@ module _ (P : List ℤ → Type 0) where
   every-solved n f s h = every-solved-row (stoppedFactor f) _ _ h
 
 -- ---- the listed vectors
-front-sized : (n : ℕ) (a : ℤ) → Within vectorRange a → (l : List (List ℤ)) → Every (Sized n vectorRange) l → Every (Sized (suc n) vectorRange) (map (λ x. a ∷ x) l)
+front-sized : (n : ℕ) (a : ℤ) → Within vectorRange a → (l : List (List ℤ)) → Every (Small n vectorRange) l → Every (Small (suc n) vectorRange) (map (λ x. a ∷ x) l)
 front-sized n a w [] h = tt
 front-sized n a w (x ∷ l) h = (more, front-sized n a w l (h .1))
   where
@@ -104,35 +102,35 @@ front-sized n a w (x ∷ l) h = (more, front-sized n a w l (h .1))
     number zero = w
     number (suc i) = h .0 .small i
 
-    more : Sized (suc n) vectorRange (a ∷ x)
+    more : Small (suc n) vectorRange (a ∷ x)
     more = record { size = ap suc (h .0 .size); small = number }
 
-tried-sized : (n : ℕ) → Every (Sized n vectorRange) (tried n)
+tried-sized : (n : ℕ) → Every (Small n vectorRange) (tried n)
 unfolding tried
 tried-sized zero = (record { size = refl; small = λ i. record { size = omega arith } }, tt)
 tried-sized (suc n) =
-    let P = Sized (suc n) vectorRange in
+    let P = Small (suc n) vectorRange in
     let one : ℤ → List (List ℤ) = λ a. map (λ x. a ∷ x) (tried n) in
     let put : (a : ℤ) → Within vectorRange a → Every P (one a) = λ a w. front-sized n a w (tried n) (tried-sized n) in
     every-append P (one (pos 0)) _ (put (pos 0) (record { size = omega arith }))
     (every-append P (one (pos 1)) (one (negsuc 0)) (put (pos 1) (record { size = omega arith })) (put (negsuc 0) (record { size = omega arith })))
 
 module _ (n : ℕ) (o : n ≤ greatestOrder) (L U : Matrix) (b : Bounds n L U) where
-  module _ (e : ours n L U .ends ≡ false) where
-    solved-sized : (s : ℤ) → Within startRange s → Every (Sized n vectorRange) (solved n (ours n L U) s)
+  module _ (e : factored n L U .ends ≡ false) where
+    solved-sized : (s : ℤ) → Within startRange s → Every (Small n vectorRange) (solved n (factored n L U) s)
     solved-sized s w =
         let stop = bounds-stop b o e in
-        every-solved (Sized n vectorRange) n (ours n L U) s
-        (λ v q. let x = solved-vector n (ours n L U) s q w (omega (arith, stop .inside, stop .cut .rows)) in sized (x .size) (x .small))
+        every-solved (Small n vectorRange) n (factored n L U) s
+        (λ v q. let x = solved-vector n (factored n L U) s q w (omega (arith, stop .inside, stop .cut .rows)) in sized (x .size) (x .small))
 
-    listed-sized : Every (Sized n vectorRange) (listed n L U)
+    listed-sized : Every (Small n vectorRange) (listed n L U)
     unfolding listed
     listed-sized =
         every-append _ (tried n) _ (tried-sized n)
-        (every-append _ (solved n (ours n L U) (pos 1)) _ (solved-sized (pos 1) (record { size = omega arith })) (solved-sized (pos 64) (record { size = omega arith })))
+        (every-append _ (solved n (factored n L U) (pos 1)) _ (solved-sized (pos 1) (record { size = omega arith })) (solved-sized (pos 64) (record { size = omega arith })))
 
   -- ---- the verdict
-  first-fitting : (p : List ℤ → Bool) (l : List (List ℤ)) → Every (Sized n vectorRange) l → Fitting n (shownBy (first p l))
+  first-fitting : (p : List ℤ → Bool) (l : List (List ℤ)) → Every (Small n vectorRange) l → Fitting n (shownBy (first p l))
   unfolding first
   first-fitting p [] h = tt
   first-fitting p (x ∷ l) h = go (p x) (first p l) (first-fitting p l (h .1))
@@ -141,20 +139,18 @@ module _ (n : ℕ) (o : n ≤ greatestOrder) (L U : Matrix) (b : Bounds n L U) w
       go true q k = h .0
       go false q k = k
 
-  pub stops-fitting : ours n L U .ends ≡ false → Fitting n (shownBy (first (λ x. shows n L U (nth x)) (listed n L U)))
+  pub stops-fitting : factored n L U .ends ≡ false → Fitting n (shownBy (first (λ x. shows n L U (nth x)) (listed n L U)))
   stops-fitting e = first-fitting (λ x. shows n L U (nth x)) (listed n L U) (listed-sized e)
 
   judged-fitting : Fitting n (judged n L U)
-  judged-fitting = go (ours n L U .ends) refl
+  judged-fitting = go (factored n L U .ends) refl
     where
-      go : (q : Bool) → ours n L U .ends ≡ q → Fitting n (judged n L U)
+      go : (q : Bool) → factored n L U .ends ≡ q → Fitting n (judged n L U)
       go true e = subst (Fitting n) (sym (judged-ends n L U e)) (factor-sized n _ (ends-shape-takeOff n o L U b (of-true e)))
       go false e = subst (Fitting n) (sym (judged-stops n L U e)) (stops-fitting e)
 
-pub judgement-fitting : (n : ℕ) → n ≤ greatestOrder → (l u : List ℤ) → Fitting n (judgement n l u)
-unfolding judgement after
-judgement-fitting n o l u = go (firstRefusal (tableChecks n l u)) refl
-  where
-    go : (k : Checked) → firstRefusal (tableChecks n l u) ≡ k → Fitting n (after refused k (judged n (at n l) (at n u)))
-    go Passed e = judged-fitting n o (at n l) (at n u) (passed-bounds n l u e)
-    go (Refused r) e = tt
+pub judging-fitting : (n : ℤ) (sized : Bool) (l u : List ℤ) → Fitting (orderOf n) (judging n sized l u)
+unfolding judging
+judging-fitting n sized l u =
+    let k = orderOf n in
+    entered-means n sized true l u refused _ (Fitting k) (λ r. tt) (λ b. judged-fitting k (order-small n) (at k l) (at k u) (passed-bounds k l u (b .tables)))

@@ -8,18 +8,16 @@ use native.Mathlib.Omega.{arith}
 use lib.Dec.{eqb}
 use lib.IntN.{ℤ, pos, _*ℤ_}
 use lib.Signed.{leZ, ltZ}
-use lib.ListN.{length}
 use Rattle.integers.specs.Numbers.{Within}
 use Rattle.integers.proofs.Sums.{sum-ext}
 use Rattle.tables.specs.Matrix.{Matrix, nth, form, tabulate}
 use Rattle.tables.specs.Checks.{all, same}
 use Rattle.tables.proofs.Matrix.{nth-tabulate, tabulate-ext}
 use Rattle.tables.specs.Bounds.{CheckedTables}
-use Rattle.tables.proofs.CheckedTables.{low-within, high-within}
 use Rattle.vectors.specs.Least.{leastMember, leastValue, nonzero, shows}
 use Rattle.vectors.specs.LeastShares.{Asked}
 use Rattle.tried.specs.Tried.{first}
-use Rattle.tried.specs.Search.{orElse, found, Searched, Table}
+use Rattle.tried.specs.Search.{orElse, found, Searched}
 use Rattle.tried.proofs.TriedList.{first-append}
 use Rattle.solved.specs.Solved.{solved}
 use Rattle.solved.specs.Stopped.{stoppedAt, Stopped, startRange, solvedOf, Answered}
@@ -81,12 +79,6 @@ module _ (p : List ℤ → Bool) {o : List (List ℤ)} {n : ℕ} {x : List ℤ} 
 
 -- ---- what passed the checks
 module _ {n : ℕ} {l u : List ℤ} (c : CheckedTables n l u) where
-  pub low-table : Table n l
-  low-table = record { order = c .order; size = c .low-length; range = λ i j h k. low-within c h k }
-
-  pub high-table : Table n u
-  high-table = record { order = c .order; size = c .high-length; range = λ i j h k. high-within c h k }
-
   pub solved-asked : {t : List ℤ} {j m : ℕ} → Stopped n t j m → (s : ℤ) → Within startRange s → {x : List ℤ} → Answered (solved n (stoppedAt t j m) s) n true x → Asked n l u x
   unfolding solvedOf
   solved-asked a s w {x} q =

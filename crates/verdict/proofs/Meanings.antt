@@ -1,37 +1,36 @@
--- What a verdict means: demand 3 of 'definite', and 'not definite' exactly if a listed vector shows it.
+-- What a verdict means: D3.2 of 'definite', D2.4 of 'not definite' (docs/RULES.md).
 use mathlib.Core.Path.{_≡_, refl, sym, ap, subst, _∙_}
 use mathlib.Core.Logic.{_⊎_, inl, inr}
 use mathlib.Core.Bool.{Bool, true, false, false≢true}
 use mathlib.Core.List.{List, [], _∷_, List·Memᴰ, List·Memᴰ·head, List·Memᴰ·tail, List·Memᴰ·cases-cons, List·Memᴰ·not-nil}
 use mathlib.Core.Option.{Option, none, some}
-use Prim.Native.Nat.{ℕ, _≤_, _<_}
+use Prim.Native.Nat.{ℕ, _<_}
 use lib.Dec.{T}
-use lib.IntN.{ℤ, natAbs}
-use Rattle.tables.specs.Ranges.{greatestOrder, vectorRange}
+use lib.IntN.{ℤ}
+use Rattle.tables.specs.Ranges.{vectorRange}
 use Rattle.tables.specs.Matrix.{Matrix, at, nth, table}
 use Rattle.tables.specs.Bounds.{Bounds}
-use Rattle.tables.specs.Checks.{within, allWithin, firstRefusal, tableChecks}
-use Rattle.tables.specs.Answers.{after, entryChecks, yesOrNo}
+use Rattle.tables.specs.Checks.{within, orderOf}
+use Rattle.tables.specs.Answers.{yesOrNo}
 use Rattle.tables.specs.declared.Refusal.{Refusal}
-use Rattle.tables.specs.declared.Checked.{Checked}
-use Rattle.tables.specs.declared.Checked.the-variants.{Passed, Refused}
 use Rattle.tables.specs.declared.Answer.the-variants as Answer
-use Rattle.tables.proofs.Checks.{of-true, true-of, and-left, and-of, all-of, all-ext, within-true, passed-bounds, first-passed, order-of}
+use Rattle.tables.proofs.Checks.{of-true, true-of, and-left, and-of, all-of, all-ext, within-true, first-passes, first-none, passed-bounds}
 use Rattle.tables.proofs.Matrix.{at-table}
-use Rattle.tables.proofs.Answers.{offer-passed}
-use Rattle.cholesky.specs.Factoring.{entries}
-use Rattle.residual.specs.FactorTest.{factorEntry, factorShape, factorAnswer}
+use Rattle.tables.proofs.Answers.{after-passed}
+use Rattle.tables.proofs.Admission.{Behind, order-small, behind-entered, entered-means}
+use Rattle.cholesky.specs.Factoring.{entries, factored}
+use Rattle.residual.specs.FactorTest.{factorEntry, factorShape, factorAnswer, factorTested}
 use Rattle.residual.proofs.Offers.{accepts-ext}
 use Rattle.theorems.proofs.Theorems.{ends-shape-takeOff, ends-accepted-takeOff, ends-definite-takeOff, margin-ends-takeOff}
 use Rattle.vectors.specs.Least.{nonzero, shows}
-use Rattle.vectors.specs.VectorTest.{vectorShape, vectorAnswer}
+use Rattle.vectors.specs.VectorTest.{vectorShape, vectorAnswer, vectorTested}
 use Rattle.vectors.proofs.Showing.{shows-witness, shows-not-definite}
 use Rattle.tried.specs.Tried.{first}
-use Rattle.verdict.specs.Judge.{Judgement, definite, refused, ours, listed, shownBy, judged, judgement, written, judge, Meaning}
+use Rattle.verdict.specs.Judge.{Judgement, definite, refused, listed, shownBy, judged, judging, written, Meaning}
 use Rattle.verdict.specs.declared.judge.Verdict.{Verdict}
 use Rattle.verdict.specs.declared.judge.Verdict.the-variants as Verdict
 use Rattle.verdict.proofs.Decisions.{judged-ends, judged-stops}
-use Rattle.verdict.proofs.Fitting.{Sized, Fitting, stops-fitting}
+use Rattle.verdict.proofs.Fitting.{Small, Fitting, stops-fitting}
 
 -- ---- the first that passes: it stands in the list and passes, or none does
 module _ (p : List ℤ → Bool) where
@@ -58,45 +57,52 @@ shape-ext : (n : ℕ) (R S : Matrix) → ((i j : ℕ) → i < n → j < n → R 
 unfolding factorShape
 shape-ext n R S h = all-ext n _ _ (λ i k. all-ext n _ _ (λ j m. ap (factorEntry i j) (h i j k m)))
 
--- ---- what the definition of the verdict gives
-module _ (n : ℕ) (o : n ≤ greatestOrder) (l u : List ℤ) (p : firstRefusal (tableChecks n l u) ≡ Passed) where
+-- ---- what the definition of the verdict gives, behind the door
+module _ (n : ℤ) (sized : Bool) (l u : List ℤ) (b : Behind n sized true l u) where
+  abbrev k : ℕ
+  k = orderOf n
+
   abbrev L : Matrix
-  L = at n l
+  L = at k l
 
   abbrev U : Matrix
-  U = at n u
+  U = at k u
 
-  bounds : Bounds n L U
-  bounds = passed-bounds n l u p
+  bounds : Bounds k L U
+  bounds = passed-bounds k l u (b .tables)
 
   -- where factoring ends no vector shows anything
-  pub ends-shows-nothing : T (ours n L U .ends) → (x : ℕ → ℤ) → shows n L U x ≡ true → ⊥
-  ends-shows-nothing t x e = shows-not-definite x bounds e (ends-definite-takeOff n o L U bounds t)
+  pub ends-shows-nothing : T (factored k L U .ends) → (x : ℕ → ℤ) → shows k L U x ≡ true → ⊥
+  ends-shows-nothing t x e = shows-not-definite x bounds e (ends-definite-takeOff k (order-small n) L U bounds t)
+
+  -- both tests let the bounds in
+  open-door : Behind n true true l u
+  open-door = record { ordered = b .ordered; sizes = refl; within = refl; checked = b .checked; tables = b .tables }
 
   -- the factor test accepts the table of the factor
-  factor-accepted : T (ours n L U .ends) → factorAnswer n l u (table n (entries (ours n L U .columns))) ≡ Answer.Yes
-  unfolding factorAnswer
+  factor-accepted : T (factored k L U .ends) → factorTested n true l u (table k (entries (factored k L U .columns))) ≡ Answer.Yes
+  unfolding factorTested factorAnswer
   factor-accepted t =
-      let R = entries (ours n L U .columns) in
-      let same = at-table n R in
-      sym (offer-passed Answer.Refused (tableChecks n l u) _ _ p (shape-ext n (at n (table n R)) R same ∙ true-of _ (ends-shape-takeOff n o L U bounds t)))
-      ∙ ap yesOrNo (accepts-ext n (at n (table n R)) R L U same ∙ true-of _ (ends-accepted-takeOff n o L U bounds t))
+      let R = entries (factored k L U .columns) in
+      let same = at-table k R in
+      let shape = shape-ext k (at k (table k R)) R same ∙ true-of _ (ends-shape-takeOff k (order-small n) L U bounds t) in
+      sym (behind-entered n true true l u Answer.Refused _ open-door) ∙ sym (after-passed Answer.Refused _ (first-passes _ _ shape ∙ first-none))
+      ∙ ap yesOrNo (accepts-ext k (at k (table k R)) R L U same ∙ true-of _ (ends-accepted-takeOff k (order-small n) L U bounds t))
 
   -- the vector test says yes of a vector in its range that shows it
-  vector-confirmed : (x : List ℤ) → Sized n vectorRange x → shows n L U (nth x) ≡ true → vectorAnswer n l u x ≡ Answer.Yes
-  unfolding vectorAnswer vectorShape allWithin shows
+  vector-confirmed : (x : List ℤ) → Small k vectorRange x → shows k L U (nth x) ≡ true → vectorTested n true l u x ≡ Answer.Yes
+  unfolding vectorTested vectorAnswer vectorShape shows
   vector-confirmed x z e =
-      sym (offer-passed Answer.Refused (tableChecks n l u) _ _ p
-      (and-of (and-left (nonzero n (nth x)) _ e) (all-of (λ i. within vectorRange (nth x i)) n (λ i h. within-true (z .small i)))))
-      ∙ ap yesOrNo e
+      let shape = and-of (and-left (nonzero k (nth x)) _ e) (all-of (λ i. within vectorRange (nth x i)) k (λ i h. within-true (z .small i))) in
+      sym (behind-entered n true true l u Answer.Refused _ open-door) ∙ sym (after-passed Answer.Refused _ (first-passes _ _ shape ∙ first-none)) ∙ ap yesOrNo e
 
   abbrev Means : Judgement → List ℤ → List ℤ → Type 0
-  Means g f v = Meaning (written g f v .verdict) n l u (written g f v .factor) (written g f v .vector)
+  Means g f v = Meaning n l u (written g f v .verdict) (written g f v .factor) (written g f v .vector)
 
   module _ (f v : List ℤ) where
-    ends-means : T (ours n L U .ends) → Means (definite (table n (entries (ours n L U .columns)))) f v
+    ends-means : T (factored k L U .ends) → Means (definite (table k (entries (factored k L U .columns)))) f v
     ends-means t = record {
-      definite = λ e. ends-definite-takeOff n o L U bounds t;
+      definite = λ e. ends-definite-takeOff k (order-small n) L U bounds t;
       accepted = λ e. factor-accepted t;
       shown = λ e. absurd (false≢true cc);
       confirmed = λ e. absurd (false≢true cc);
@@ -105,7 +111,7 @@ module _ (n : ℕ) (o : n ≤ greatestOrder) (l u : List ℤ) (p : firstRefusal 
       margin = λ a m. refl;
     }
 
-    stops-means : ours n L U .ends ≡ false → (q : Option (List ℤ)) → Picks (λ x. shows n L U (nth x)) (listed n L U) q → Fitting n (shownBy q) → Means (shownBy q) f v
+    stops-means : factored k L U .ends ≡ false → (q : Option (List ℤ)) → Picks (λ x. shows k L U (nth x)) (listed k L U) q → Fitting k (shownBy q) → Means (shownBy q) f v
     unfolding Picks
     stops-means s (some x) h z = record {
       definite = λ e. absurd (false≢true cc);
@@ -114,7 +120,7 @@ module _ (n : ℕ) (o : n ≤ greatestOrder) (l u : List ℤ) (p : firstRefusal 
       confirmed = λ e. vector-confirmed x z (h .1);
       from-list = λ e. h .0;
       exactly = λ a x m e. refl;
-      margin = λ a m. absurd (false≢true (sym s ∙ true-of _ (margin-ends-takeOff n o L U bounds m)));
+      margin = λ a m. absurd (false≢true (sym s ∙ true-of _ (margin-ends-takeOff k (order-small n) L U bounds m)));
     }
     stops-means s none h z = record {
       definite = λ e. absurd (false≢true cc);
@@ -123,47 +129,31 @@ module _ (n : ℕ) (o : n ≤ greatestOrder) (l u : List ℤ) (p : firstRefusal 
       confirmed = λ e. absurd (false≢true cc);
       from-list = λ e. absurd (false≢true cc);
       exactly = λ a x m e. absurd (h x m e);
-      margin = λ a m. absurd (false≢true (sym s ∙ true-of _ (margin-ends-takeOff n o L U bounds m)));
+      margin = λ a m. absurd (false≢true (sym s ∙ true-of _ (margin-ends-takeOff k (order-small n) L U bounds m)));
     }
 
-    judged-means : Means (judged n L U) f v
-    judged-means = go (ours n L U .ends) refl
+    pub judged-means : Means (judged k L U) f v
+    judged-means = go (factored k L U .ends) refl
       where
-        go : (b : Bool) → ours n L U .ends ≡ b → Means (judged n L U) f v
-        go true e = subst (λ (g : Judgement). Means g f v) (sym (judged-ends n L U e)) (ends-means (of-true e))
-        go false e = subst (λ (g : Judgement). Means g f v) (sym (judged-stops n L U e)) (stops-means e _ (first-picks (λ x. shows n L U (nth x)) (listed n L U)) (stops-fitting n o L U bounds e))
+        go : (q : Bool) → factored k L U .ends ≡ q → Means (judged k L U) f v
+        go true e = subst (λ (g : Judgement). Means g f v) (sym (judged-ends k L U e)) (ends-means (of-true e))
+        go false e = subst (λ (g : Judgement). Means g f v) (sym (judged-stops k L U e))
+            (stops-means e _ (first-picks (λ x. shows k L U (nth x)) (listed k L U)) (stops-fitting k (order-small n) L U bounds e))
 
 -- ---- of any call at all
-module _ (l u f v : List ℤ) where
-  refused-means : (n : ℕ) (r : Refusal) → Meaning (Verdict.Refused r) n l u f v
-  refused-means n r = record {
-    definite = λ e. absurd (false≢true cc);
-    accepted = λ e. absurd (false≢true cc);
-    shown = λ e. absurd (false≢true cc);
-    confirmed = λ e. absurd (false≢true cc);
-    from-list = λ e. absurd (false≢true cc);
-    exactly = λ a x m e. absurd (a r refl);
-    margin = λ a m. absurd (a r refl);
-  }
+refused-means : (n : ℤ) (l u f v : List ℤ) (r : Refusal) → Meaning n l u (Verdict.Refused r) f v
+refused-means n l u f v r = record {
+  definite = λ e. absurd (false≢true cc);
+  accepted = λ e. absurd (false≢true cc);
+  shown = λ e. absurd (false≢true cc);
+  confirmed = λ e. absurd (false≢true cc);
+  from-list = λ e. absurd (false≢true cc);
+  exactly = λ a x m e. absurd (a r refl);
+  margin = λ a m. absurd (a r refl);
+}
 
-  -- checks that are made first change nothing of it
-  after-means : (n : ℕ) (k : Checked) (g : Judgement) → (k ≡ Passed → Meaning (written g f v .verdict) n l u (written g f v .factor) (written g f v .vector)) →
-      (let j = written (after refused k g) f v in Meaning (j .verdict) n l u (j .factor) (j .vector))
-  unfolding after
-  after-means n Passed g h = h refl
-  after-means n (Refused r) g h = refused-means n r
-
-  pub judgement-means : (n : ℕ) → n ≤ greatestOrder → (let j = written (judgement n l u) f v in Meaning (j .verdict) n l u (j .factor) (j .vector))
-  unfolding judgement
-  judgement-means n o = after-means n (firstRefusal (tableChecks n l u)) (judged n (at n l) (at n u)) (λ p. judged-means n o l u p f v)
-
-  -- whatever sizes check 2 asks for
-  pub entry-means : (n : ℤ) (sized : Bool) →
-      (let j = written (after refused (firstRefusal (entryChecks n sized)) (judgement (natAbs n) l u)) f v in Meaning (j .verdict) (natAbs n) l u (j .factor) (j .vector))
-  unfolding entryChecks
-  entry-means n sized =
-      after-means (natAbs n) (firstRefusal (entryChecks n sized)) (judgement (natAbs n) l u) (λ p. judgement-means (natAbs n) (order-of (first-passed _ _ p) .1))
-
-  pub judge-means : (n : ℤ) → (let j = judge n l u f v in Meaning (j .verdict) (natAbs n) l u (j .factor) (j .vector))
-  unfolding judge
-  judge-means n = entry-means n _
+pub judging-means : (n : ℤ) (sized : Bool) (l u f v : List ℤ) → (let j = written (judging n sized l u) f v in Meaning n l u (j .verdict) (j .factor) (j .vector))
+unfolding judging
+judging-means n sized l u f v =
+    entered-means n sized true l u refused _ (λ (g : Judgement). let j = written g f v in Meaning n l u (j .verdict) (j .factor) (j .vector))
+    (refused-means n l u f v) (λ b. judged-means n sized l u b f v)

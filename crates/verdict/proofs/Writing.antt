@@ -10,11 +10,9 @@ use lib.Seq.{ext-getD, getD-set-same, getD-set-other}
 use Rattle.tables.specs.Matrix.{Matrix, at, nth, table}
 use Rattle.tables.proofs.Matrix.{getD-tabulate, tabulate-ext, inside, row-inside, column-inside, nth-at, same-row, same-column, length-table, at-table}
 use Rattle.cholesky.specs.Factoring.{entries}
-use Rattle.cholesky.specs.Store.{columnOf, columnsOf}
+use Rattle.cholesky.specs.Store.{columnOf, columnsOf, triangle}
 use Rattle.cholesky.proofs.Lists.{nth-past}
-use Rattle.cholesky.proofs.Store.{length-columnOf, entries-columnsOf}
-use Rattle.cholesky.specs.Store.{triangle}
-use Rattle.cholesky.proofs.Store.{triangle-on, triangle-below}
+use Rattle.cholesky.proofs.Store.{length-columnOf, entries-columnsOf, triangle-on, triangle-below}
 use Rattle.verdict.specs.FactorTable.{Written}
 
 -- ---- the factor's entries

@@ -21,7 +21,8 @@ pub fn factor_entry(t: &Table, i: usize, j: usize) -> i64
 
 // Writes row i, after the rows before it.
 fn write_row(n: usize, t: &Table, i: usize, factor: &mut [i64])
-    requires { ⌜ (n ≤ greatestOrder) × (i < n) × (n * n ≤ length (now factor)) × Written n (triangle (now t)) (now factor) (i * n) ⌝ }
+    requires { ⌜ (n ≤ greatestOrder) × (i < n) × (n * n ≤ length (now factor)) × Written n (triangle (now t)) (now factor) (i *
+        n) ⌝ }
     ensures { λ r. ⌜ Written n (triangle (now (t .entry))) (now (factor .exit)) (suc i * n) ⌝ }
 {
     let start = i * n;

@@ -1,11 +1,13 @@
-// The judge.
+// The judge, R11 of docs/RULES.md.
 ghost use mathlib.Core.Path.{_≡_};
 ghost use mathlib.Core.List.{List};
-ghost use Prim.Native.Nat.{_*_, _≤_, _<_};
-ghost use lib.IntN.{ℤ, natAbs};
+ghost use Prim.Native.Nat.{_*_};
+ghost use lib.IntN.{ℤ};
 ghost use lib.ListN.{length};
 ghost use Rattle.tables.specs.Ranges.{greatestOrder, tableRoom};
-ghost use Rattle.verdict.specs.Judge.{Judged, judgement, judgeSizes, written, judge, verdictCode, Meaning};
+ghost use Rattle.tables.specs.Matrix.{at};
+ghost use Rattle.tables.specs.Bounds.{CheckedTables};
+ghost use Rattle.verdict.specs.Judge.{Judged, judged, judgeSizes, written, judge, verdictCode, Meaning};
 ghost use Rattle.verdict.specs.Deciding.{shownVerdict, Decided};
 use crate::factor_table::write_factor;
 use crate::listed::first_listed;
@@ -17,6 +19,8 @@ use tables::Refusal;
 use tables::TABLE_ROOM;
 use tables::Table;
 use tables::Vector;
+use tables::entering::enter;
+use tables::entering::order_of;
 
 // What the judge answers.
 pub enum Verdict {
@@ -48,16 +52,12 @@ fn shown(found: bool) -> Verdict
     return Verdict::NotDefinite;
 }
 
-// Checks 3, 4 and 5, and the verdict on tables of order n: the first n² numbers of each.
+// The verdict on bounds of order n: the first n² numbers of each table.
 // Where it is 'definite' the factor's columns stand in t, and where it is 'not definite' the vector in the first n entries of x.
 pub fn decide(n: usize, low: &[i64], high: &[i64], t: &mut Table, x: &mut Vector) -> Verdict
-    requires { ⌜ (n ≤ greatestOrder) × (0 < n) × (n * n ≤ length (now low)) × (n * n ≤ length (now high)) × (length (now t) ≡ tableRoom) × (length (now x) ≡ greatestOrder) ⌝ }
-    ensures { λ r. ⌜ Decided (judgement n (now (low .entry)) (now (high .entry))) n r (now (t .exit)) (now (x .exit)) ⌝ }
+    requires { ⌜ CheckedTables n (now low) (now high) × (length (now t) ≡ tableRoom) × (length (now x) ≡ greatestOrder) ⌝ }
+    ensures { λ r. ⌜ Decided (judged n (at n (now (low .entry))) (at n (now (high .entry)))) n r (now (t .exit)) (now (x .exit)) ⌝ }
 {
-    let checked = tables::check_tables(n, low, high);
-    if let Checked::Refused(r) = checked {
-        return Verdict::Refused(r);
-    }
     let outcome = factor_tables(n, low, high, t);
     match outcome {
         Outcome::Ends => Verdict::Definite,
@@ -65,16 +65,17 @@ pub fn decide(n: usize, low: &[i64], high: &[i64], t: &mut Table, x: &mut Vector
     }
 }
 
-// Checks 3, 4 and 5, the verdict, and the factor or the vector that goes with it, on buffers of the sizes that n calls for.
-fn judge_tables(
+// The verdict on bounds of order n, and the factor or the vector that goes with it, on buffers of the sizes that n calls for.
+fn judge_bounds(
     n: usize,
     low: &[i64],
     high: &[i64],
     factor: &mut [i64],
     vector: &mut [i64],
 ) -> Verdict
-    requires { ⌜ (n ≤ greatestOrder) × (0 < n) × (n * n ≤ length (now low)) × (n * n ≤ length (now high)) × (length (now factor) ≡ n * n) × (length (now vector) ≡ n) ⌝ }
-    ensures { λ r. ⌜ _≡_ {A = Judged (List ℤ)} (record { verdict = r; factor = now (factor .exit); vector = now (vector .exit) }) (written (judgement n (now (low .entry)) (now (high .entry))) (now (factor .entry)) (now (vector .entry))) ⌝ }
+    requires { ⌜ CheckedTables n (now low) (now high) × (length (now factor) ≡ n * n) × (length (now vector) ≡ n) ⌝ }
+    ensures { λ r. ⌜ _≡_ {A = Judged (List ℤ)} (record { verdict = r; factor = now (factor .exit); vector = now (vector .exit) })
+        (written (judged n (at n (now (low .entry))) (at n (now (high .entry)))) (now (factor .entry)) (now (vector .entry))) ⌝ }
 {
     let mut t = [0i64; TABLE_ROOM];
     let mut x = [0i64; GREATEST_ORDER];
@@ -107,19 +108,28 @@ pub fn sizes_ok(
     tables::sizes_ok(table, table, low, high, factor) && vector == entries
 }
 
-// The judge of document 01, of any numbers at all: n is an order or not, and each slice has any length.
-// Refused by the first of the checks 1 to 5 that fails, with both buffers kept. Else 'definite', with the factor written and the vector kept;
-// 'not definite', with the vector written and the factor kept; or 'undecided', with both kept.
+// The judge, of any numbers at all: n is an order or not, and each slice has any length.
+// Refused by the first of the checks 1 to 5 that fails, with both buffers kept. Else 'definite', with the factor written and the vector
+// kept; 'not definite', with the vector written and the factor kept; or 'undecided', with both kept.
 pub fn judge(n: i64, low: &[i64], high: &[i64], factor: &mut [i64], vector: &mut [i64]) -> Verdict
-    ensures exact { λ r. ⌜ _≡_ {A = Judged (List ℤ)} (record { verdict = r; factor = now (factor .exit); vector = now (vector .exit) }) (judge n (now (low .entry)) (now (high .entry)) (now (factor .entry)) (now (vector .entry))) ⌝ }
-    ensures meaning { λ r. ⌜ Meaning r (natAbs n) (now (low .entry)) (now (high .entry)) (now (factor .exit)) (now (vector .exit)) ⌝ }
+    ensures exact { λ r. ⌜ _≡_ {A = Judged (List ℤ)} (record {
+      verdict = r;
+      factor = now (factor .exit);
+      vector = now
+          (vector .exit);
+    }) (judge n (now (low .entry)) (now (high .entry)) (now (factor .entry)) (now (vector .entry))) ⌝ }
+    ensures meaning { λ r. ⌜ Meaning n (now (low .entry)) (now (high .entry)) r (now (factor .exit)) (now (vector .exit)) ⌝ }
 {
-    if !tables::order_ok(n) {
+    let m = order_of(n);
+    if m == 0 {
         return Verdict::Refused(Refusal::Order);
     }
-    let m = n as usize;
-    if !sizes_ok(m * m, m, low.len(), high.len(), factor.len(), vector.len()) {
-        return Verdict::Refused(Refusal::Length);
+    let sized = sizes_ok(m * m, m, low.len(), high.len(), factor.len(), vector.len());
+    let mut l = [0i64; TABLE_ROOM];
+    let mut u = [0i64; TABLE_ROOM];
+    let checked = enter(n, sized, true, low, high, &mut l, &mut u);
+    if let Checked::Refused(r) = checked {
+        return Verdict::Refused(r);
     }
-    judge_tables(m, low, high, factor, vector)
+    judge_bounds(m, &l, &u, factor, vector)
 }

@@ -1,7 +1,6 @@
-// Document 01, "Judge": the first of the tried, then the solved vectors that shows 'not definite', after a factoring that stopped.
+// R11.3 of docs/RULES.md: the first listed vector that shows 'not definite', after a factoring that stopped.
 ghost use mathlib.Core.Path.{_≡_};
 ghost use mathlib.Core.List.{_++_};
-ghost use Prim.Native.Nat.{_<_};
 ghost use lib.IntN.{pos};
 ghost use lib.ListN.{length};
 ghost use Rattle.integers.specs.Numbers.{Within};
@@ -39,8 +38,10 @@ fn solved_shows(
     s: i64,
     x: &mut Vector,
 ) -> bool
-    requires { ⌜ CheckedTables n (now low) (now high) × Stopped n (now t) j m × Within startRange s × (length (now x) ≡ greatestOrder) ⌝ }
-    ensures { λ r. ⌜ Searched (first (λ v. shows n (at n (now (low .entry))) (at n (now (high .entry))) (nth v)) (solved n (stoppedAt (now (t .entry)) j m) s)) r 0 n (now (x .exit)) ⌝ }
+    requires { ⌜ CheckedTables n (now low) (now high) × Stopped n (now t) j m × Within startRange s × (length (now x) ≡
+        greatestOrder) ⌝ }
+    ensures { λ r. ⌜ Searched (first (λ v. shows n (at n (now (low .entry))) (at n (now (high .entry))) (nth v)) (solved n (stoppedAt
+        (now (t .entry)) j m) s)) r 0 n (now (x .exit)) ⌝ }
 {
     if !solved::solve(n, t, j, m, s, x) {
         return false;
@@ -58,8 +59,9 @@ pub fn first_listed(
     m: usize,
     x: &mut Vector,
 ) -> bool
-    requires { ⌜ CheckedTables n (now low) (now high) × Stopped n (now t) j m × (0 < n) × (length (now x) ≡ greatestOrder) ⌝ }
-    ensures { λ r. ⌜ Searched (first (λ v. shows n (at n (now (low .entry))) (at n (now (high .entry))) (nth v)) (tried n ++ (solved n (stoppedAt (now (t .entry)) j m) (pos 1) ++ solved n (stoppedAt (now (t .entry)) j m) (pos 64)))) r 0 n (now (x .exit)) ⌝ }
+    requires { ⌜ CheckedTables n (now low) (now high) × Stopped n (now t) j m × (length (now x) ≡ greatestOrder) ⌝ }
+    ensures { λ r. ⌜ Searched (first (λ v. shows n (at n (now (low .entry))) (at n (now (high .entry))) (nth v)) (tried n ++ (solved n
+        (stoppedAt (now (t .entry)) j m) (pos 1) ++ solved n (stoppedAt (now (t .entry)) j m) (pos 64)))) r 0 n (now (x .exit)) ⌝ }
 {
     if tried::first_tried(n, low, high, x) {
         return true;

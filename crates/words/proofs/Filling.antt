@@ -7,7 +7,7 @@ use native.Mathlib.Omega.{arith}
 use lib.ListN.{length, set, take, drop, getD, replicate, length-append, length-drop}
 use lib.Seq.{drop-cons, set-at, append-snoc, take-at, drop-drop}
 use lib.IntN.{ℤ, pos}
-use mir.Syntax.{Width}
+use mir.Syntax.{Width, w64}
 use mir.Val.{bytes, ofZ}
 use Rattle.words.specs.Numbers.{toLeBytes, signedAt, withUnsigned, withSigned, numbersOf, paddedNumbersOf, bytesOf}
 use Rattle.words.proofs.Laws.{length-toLeBytes, length-numbersOf, length-bytesOf}
@@ -47,6 +47,6 @@ module _ (w : Width) where
       → take (suc i * bytes w) (withSigned w s (i * bytes w) (getD a i (pos 0))) ≡ bytesOf w a (suc i)
   unfolding bytesOf withSigned withUnsigned
   fill-front a s i e =
-      let b = toLeBytes (bytes w) (ofZ w (getD a i (pos 0))) in
+      let b = toLeBytes (bytes w) (ofZ w64 (getD a i (pos 0))) in
       let z : length (bytesOf w a i ++ b) ≡ suc i * bytes w = rw (length-append, length-bytesOf w a i, length-toLeBytes) (omega arith) in
       rw e (take-at (bytesOf w a i ++ b) (drop (i * bytes w + bytes w) s) (suc i * bytes w) z)

@@ -5,17 +5,14 @@ use Prim.Native.Nat.{ℕ, zero, suc, _+_, _-_, _*_, _/_, _%_, _^_, _≤_, _<_}
 use native.Mathlib.Nat.{pow-succ', one-le-pow, zero-mul, add-zero}
 use native.Mathlib.Numerals.{add-one}
 use native.Mathlib.Omega.{arith}
-use borrow.Author.Count.{below-more}
-use lib.ListN.{length, set, take, drop, getD, length-append, length-drop, length-replicate, take-append-drop, List·getD-append}
-use lib.Seq.{take-add, take-at, take-suc, take-append-le, length-take-le}
-use lib.Seq.{drop-at, drop-cons, drop-drop, drop-append-le, drop-set-lt, getD-at, getD-drop, take-suc-set, append-snoc}
-use lib.IntN.{ℤ, pos}
+use lib.ListN.{length, set, take, drop, getD, length-append, length-drop, length-replicate, take-append-drop}
+use lib.Seq.{take-add, take-at, take-suc, length-take-le, drop-at, drop-cons, drop-drop, drop-set-lt, getD-at, getD-drop, take-suc-set, append-snoc}
+use lib.IntN.{ℤ, pos, negsuc}
 use mir.Syntax.{Width, w8, w16, w32, w64, w128}
-use mir.Val.{bits, bytes, toZ, ofZ, SFits, Fits}
-use mir.Facts.{toZ-ofZ, ofZ-toZ, fits-ofZ, sfits-toZ, clash}
-use Rattle.words.specs.Numbers.{fromLeBytes, toLeBytes, unsignedAt, signedAt, withUnsigned, withSigned}
-use Rattle.words.specs.Numbers.{numbersOf, paddedNumbersOf, bytesOf}
-use Rattle.words.proofs.Lists.{drop-past}
+use mir.Val.{bits, bytes, ofZ, SFits, Fits}
+use mir.Facts.{toZ-ofZ, ofZ-toZ, fits-ofZ, sfits-toZ}
+use Rattle.words.specs.Numbers.{fromLeBytes, toLeBytes, unsignedAt, signedAt, withUnsigned, withSigned, numbersOf, paddedNumbersOf, bytesOf}
+use Rattle.words.proofs.Sign.{Narrow}
 
 -- every element is a byte (past the end `getD` reads 0)
 pub record AllBytes (s : List ℕ) : Type 0 where
@@ -64,6 +61,16 @@ unfolding toLeBytes
 length-toLeBytes zero u = refl
 length-toLeBytes (suc k) u = ap suc (length-toLeBytes k (u / 256))
 
+-- what stands above k bytes is not among them
+toLeBytes-above : (k u m : ℕ) → toLeBytes k (u + 256 ^ k * m) ≡ toLeBytes k u
+unfolding toLeBytes
+toLeBytes-above zero u m = refl
+toLeBytes-above (suc k) u m =
+    let e : 256 ^ suc k * m ≡ 256 * (256 ^ k * m) = rw (pow-succ' 256 k) (omega arith) in
+    let d : (u + 256 * (256 ^ k * m)) / 256 ≡ u / 256 + 256 ^ k * m = omega arith in
+    let r : (u + 256 * (256 ^ k * m)) % 256 ≡ u % 256 = omega arith in
+    rw (e, r, d, toLeBytes-above k (u / 256) m)
+
 -- unsigned numbers at a place
 fromLeBytes-below : (k : ℕ) (s : List ℕ) → AllBytes s → fromLeBytes (take k s) < 256 ^ k
 unfolding fromLeBytes
@@ -79,13 +86,6 @@ unsignedAt-below k s at h = fromLeBytes-below k (drop at s) (drop-bytes at s h)
 pub unsignedAt-suc : (k : ℕ) (s : List ℕ) (at : ℕ) → at < length s → unsignedAt (suc k) s at ≡ getD s at 0 + 256 * unsignedAt k s (suc at)
 unfolding unsignedAt fromLeBytes
 unsignedAt-suc k s at h = rw (drop-cons s at 0 h)
-
-length-front : (k : ℕ) (s : List ℕ) (at u : ℕ) → at ≤ length s → length (take at s ++ toLeBytes k u) ≡ at + k
-length-front k s at u h = rw (length-append, length-toLeBytes, length-take-le at s)
-
-pub length-withUnsigned : (k : ℕ) (s : List ℕ) (at u : ℕ) → at + k ≤ length s → length (withUnsigned k s at u) ≡ length s
-unfolding withUnsigned
-length-withUnsigned k s at u h = rw (length-append, length-front k s at u (omega arith), length-drop) (omega arith)
 
 pub withUnsigned-zero : (s : List ℕ) (at u : ℕ) → withUnsigned 0 s at u ≡ s
 unfolding withUnsigned toLeBytes
@@ -104,28 +104,6 @@ unsignedAt-put : (k : ℕ) (p t : List ℕ) (at u : ℕ) → length p ≡ at →
 unfolding unsignedAt
 unsignedAt-put k p t at u e h =
     rw (append-assoc p, drop-at p (toLeBytes k u ++ t) at e, take-at (toLeBytes k u) t k (length-toLeBytes k u), fromLeBytes-toLeBytes k u h)
-
-pub unsignedAt-same : (k : ℕ) (s : List ℕ) (at u : ℕ) → u < 256 ^ k → at ≤ length s → unsignedAt k (withUnsigned k s at u) at ≡ u
-unfolding withUnsigned
-unsignedAt-same k s at u h l = unsignedAt-put k (take at s) (drop (at + k) s) at u (length-take-le at s l) h
-
--- numbers before and behind it stay
-unsignedAt-front : (j : ℕ) (p t : List ℕ) (i : ℕ) → i + j ≤ length p → unsignedAt j (p ++ t) i ≡ unsignedAt j p i
-unfolding unsignedAt
-unsignedAt-front j p t i h = rw (drop-append-le i p t (omega arith), take-append-le j (drop i p) t (rw length-drop (omega arith)))
-
-pub unsignedAt-before : (j k : ℕ) (s : List ℕ) (at u i : ℕ) → i + j ≤ at → at ≤ length s → unsignedAt j (withUnsigned k s at u) i ≡ unsignedAt j s i
-unfolding withUnsigned
-unsignedAt-before j k s at u i h l =
-    let f : i + j ≤ length (take at s) = rw (length-take-le at s l) h in
-    rw (append-assoc (take at s), unsignedAt-front j (take at s) (toLeBytes k u ++ drop (at + k) s) i f)
-    (sym (unsignedAt-front j (take at s) (drop at s) i f) ∙ ap (λ (r : List ℕ). unsignedAt j r i) (take-append-drop at s))
-
-pub unsignedAt-behind : (j k : ℕ) (s : List ℕ) (at u i : ℕ) → at + k ≤ i → at ≤ length s → unsignedAt j (withUnsigned k s at u) i ≡ unsignedAt j s i
-unfolding unsignedAt withUnsigned
-unsignedAt-behind j k s at u i h l =
-    let e : i ≡ at + k + (i - (at + k)) = omega arith in
-    rw (e, drop-past (take at s ++ toLeBytes k u) (drop (at + k) s) (at + k) (i - (at + k)) (length-front k s at u l), drop-drop)
 
 -- the number that was read, written where it was, changes nothing
 bytes-at : (k : ℕ) (s : List ℕ) (at : ℕ) → AllBytes s → at + k ≤ length s → toLeBytes k (unsignedAt k s at) ≡ take k (drop at s)
@@ -163,26 +141,6 @@ module _ (w : Width) where
   unfolding signedAt
   signedAt-fits s at b = sfits-toZ (unsignedAt-fits s at b)
 
-  pub length-withSigned : (s : List ℕ) (at : ℕ) (v : ℤ) → at + bytes w ≤ length s → length (withSigned w s at v) ≡ length s
-  unfolding withSigned
-  length-withSigned s at v h = length-withUnsigned (bytes w) s at (ofZ w v) h
-
-  pub signedAt-same : (s : List ℕ) (at : ℕ) (v : ℤ) → SFits w v → at ≤ length s → signedAt w (withSigned w s at v) at ≡ v
-  unfolding signedAt withSigned
-  signedAt-same s at v f h = rw (unsignedAt-same (bytes w) s at (ofZ w v) (bits-below f) h) (toZ-ofZ f)
-
-  pub signedAt-before : (s : List ℕ) (at : ℕ) (v : ℤ) (i : ℕ) → i + bytes w ≤ at → at ≤ length s → signedAt w (withSigned w s at v) i ≡ signedAt w s i
-  unfolding signedAt withSigned
-  signedAt-before s at v i h l = ap (toZ w) (unsignedAt-before (bytes w) (bytes w) s at (ofZ w v) i h l)
-
-  pub signedAt-behind : (s : List ℕ) (at : ℕ) (v : ℤ) (i : ℕ) → at + bytes w ≤ i → at ≤ length s → signedAt w (withSigned w s at v) i ≡ signedAt w s i
-  unfolding signedAt withSigned
-  signedAt-behind s at v i h l = ap (toZ w) (unsignedAt-behind (bytes w) (bytes w) s at (ofZ w v) i h l)
-
-  pub withSigned-same : (s : List ℕ) (at : ℕ) → AllBytes s → at + bytes w ≤ length s → withSigned w s at (signedAt w s at) ≡ s
-  unfolding withSigned
-  withSigned-same s at b h = rw (bits-signedAt s at b) (withUnsigned-same (bytes w) s at b h)
-
   -- lists of numbers
   pub length-numbersOf : (s : List ℕ) (k : ℕ) → length (numbersOf w s k) ≡ k
   unfolding numbersOf
@@ -198,18 +156,26 @@ module _ (w : Width) where
   length-bytesOf a zero = omega arith
   length-bytesOf a (suc k) = rw (length-append, length-bytesOf a k, length-toLeBytes) (omega arith)
 
-  pub getD-numbersOf : (s : List ℕ) (k i : ℕ) → i < k → getD (numbersOf w s k) i (pos 0) ≡ signedAt w s (i * bytes w)
-  unfolding numbersOf
-  getD-numbersOf s zero i h = clash h (omega arith)
-  getD-numbersOf s (suc k) i h =
-      let x = signedAt w s (k * bytes w) in
-      below-more (λ j. getD (numbersOf w s k ++ (x ∷ [])) j (pos 0) ≡ signedAt w s (j * bytes w)) k
-      (λ j l. List·getD-append (numbersOf w s k) (x ∷ []) (pos 0) j (rw length-numbersOf l) ∙ getD-numbersOf s k j l)
-      (getD-at (numbersOf w s k) x [] (pos 0) k (length-numbersOf s k)) i (omega arith)
+-- what is read where something was written, at a width of at most 64 bits
+module _ {w : Width} (n : Narrow w) where
+  -- the low bytes of a number that fits are those of its own bits
+  low-bytes : (v : ℤ) → SFits w v → toLeBytes (bytes w) (ofZ w64 v) ≡ toLeBytes (bytes w) (ofZ w v)
+  low-bytes (pos m) f = refl
+  low-bytes (negsuc m) f =
+      let e : 2 ^ 64 - suc m ≡ 2 ^ bits w - suc m + 2 ^ bits w * n .turns = omega (arith, n .whole, n .halves, f .sfits) in
+      rw (e, ← pow-bytes w) (toLeBytes-above (bytes w) (256 ^ bytes w - suc m) (n .turns))
 
-  pub getD-paddedNumbersOf : (n : ℕ) (s : List ℕ) (k i : ℕ) → i < k → getD (paddedNumbersOf w n s k) i (pos 0) ≡ signedAt w s (i * bytes w)
-  unfolding paddedNumbersOf
-  getD-paddedNumbersOf n s k i h = List·getD-append (numbersOf w s k) _ (pos 0) i (rw length-numbersOf h) ∙ getD-numbersOf s k i h
+  low-bytes-signedAt : (s : List ℕ) (at : ℕ) → AllBytes s → toLeBytes (bytes w) (ofZ w64 (signedAt w s at)) ≡ toLeBytes (bytes w) (unsignedAt (bytes w) s at)
+  low-bytes-signedAt s at b = low-bytes (signedAt w s at) (signedAt-fits w s at b) ∙ ap (toLeBytes (bytes w)) (bits-signedAt w s at b)
+
+  pub signedAt-same : (s : List ℕ) (at : ℕ) (v : ℤ) → SFits w v → at ≤ length s → signedAt w (withSigned w s at v) at ≡ v
+  unfolding signedAt withSigned withUnsigned
+  signedAt-same s at v f h =
+      rw (low-bytes v f, unsignedAt-put (bytes w) (take at s) (drop (at + bytes w) s) at (ofZ w v) (length-take-le at s h) (bits-below w f)) (toZ-ofZ f)
+
+  pub withSigned-same : (s : List ℕ) (at : ℕ) → AllBytes s → at + bytes w ≤ length s → withSigned w s at (signedAt w s at) ≡ s
+  unfolding withSigned withUnsigned
+  withSigned-same s at b h = rw (low-bytes-signedAt s at b) (withUnsigned-same (bytes w) s at b h)
 
   -- numbers that are written out and read again, whatever stands behind their bytes
   pub numbersOf-bytesOf : (a : List ℤ) (t : List ℕ) (k : ℕ) → AllFit w a → k ≤ length a → numbersOf w (bytesOf w a k ++ t) k ≡ take k a
@@ -217,7 +183,8 @@ module _ (w : Width) where
   numbersOf-bytesOf a t zero f h = refl
   numbersOf-bytesOf a t (suc k) f h =
       let u = ofZ w (getD a k (pos 0)) in
-      rw (unsignedAt-put (bytes w) (bytesOf w a k) t (k * bytes w) u (length-bytesOf a k) (bits-below (f .each k)), append-assoc (bytesOf w a k))
+      let e = unsignedAt-put (bytes w) (bytesOf w a k) t (k * bytes w) u (length-bytesOf w a k) (bits-below w (f .each k)) in
+      rw (low-bytes (getD a k (pos 0)) (f .each k), e, append-assoc (bytesOf w a k))
       (rw (numbersOf-bytesOf a (toLeBytes (bytes w) u ++ t) k f (omega arith), toZ-ofZ (f .each k), take-suc a k (pos 0) (omega arith)))
 
   -- bytes that are read and written out again, whatever stands behind the numbers
@@ -226,6 +193,6 @@ module _ (w : Width) where
   bytesOf-numbersOf s t zero b h = rw (zero-mul (bytes w))
   bytesOf-numbersOf s t (suc k) b h =
       let x = signedAt w s (k * bytes w) in
-      let n : suc k * bytes w ≡ k * bytes w + bytes w = omega arith in
-      rw (append-snoc (numbersOf w s k), getD-at (numbersOf w s k) x t (pos 0) k (length-numbersOf s k), bytesOf-numbersOf s (x ∷ t) k b (omega arith))
-      (rw (bits-signedAt s (k * bytes w) b, bytes-at (bytes w) s (k * bytes w) b (omega arith), n, take-add))
+      let m : suc k * bytes w ≡ k * bytes w + bytes w = omega arith in
+      rw (append-snoc (numbersOf w s k), getD-at (numbersOf w s k) x t (pos 0) k (length-numbersOf w s k), bytesOf-numbersOf s (x ∷ t) k b (omega arith))
+      (rw (low-bytes-signedAt s (k * bytes w) b, bytes-at (bytes w) s (k * bytes w) b (omega arith), m, take-add))

@@ -1,7 +1,7 @@
 -- The sign of a number of 64 bits: what the code's tests say of it, and what -1 - z is. The bits of a number of 32 or 64 bits, read as signed.
 use mathlib.Core.Path.{_≡_, refl, sym, ap, _∙_}
 use mathlib.Core.Bool.{true, false, cond}
-use Prim.Native.Nat.{ℕ, zero, suc, _-_, _*_, _/_, _^_, _<_, _≤_}
+use Prim.Native.Nat.{ℕ, zero, suc, _+_, _-_, _*_, _/_, _^_, _<_, _≤_}
 use native.Mathlib.Nat.{zero-add}
 use native.Mathlib.Omega.{arith}
 use borrow.Author.Tests.{le-ltb, leb-false}
@@ -49,17 +49,19 @@ flip-pos : (k : ℕ) → negsuc 0 -ℤ pos k ≡ negsuc k
 flip-pos zero = refl
 flip-pos (suc k) = ap (λ (n : ℕ). negsuc (suc n)) (zero-add k)
 
--- a width of at most 64 bits
+-- a width of at most 64 bits, whose values go `turns` times and once more into the 64 bits'
 pub record Narrow (w : Width) : Type 0 where
   pub few : bytes w ≤ 8
   pub halves : 2 ^ bits w ≡ 2 * 2 ^ hbits w
   pub small : 2 ^ hbits w ≤ 2 ^ 63
+  pub turns : ℕ
+  pub whole : 2 ^ 64 ≡ 2 ^ bits w + 2 ^ bits w * turns
 
 pub narrow-of : (size : ℕ) → Narrow (widthOf size)
 narrow-of size =
     elim (eqb size 4) as (λ b. Narrow (cond b w32 w64)) [
-      | true ↦ record { few = omega arith; halves = refl; small = omega arith }
-      | false ↦ record { few = omega arith; halves = refl; small = omega arith }
+      | true ↦ record { few = omega arith; halves = refl; small = omega arith; turns = 2 ^ 32 - 1; whole = refl }
+      | false ↦ record { few = omega arith; halves = refl; small = omega arith; turns = 0; whole = refl }
     ]
 
 -- its bits, read as signed

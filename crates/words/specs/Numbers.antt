@@ -1,4 +1,4 @@
--- Numbers in lists of bytes: low byte first, signed numbers in two's complement. A number of width w takes `bytes w` bytes.
+-- R1.6 of docs/RULES.md: numbers in lists of bytes, low byte first, signed ones in two's complement. Width w takes `bytes w` bytes.
 use Prim.Native.Nat.{ℕ, zero, suc, _+_, _-_, _*_, _/_, _%_}
 use mathlib.Core.Bool.{cond}
 use mathlib.Core.List.{List, [], _∷_, _++_}
@@ -34,9 +34,9 @@ signedAt w s at = toZ w (unsignedAt (bytes w) s at)
 unfoldable pub withUnsigned : ℕ → List ℕ → ℕ → ℕ → List ℕ
 withUnsigned k s at u = take at s ++ toLeBytes k u ++ drop (at + k) s
 
--- s with the bytes of the signed number v of width w at `at`
+-- s with the signed number v at `at`, at width w: the low bytes of its 64 bits, which are its own where it fits w
 unfoldable pub withSigned : Width → List ℕ → ℕ → ℤ → List ℕ
-withSigned w s at v = withUnsigned (bytes w) s at (ofZ w v)
+withSigned w s at v = withUnsigned (bytes w) s at (ofZ w64 v)
 
 -- the first k signed numbers of width w in s
 unfoldable pub numbersOf : Width → List ℕ → ℕ → List ℤ
@@ -47,7 +47,7 @@ numbersOf w s (suc k) = numbersOf w s k ++ (signedAt w s (k * bytes w) ∷ [])
 unfoldable pub paddedNumbersOf : Width → ℕ → List ℕ → ℕ → List ℤ
 paddedNumbersOf w n s k = numbersOf w s k ++ replicate (n - k) (pos 0)
 
--- the bytes of the first k numbers of a, each of width w
+-- the bytes of the first k numbers of a, each at width w
 unfoldable pub bytesOf : Width → List ℤ → ℕ → List ℕ
 bytesOf w a zero = []
-bytesOf w a (suc k) = bytesOf w a k ++ toLeBytes (bytes w) (ofZ w (getD a k (pos 0)))
+bytesOf w a (suc k) = bytesOf w a k ++ toLeBytes (bytes w) (ofZ w64 (getD a k (pos 0)))

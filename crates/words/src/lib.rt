@@ -1,12 +1,13 @@
-// Numbers in byte slices: low byte first, signed numbers in two's complement and 4 or 8 bytes.
+// R1.6 of docs/RULES.md, numbers in byte slices: low byte first, signed numbers in two's complement. Loads and stores are of the same
+// sizes, 4 or 8 bytes.
 ghost use mathlib.Core.Path.{_≡_};
 ghost use mathlib.Core.List.{_++_};
 ghost use Prim.Native.Nat.{_+_, _-_, _*_, _^_, _<_, _≤_};
 ghost use lib.ListN.{length, drop};
 ghost use lib.IntN.{natAbs};
-ghost use mir.Syntax.{w32, w64};
+ghost use mir.Syntax.{w64};
 ghost use mir.Val.{toZ, ofZ, bits, bytes, Fits};
-ghost use Rattle.words.specs.Numbers.{widthOf, unsignedAt, signedAt, withUnsigned, withSigned, numbersOf, paddedNumbersOf, bytesOf};
+ghost use Rattle.words.specs.Numbers.{widthOf, unsignedAt, signedAt, withUnsigned, withSigned, numbersOf, bytesOf};
 
 // The bytes of an i64.
 pub const SIZE: usize = 8;
@@ -83,19 +84,11 @@ pub fn load_unsigned(b: &[u8], at: usize, k: usize) -> u64
 }
 
 // The signed number of `size` bytes at `at`.
-fn load_signed(b: &[u8], at: usize, size: usize) -> i64
+pub fn load_signed(b: &[u8], at: usize, size: usize) -> i64
     requires { ⌜ (size ≡ bytes (widthOf size)) × (at + size ≤ length (now b)) ⌝ }
     ensures { λ r. ⌜ r ≡ signedAt (widthOf size) (now (b .entry)) at ⌝ }
 {
     signed_of(load_unsigned(b, at, size), size)
-}
-
-// The number at `at`.
-pub fn load_i64(b: &[u8], at: usize) -> i64
-    requires { ⌜ at + bytes w64 ≤ length (now b) ⌝ }
-    ensures { λ r. ⌜ r ≡ signedAt w64 (now (b .entry)) at ⌝ }
-{
-    load_signed(b, at, SIZE)
 }
 
 // The k low bytes of u, to the place `at`.
@@ -112,12 +105,12 @@ fn store_unsigned(b: &mut [u8], at: usize, k: usize, u: u64)
     }
 }
 
-// v, to the place `at`.
-pub fn store_i64(b: &mut [u8], at: usize, v: i64)
-    requires { ⌜ at + bytes w64 ≤ length (now b) ⌝ }
-    ensures { λ _. ⌜ now (b .exit) ≡ withSigned w64 (now (b .entry)) at v ⌝ }
+// v in `size` bytes, to the place `at`.
+pub fn store_signed(b: &mut [u8], at: usize, size: usize, v: i64)
+    requires { ⌜ (size ≡ bytes (widthOf size)) × (at + size ≤ length (now b)) ⌝ }
+    ensures { λ _. ⌜ now (b .exit) ≡ withSigned (widthOf size) (now (b .entry)) at v ⌝ }
 {
-    store_unsigned(b, at, SIZE, bits_of(v));
+    store_unsigned(b, at, size, bits_of(v));
 }
 
 // The first k numbers of b, of `size` bytes each, to the start of out.
@@ -133,35 +126,16 @@ pub fn load_numbers(b: &[u8], out: &mut [i64], k: usize, size: usize)
     }
 }
 
-// The first k numbers of b, and zeros after them.
-pub fn load_vector(b: &[u8], k: usize) -> [i64; 8]
-    requires { ⌜ (k * bytes w64 ≤ length (now b)) × (k ≤ 8) ⌝ }
-    ensures { λ r. ⌜ r ≡ paddedNumbersOf w64 8 (now (b .entry)) k ⌝ }
-{
-    let mut a = [0i64; 8];
-    load_numbers(b, &mut a, k, SIZE);
-    a
-}
-
-// The first k short numbers of b, and zeros after them.
-pub fn load_short_table(b: &[u8], k: usize) -> [i64; 64]
-    requires { ⌜ (k * bytes w32 ≤ length (now b)) × (k ≤ 64) ⌝ }
-    ensures { λ r. ⌜ r ≡ paddedNumbersOf w32 64 (now (b .entry)) k ⌝ }
-{
-    let mut a = [0i64; 64];
-    load_numbers(b, &mut a, k, SHORT_SIZE);
-    a
-}
-
-// The first k numbers of a, to the start of out.
-pub fn store_numbers(a: &[i64], out: &mut [u8], k: usize)
-    requires { ⌜ (k ≤ length (now a)) × (k * bytes w64 ≤ length (now out)) ⌝ }
-    ensures { λ _. ⌜ now (out .exit) ≡ bytesOf w64 (now (a .entry)) k ++ drop (k * bytes w64) (now (out .entry)) ⌝ }
+// The first k numbers of a, of `size` bytes each, to the start of out.
+pub fn store_numbers(a: &[i64], out: &mut [u8], k: usize, size: usize)
+    requires { ⌜ (size ≡ bytes (widthOf size)) × (k ≤ length (now a)) × (k * size ≤ length (now out)) ⌝ }
+    ensures { λ _. ⌜ now (out .exit) ≡ bytesOf (widthOf size) (now (a .entry)) k ++ drop (k * bytes (widthOf size)) (now
+        (out .entry)) ⌝ }
 {
     let mut i = 0;
     while i < k {
         let v = a[i];
-        store_i64(out, i * SIZE, v);
+        store_signed(out, i * size, size, v);
         i += 1;
     }
 }

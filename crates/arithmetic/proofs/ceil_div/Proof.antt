@@ -2,7 +2,7 @@ use mathlib.Core.Path.{_∙_}
 use mathlib.Core.List.{[], _∷_}
 use native.Mathlib.Omega.{arith}
 use borrow.Author.Needs.{needs}
-use lib.IntN.{pos, +ℤ-idl}
+use lib.IntN.{negℤ, +ℤ-idl}
 use Rattle.integers.specs.Numbers.{Within}
 use Rattle.integers.specs.Division.{ceilDiv}
 use Rattle.integers.proofs.Solver.{_&_, order, solver}
@@ -41,4 +41,4 @@ ceil-div-spec =
     (tie.spec negated (λ c κs. search needs) back
     (λ c.
     let s = c .before in
-    clean (back c) ∙ rw (clean-result (c .floor-div), c .floor-div .ensures, clean (negated s), clean (s .fits .a), clean (s .fits .d), +ℤ-idl, +ℤ-idl)))
+    clean (back c) ∙ rw (clean-result (c .floor-div), c .floor-div .ensures, clean (negated s), clean (s .fits .a), clean (s .fits .d), +ℤ-idl (negℤ (s .args .a)), +ℤ-idl)))

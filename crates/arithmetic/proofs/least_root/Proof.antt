@@ -1,14 +1,14 @@
 -- By the test. What is taken off the quotient, and what is added to the root, fit by their size alone.
 use mathlib.Core.Path.{_≡_, _∙_}
 use mathlib.Core.List.{[], _∷_}
-use Prim.Native.Nat.{_^_}
+use Prim.Native.Nat.{_+_}
 use native.Mathlib.Omega.{arith}
 use borrow.Author.Needs.{needs}
 use lib.IntN.{ℤ, pos}
 use lib.Signed.{_≤ℤ_, _<ℤ_}
 use Rattle.integers.specs.Numbers.{Within}
 use Rattle.integers.specs.Division.{ceilDiv}
-use Rattle.integers.proofs.Solver.{_&_, order, solver}
+use Rattle.integers.proofs.Solver.{order, solver}
 use Rattle.integers.proofs.Machine.{clean, clean-result, fits-within, fits-literal, le-yes, le-no, within-low, within-high, within-in}
 use Rattle.arithmetic.specs.Contracts.{boundRange}
 use Rattle.arithmetic.proofs.Quotients.{within-ceil, nonneg-within, within-whole-root, fits-bound, root-none, root-some}
@@ -52,7 +52,7 @@ added c =
     let r = c .whole-root .result in
     let w = root c in
     rw (clean-result (c .whole-root))
-    (fits-within {m = 2 ^ 59} (within-in (order (r ∷ []) (within-low w) (search solver depth 40 fits 20000) (omega arith)) (order (r ∷ []) (within-high w) (search solver depth 40 fits 20000) (omega arith))) (omega arith))
+    (fits-within {m = boundRange + 1} (within-in (order (r ∷ []) (within-low w) (search solver depth 40 fits 20000) (omega arith)) (order (r ∷ []) (within-high w) (search solver depth 40 fits 20000) (omega arith))) (omega arith))
 
 pub least-root-spec : {M : Type 1} → statement M
 least-root-spec =

@@ -23,20 +23,21 @@ abbrev μ-loop : tie.MeasureT-loop
 multiplied : tie.Need-mul-s-3 Inv-loop μ-loop
 multiplied c =
     let b = c .before .before in
-    rw (clean-element _ (c .before .s .given), clean-element _ (c .s2 .given)) (term-fits (b .before .before .pre) (b .loop-test .taken))
+    rw (clean-element (nth (b .before .before .args .x .now) (b .before .loop .k)) (c .before .s .given), clean-element _ (c .s2 .given)) (term-fits (b .before .before .pre) (b .loop-test .taken))
 
 add-s : tie.Need-add-s Inv-loop μ-loop
 add-s c =
     let b = c .before .before in
-    rw (clean (multiplied c), clean-element _ (c .before .s .given), clean-element _ (c .s2 .given), b .before .loop .inv .1)
+    rw (clean (multiplied c), clean-element (nth (b .before .before .args .x .now) (b .before .loop .k)) (c .before .s .given), clean-element _ (c .s2 .given), b .before .loop .inv .1)
     (terms-add (b .before .before .pre) (b .loop-test .taken))
 
 loop-again : tie.Need-loop-again Inv-loop μ-loop
 loop-again c =
-    let l = c .before .before .before .loop in (
+    let b = c .before .before .before in
+    let l = b .loop in (
       omega arith,
       clean (add-s c)
-          ∙ rw (clean (multiplied c), clean-element _ (c .before .s .given), clean-element _ (c .s2 .given), l .inv .1, add-one) (sym (sum-suc (l .k) _)),
+          ∙ rw (clean (multiplied c), clean-element (nth (b .before .args .x .now) (l .k)) (c .before .s .given), clean-element _ (c .s2 .given), l .inv .1, add-one) (sym (sum-suc (l .k) _)),
     )
 
 pub product-sum-spec : {M : Type 1} → statement M

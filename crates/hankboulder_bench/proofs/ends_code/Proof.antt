@@ -23,7 +23,7 @@ ends-code-spec =
     (λ c. search needs)
     (λ c.
     let m = c .before .before .before .before in
-    rw (sym (m .check-tables .ensures) ∙ c .before .before .checked .given .1) (read-i64 (c .refusal-number .result) (omega arith) ∙ ap pos (c .refusal-number .ensures)))
+    rw (sym (m .check-bounds .ensures) ∙ c .before .before .checked .given .1) (read-i64 (c .refusal-number .result) (omega arith) ∙ ap pos (c .refusal-number .ensures)))
     (λ c. search needs)
     (λ c κs.
     let s = c .before .before .before in
@@ -31,11 +31,11 @@ ends-code-spec =
       order = s .pre .0;
       low-length = s .pre .1;
       high-length = s .pre .2;
-      bounds = passed-bounds _ _ _ (sym (c .before .before .check-tables .ensures) ∙ c .enum-told .given .1);
+      bounds = passed-bounds _ _ _ (sym (c .before .before .check-bounds .ensures) ∙ c .enum-told .given .1);
     })
     (λ c.
     let e = c .before .before in
-    rw (sym (e .before .before .check-tables .ensures) ∙ e .enum-told .given .1) (sym (ap code (sym (c .before .ends .ensures) ∙ c .if1 .taken))))
+    rw (sym (e .before .before .check-bounds .ensures) ∙ e .enum-told .given .1) (sym (ap code (sym (c .before .ends .ensures) ∙ c .if1 .taken))))
     (λ c.
     let e = c .before .before in
-    rw (sym (e .before .before .check-tables .ensures) ∙ e .enum-told .given .1) (sym (ap code (sym (c .before .ends .ensures) ∙ c .if1 .left)))))
+    rw (sym (e .before .before .check-bounds .ensures) ∙ e .enum-told .given .1) (sym (ap code (sym (c .before .ends .ensures) ∙ c .if1 .left)))))

@@ -44,8 +44,8 @@ second-bound-is : (c : tie.After-second-bound) →
 second-bound-is c =
     let h = c .before .before in
     let s = h .before .before .before .before in
-    c .second-bound .ensures
-    ∙ rw (clean (s .fits .d)) (second-is (s .args .n) (nth (s .args .c .now)) (s .args .d) (s .args .t) (nth (s .args .tk .now)) (nth (s .args .g .now)) (filled h))
+    rw (clean (s .fits .d), second-is (s .args .n) (nth (s .args .c .now)) (s .args .d) (s .args .t) (nth (s .args .tk .now)) (nth (s .args .g .now)) (filled h))
+    at (c .second-bound .ensures)
 
 second-yes : (c : tie.Else2) →
     let a = c .before .before .before .before .before .before .before .args in

@@ -26,14 +26,14 @@ abbrev μ-loop : tie.MeasureT-loop
 asked : tie.Need-ceil-div-requires Inv-loop μ-loop
 asked c κs =
     let s = c .before .before .before .before in
-    rw (clean-element _ (c .ceil-div-arg .given), clean (s .fits .t)) (gradient-numerator (s .pre .0) (c .before .loop-test .taken), s .pre .0 .step)
+    rw (clean (s .fits .t), clean-element _ (c .ceil-div-arg .given)) (gradient-numerator (s .pre .0) (c .before .loop-test .taken), s .pre .0 .step)
 
 quotient : (c : tie.After-ceil-div Inv-loop μ-loop) →
     let s = c .before .before .before .before .before .args in
     toZ w64 (ofZ w64 (c .ceil-div .result)) ≡ ceilDiv (nth (s .g .now) (c .before .before .before .loop .k)) (s .t)
 quotient c =
     let f = c .before .before .before .before .before .fits in
-    clean-result (c .ceil-div) ∙ c .ceil-div .ensures ∙ rw (clean-element _ (c .before .ceil-div-arg .given), clean (f .t))
+    clean-result (c .ceil-div) ∙ c .ceil-div .ensures ∙ rw (clean (f .t), clean-element _ (c .before .ceil-div-arg .given))
 
 root : (c : tie.After-least-root Inv-loop μ-loop) → toZ w64 (ofZ w64 (c .least-root .result)) ≡ leastRoot (c .before .args .t) (c .before .args .b)
 root c = let f = c .before .fits in clean-result (c .least-root) ∙ c .least-root .ensures ∙ rw (clean (f .t), clean (f .b))

@@ -1,20 +1,21 @@
 -- The loop's invariant: the sides passed are written.
 use mathlib.Core.Path.{_≡_, _∙_}
 use mathlib.Core.List.{[], _∷_}
-use Prim.Native.Nat.{_-_, _^_, _≤_}
+use Prim.Native.Nat.{_-_, _≤_}
 use native.Mathlib.Omega.{arith}
 use native.Mathlib.Numerals.{add-one}
 use mir.Syntax.{w64}
 use mir.Val.{toZ, ofZ}
-use lib.IntN.{ℤ}
+use lib.IntN.{ℤ, pos, negℤ}
+use lib.Signed.{_≤ℤ_}
 use Rattle.integers.specs.Numbers.{Within}
-use Rattle.integers.proofs.Solver.{_&_, order, solver}
+use Rattle.integers.proofs.Solver.{Both, _&_, order, solver}
 use Rattle.integers.proofs.Machine.{clean, clean-element, clean-result, fits-within, within-low, within-high, within-in}
 use Rattle.tables.specs.Ranges.{centreRange}
 use Rattle.tables.specs.Matrix.{nth}
 use Rattle.sides.specs.Sides.{smallerHalf}
-use Rattle.sides.specs.Contracts.{SidesIn}
-use Rattle.sides.proofs.HalfSides.{side-within, sides-none, sides-more}
+use Rattle.sides.specs.Contracts.{halfRange, sideRange, SidesIn}
+use Rattle.sides.proofs.HalfSides.{smaller-within, sides-none, sides-more}
 use Rattle.sides.proofs.write_sides.Statement.{statement}
 use Rattle.sides.proofs.write_sides.Tie as tie
 
@@ -29,36 +30,39 @@ half : (c : tie.After-half-side Inv-loop μ-loop) →
     let s = c .before .before .before .before .before .args in
     toZ w64 (ofZ w64 (c .half-side .result)) ≡ smallerHalf (nth (s .y .now) (l .k)) (nth (s .tk .now) (l .k)) (s .b)
 half c =
-    let f = c .before .before .before .before .before .fits in
+    let l = c .before .before .before .before in
+    let s = l .before in
     clean-result (c .half-side) ∙ c .half-side .ensures
-    ∙ rw (clean-element _ (c .before .before .half-side-arg .given), clean-element _ (c .before .half-side-arg2 .given), clean (f .b))
+    ∙ rw (clean (s .fits .b), clean-element (nth (s .args .y .now) (l .loop .k)) (c .before .before .half-side-arg .given), clean-element _ (c .before .half-side-arg2 .given))
 
--- the two ends fit by the sizes of c(k) and h alone
+-- c(k) and h, by whose sizes alone the two ends fit
+module _ (c : tie.After-x Inv-loop μ-loop) where
+  abbrev x : ℤ
+  x = toZ w64 (ofZ w64 (nth (c .before .before .before .before .before .before .args .c .now) (c .before .before .before .before .before .loop .k)))
+
+  abbrev h : ℤ
+  h =
+      let a = c .before .before .before .before .before .before .args in
+      let k = c .before .before .before .before .before .loop .k in
+      smallerHalf (nth (a .y .now) k) (nth (a .tk .now) k) (a .b)
+
+  sizes : Both (negℤ (pos centreRange) ≤ℤ x) (Both (x ≤ℤ pos centreRange) (Both (negℤ (pos halfRange) ≤ℤ h) (h ≤ℤ pos halfRange)))
+  sizes =
+      let b = c .before .before .before .before in
+      let q = b .before .before .pre .0 in
+      let v : Within centreRange x = rw (clean-element _ (c .x .given)) (q .centre (b .before .loop .k) (b .loop-test .taken)) in
+      let w : Within halfRange h = smaller-within _ _ _ (q .halves (b .before .loop .k) (b .loop-test .taken)) (q .bound) in
+      within-low v & within-high v & within-low w & within-high w
+
 low : tie.Need-sub-low Inv-loop μ-loop
 low c =
-    let b = c .before .before .before .before in
-    let s = b .before .before in
-    let k = b .before .loop .k in
-    let x : ℤ = toZ w64 (ofZ w64 (nth (s .args .c .now) k)) in
-    let v : Within centreRange x = rw (clean-element _ (c .x .given)) (s .pre .0 .centre k (b .loop-test .taken)) in
-    let h : ℤ = smallerHalf (nth (s .args .y .now) k) (nth (s .args .tk .now) k) (s .args .b) in
-    let w : Within (2 ^ 30) h = side-within (s .pre .0) _ (b .loop-test .taken) in
-    rw (half (c .before)) (fits-within {m = 2 ^ 31}
-    (within-in (order (x ∷ h ∷ []) (within-low v & within-high w) (search solver depth 40 fits 20000) (omega arith))
-    (order (x ∷ h ∷ []) (within-high v & within-low w) (search solver depth 40 fits 20000) (omega arith))) (omega arith))
+    rw (half (c .before)) (fits-within {m = sideRange} (within-in (order (x c ∷ h c ∷ []) (sizes c) (search solver depth 40 fits 20000) (omega arith))
+    (order (x c ∷ h c ∷ []) (sizes c) (search solver depth 40 fits 20000) (omega arith))) (omega arith))
 
 high : tie.Need-add-high Inv-loop μ-loop
 high c =
-    let b = c .before .before .before .before in
-    let s = b .before .before in
-    let k = b .before .loop .k in
-    let x : ℤ = toZ w64 (ofZ w64 (nth (s .args .c .now) k)) in
-    let v : Within centreRange x = rw (clean-element _ (c .x .given)) (s .pre .0 .centre k (b .loop-test .taken)) in
-    let h : ℤ = smallerHalf (nth (s .args .y .now) k) (nth (s .args .tk .now) k) (s .args .b) in
-    let w : Within (2 ^ 30) h = side-within (s .pre .0) _ (b .loop-test .taken) in
-    rw (half (c .before)) (fits-within {m = 2 ^ 31}
-    (within-in (order (x ∷ h ∷ []) (within-low v & within-low w) (search solver depth 40 fits 20000) (omega arith))
-    (order (x ∷ h ∷ []) (within-high v & within-high w) (search solver depth 40 fits 20000) (omega arith))) (omega arith))
+    rw (half (c .before)) (fits-within {m = sideRange} (within-in (order (x c ∷ h c ∷ []) (sizes c) (search solver depth 40 fits 20000) (omega arith))
+    (order (x c ∷ h c ∷ []) (sizes c) (search solver depth 40 fits 20000) (omega arith))) (omega arith))
 
 loop-again : tie.Need-loop-again Inv-loop μ-loop
 loop-again c =

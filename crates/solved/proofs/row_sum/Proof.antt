@@ -22,13 +22,15 @@ product : tie.Need-mul-s-4 Inv-loop μ-loop
 unfolding upper
 product c =
     let l = c .before .before .before .loop in
-    rw (clean-element _ (c .before .s .given), clean-element _ (c .s2 .given)) (product-fits (c .before .before .before .before .pre) (l .k) (l .inv .0) (omega arith))
+    let a = c .before .before .before .before .args in
+    rw (clean-element (upper (a .t .now) (a .i) (l .k)) (c .before .s .given), clean-element _ (c .s2 .given)) (product-fits (c .before .before .before .before .pre) (l .k) (l .inv .0) (omega arith))
 
 added : tie.Need-add-s-2 Inv-loop μ-loop
 unfolding upper
 added c =
     let l = c .before .before .before .loop in
-    rw (clean (product c), clean-element _ (c .before .s .given), clean-element _ (c .s2 .given), l .inv .2)
+    let a = c .before .before .before .before .args in
+    rw (clean (product c), clean-element (upper (a .t .now) (a .i) (l .k)) (c .before .s .given), clean-element _ (c .s2 .given), l .inv .2)
     (next-fits (c .before .before .before .before .pre) (l .k) (l .inv .0) (omega arith))
 
 loop-again : tie.Need-loop-again Inv-loop μ-loop
@@ -36,7 +38,7 @@ unfolding upper
 loop-again c =
     let l = c .before .before .before .loop in
     let a = c .before .before .before .before .args in
-    (omega arith, omega arith, clean (added c) ∙ rw (clean (product c), clean-element _ (c .before .s .given), clean-element _ (c .s2 .given), l .inv .2, add-one) (row-sum-suc (a .t .now) (a .x .now) (a .i) (l .k) (l .inv .0)))
+    (omega arith, omega arith, clean (added c) ∙ rw (clean (product c), clean-element (upper (a .t .now) (a .i) (l .k)) (c .before .s .given), clean-element _ (c .s2 .given), l .inv .2, add-one) (row-sum-suc (a .t .now) (a .x .now) (a .i) (l .k) (l .inv .0)))
 
 pub row-sum-spec : {M : Type 1} → statement M
 row-sum-spec =

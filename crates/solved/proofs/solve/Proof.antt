@@ -83,7 +83,7 @@ solve-spec =
     (λ c. let s = c .before .before in (omega arith, rw (clean (s .fits .s)) (solving-start (s .pre .0) (s .pre .1) (rw (clean (s .fits .s)) at (c .start .ensures)))))
     (λ c. omega arith)
     (λ c κs. solving-ready (c .before .before .before .before .before .pre .0) (inside (c .before)) (walked (c .before)))
-    (λ c κs. pos-nonneg 32768)
+    (λ c κs. pos-nonneg vectorRange)
     returns
     (λ c. let h = in-array (c .before .before .before .before) in omega arith)
     (λ c. in-array (c .before .before .before .before))

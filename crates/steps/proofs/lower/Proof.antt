@@ -29,7 +29,7 @@ sub-s c =
     let i = c .before in
     let l = i .before .loop in
     let s = i .before .before in
-    rw (clean-element _ (c .s .given), clean (s .fits .e), lower-reads (inside i) (l .inv .2))
+    rw (clean (s .fits .e), clean-element _ (c .s .given), lower-reads (inside i) (l .inv .2))
     (fits-within (within-- (s .pre .0 .on (l .i) (l .inv .0) (i .loop-test .taken)) (s .pre .2)) (omega arith))
 
 loop-again : tie.Need-loop-again Inv-loop μ-loop

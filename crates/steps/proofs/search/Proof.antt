@@ -42,13 +42,13 @@ loop-again : tie.Need-loop-again Inv-loop μ-loop
 loop-again c =
     let i = c .before .before in
     let r = rw (clean (mul-trial i), clean (add-next i), bit i) at (c .before .trial .ensures) in
-    rw (clean (add-next i), bit i) (search-more (searching i) (sym r ∙ c .if2 .taken))
+    rw (clean (add-next i), bit i) (search-more (searching i) (rw r at (c .if2 .taken)))
 
 loop-again-2 : tie.Need-loop-again-2 Inv-loop μ-loop
 loop-again-2 c =
     let i = c .before .before in
     let r = rw (clean (mul-trial i), clean (add-next i), bit i) at (c .before .trial .ensures) in
-    search-left (searching i) (sym r ∙ c .if2 .left)
+    search-left (searching i) (rw r at (c .if2 .left))
 
 returns : tie.Need-returns Inv-loop μ-loop
 returns c =
@@ -67,8 +67,8 @@ search-spec =
     (tie.spec
     Inv-loop
     μ-loop
-    (λ c. let t = c .pre in omega (arith, t .sized .order, t .inside, t .ordered))
-    (λ c κs. let t = c .before .pre in omega (arith, t .sized .order, c .if1 .taken))
+    (λ c. let t = c .pre in omega (arith, t .left .order, t .inside, t .ordered))
+    (λ c κs. let t = c .before .pre in omega (arith, t .left .order, c .if1 .taken))
     returns
     (λ c. search-start)
     (λ c. omega (arith, c .loop-test .taken))

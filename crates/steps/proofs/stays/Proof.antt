@@ -33,7 +33,7 @@ sub-if1 c =
     let i = c .before in
     let l = i .before .loop in
     let s = i .before .before in
-    rw (clean-element _ (c .if12 .given), clean (s .fits .e))
+    rw (clean (s .fits .e), clean-element _ (c .if12 .given))
     (fits-within (within-- (s .pre .0 .on (l .i) (l .inv .0) (i .loop-test .taken)) (s .pre .2)) (omega arith))
 
 -- what is left of the diagonal entry i
@@ -45,7 +45,7 @@ unfolding upper
 returns c =
     let i = c .before .before in
     let l = i .before .loop in
-    let q = rw (clean (sub-if1 (c .before)), clean-element _ (c .before .if12 .given), clean (i .before .before .fits .e)) at (c .if1 .taken) in
+    let q = rw (clean (sub-if1 (c .before)), clean (i .before .before .fits .e), clean-element _ (c .before .if12 .given)) at (c .if1 .taken) in
     sym (all-false _ _ (l .i) (i .loop-test .taken) (stays-is _ _ _ (l .i) (l .inv .0) ∙ leZ-false {x = pos 1} {y = left i} (lt-holds q)))
 
 loop-again : tie.Need-loop-again Inv-loop μ-loop
@@ -54,7 +54,7 @@ loop-again c =
     let i = c .before .before in
     let l = i .before .loop in
     let e = clean (i .before .before .fits .e) in
-    let q = rw (clean (sub-if1 (c .before)), clean-element _ (c .before .if12 .given), e) at (c .if1 .left) in (
+    let q = rw (clean (sub-if1 (c .before)), e, clean-element _ (c .before .if12 .given)) at (c .if1 .left) in (
       omega (arith, l .inv .0),
       omega (arith, i .loop-test .taken),
       rw e (all-more _ (l .i) (rw e at (l .inv .2)) (stays-is _ _ _ (l .i) (l .inv .0) ∙ leZ-true {x = pos 1} {y = left i} (lt-fails q))),

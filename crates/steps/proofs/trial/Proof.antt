@@ -1,13 +1,14 @@
 use mathlib.Core.Path.{_≡_, sym, _∙_}
 use mathlib.Core.Bool.{true}
+use Prim.Native.Nat.{_<_}
 use native.Mathlib.Omega.{arith}
 use Rattle.integers.proofs.Machine.{clean}
 use Rattle.tables.specs.Checks.{all}
 use Rattle.tables.proofs.Checks.{call-false, call-true}
 use Rattle.cholesky.specs.Store.{upper}
-use Rattle.cholesky.proofs.Rows.{sized-less}
+use Rattle.cholesky.proofs.Rows.{factorable-less}
 use Rattle.steps.specs.Tables.{stays}
-use Rattle.steps.proofs.Diagonals.{trial-fails, trial-none, trial-sized, trial-ends}
+use Rattle.steps.proofs.Diagonals.{trial-fails, trial-none, trial-factorable, trial-one, trial-ends}
 use Rattle.steps.proofs.trial.Statement.{statement}
 use Rattle.steps.proofs.trial.Tie as tie
 
@@ -26,7 +27,7 @@ pub trial-spec : {M : Type 1} → statement M
 trial-spec =
     tie.close
     (tie.spec
-    (λ c κs. let t = c .pre .0 in (sized-less (t .inside) (t .sized), t .ordered, rw (clean (c .fits .e)) (c .pre .2)))
+    (λ c κs. let t = c .pre .0 in (factorable-less (t .inside) (t .left), t .ordered, rw (clean (c .fits .e)) (c .pre .2)))
     (λ c.
     let s = c .before .before in
     sym (trial-fails (s .pre .0) _ (rw (clean (s .fits .e)) at (call-false (c .before .stays .ensures) (c .if1 .taken)))))
@@ -34,10 +35,11 @@ trial-spec =
     (λ c κs.
     let s = c .before .before .before .before .before in
     let t = s .pre .0 in
-    (sized-less (t .inside) (t .sized), t .ordered, rw (clean (s .fits .e)) (s .pre .2)))
+    (factorable-less (t .inside) (t .left), t .ordered, rw (clean (s .fits .e)) (s .pre .2)))
     (λ c κs.
     let e = c .before .before .before .before .before in
     let s = e .before .before in
     let w = rw (clean (s .fits .e)) at (c .before .lower .ensures) in
-    (trial-sized (s .pre .0) _ (kept e) w (s .pre .1), omega (arith, c .before .before .before .before .if2 .left)))
+    let h : s .args .first < s .args .n = omega (arith, c .before .before .before .before .if2 .left) in
+    (trial-factorable (s .pre .0) _ (kept e) w (s .pre .1), h, trial-one (s .pre .0) _ (kept e) w (s .pre .1) h))
     returns-3)

@@ -1,5 +1,5 @@
 use mathlib.Core.Path.{_≡_, sym}
-use mathlib.Core.Bool.{true, false}
+use mathlib.Core.Bool.{true}
 use borrow.Author.Needs.{needs}
 use Rattle.tables.specs.Checks.{symmetric}
 use Rattle.tables.proofs.Checks.{call-true, call-false, and-first-false}

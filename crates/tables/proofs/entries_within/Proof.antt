@@ -1,13 +1,14 @@
 use mathlib.Core.Path.{_≡_, sym}
-use mathlib.Core.Bool.{true, false}
+use mathlib.Core.Bool.{true}
 use Rattle.integers.proofs.Parts.{pos-nonneg}
 use Rattle.tables.specs.Ranges.{entryRange}
-use Rattle.tables.specs.Checks.{allWithin}
+use Rattle.tables.specs.Checks.{allWithin, tablesWithin}
 use Rattle.tables.proofs.Checks.{call-true, call-false, and-first-false}
 use Rattle.tables.proofs.entries_within.Statement.{statement}
 use Rattle.tables.proofs.entries_within.Tie as tie
 
 pub entries-within-spec : {M : Type 1} → statement M
+unfolding tablesWithin
 entries-within-spec =
     tie.close
     (tie.spec (λ c κs. (c .pre .0, pos-nonneg entryRange))

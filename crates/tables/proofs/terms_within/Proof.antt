@@ -3,12 +3,13 @@ use mathlib.Core.Bool.{true, false}
 use Rattle.integers.proofs.Machine.{clean}
 use Rattle.integers.proofs.Parts.{pos-nonneg}
 use Rattle.tables.specs.Ranges.{linearRange, limitRange, centreRange}
-use Rattle.tables.specs.Checks.{within, allWithin}
+use Rattle.tables.specs.Checks.{within, allWithin, termsWithin}
 use Rattle.tables.proofs.Checks.{call-true, call-false}
 use Rattle.tables.proofs.terms_within.Statement.{statement}
 use Rattle.tables.proofs.terms_within.Tie as tie
 
 pub terms-within-spec : {M : Type 1} → statement M
+unfolding termsWithin
 terms-within-spec =
     tie.close
     (tie.spec (λ c κs. (c .pre .0, pos-nonneg linearRange))

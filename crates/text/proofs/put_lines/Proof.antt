@@ -4,15 +4,16 @@ use native.Mathlib.Nat.{suc-mul}
 use native.Mathlib.Numerals.{add-one}
 use native.Mathlib.Omega.{arith}
 use lib.ListN.{length}
+use Rattle.tables.specs.Matrix.{nth}
 use Rattle.text.specs.Putting.{Put}
-use Rattle.text.specs.Text.{lines, widest}
+use Rattle.text.specs.Text.{line, lines, lineRoom}
 use Rattle.text.proofs.Puts.{put-nothing, put-within, put-then, one-more}
 use Rattle.text.proofs.put_lines.Statement.{statement}
 use Rattle.text.proofs.put_lines.Tie as tie
 
 abbrev Inv-loop : tie.InvT-loop
 Inv-loop out₀ at word x width count next₀ i₀ out next i =
-    (i ≤ count) × (length out ≡ length out₀) × Put out₀ at (lines word x width i) (i * (length word + width * (widest + 1) + 1)) next out
+    (i ≤ count) × (length out ≡ length out₀) × Put out₀ at (lines word x width i) (i * lineRoom (length word) width) next out
 
 abbrev μ-loop : tie.MeasureT-loop
 μ-loop out₀ at word x width count next₀ i₀ out next i = count - i
@@ -31,7 +32,7 @@ put-line-requires c κs =
     let a = c .before .before .before .before .before .args in
     let l = c .before .before .loop in
     let h : l .i < a .count = omega arith in (
-      omega (arith, one-more (l .i) (a .count) (length (a .word .now) + a .width * (widest + 1) + 1) h),
+      omega (arith, one-more (l .i) (a .count) (lineRoom (length (a .word .now)) (a .width)) h),
       omega (arith, one-more (l .i) (a .count) (a .width) h),
     )
 
@@ -40,7 +41,8 @@ unfolding lines
 loop-again c =
     let n = c .before .before .put-line in
     let l = c .before .before .before .before .before .loop in
-    (omega arith, n .kept .0 ∙ l .inv .1, rw (add-one (l .i), suc-mul (l .i)) (put-then (l .inv .2) (omega arith) (n .ensures)))
+    let a = c .before .before .before .before .before .before .before .before .args in
+    (omega arith, n .kept .0 ∙ l .inv .1, rw (add-one (l .i), suc-mul (l .i)) (put-then (l .inv .2) {s = line (a .word .now) (λ k. nth (a .x .now) (l .i * a .width + k)) (a .width)} (omega arith) (n .ensures)))
 
 returns : tie.Need-returns Inv-loop μ-loop
 returns c =

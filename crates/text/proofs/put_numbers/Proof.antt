@@ -6,14 +6,14 @@ use lib.ListN.{length}
 use Rattle.integers.proofs.Machine.{clean-element}
 use Rattle.tables.specs.Matrix.{nth}
 use Rattle.text.specs.Putting.{Put}
-use Rattle.text.specs.Text.{numbers, widest}
+use Rattle.text.specs.Text.{numbers, spaced}
 use Rattle.text.proofs.Puts.{put-nothing, put-within, put-then}
 use Rattle.text.proofs.put_numbers.Statement.{statement}
 use Rattle.text.proofs.put_numbers.Tie as tie
 
 abbrev Inv-loop : tie.InvT-loop
 Inv-loop out₀ at x first count next₀ k₀ out next k =
-    (k ≤ count) × (length out ≡ length out₀) × Put out₀ at (numbers (λ j. nth x (first + j)) k) (k * (widest + 1)) next out
+    (k ≤ count) × (length out ≡ length out₀) × Put out₀ at (numbers (λ j. nth x (first + j)) k) (k * spaced) next out
 
 abbrev μ-loop : tie.MeasureT-loop
 μ-loop out₀ at x first count next₀ k₀ out next k = count - k

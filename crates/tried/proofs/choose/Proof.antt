@@ -9,13 +9,13 @@ returns : tie.Need-returns
 returns c =
     let s = c .before .before .before .before .before in
     let p = s .pre in
-    chosen-one (p .0) (p .1) (p .3) (p .4) (rw (clean (s .fits .entry)) at (c .before .before .before .before .if1 .taken)) (c .before .before .add-row .ensures) (c .add-row2 .ensures)
+    chosen-one (p .0) (p .1) (rw (clean (s .fits .entry)) at (c .before .before .before .before .if1 .taken)) (c .before .before .add-row .ensures) (c .add-row2 .ensures)
 
 returns-2 : tie.Need-returns-2
 returns-2 c =
     let s = c .before .before .before .before .before in
     let p = s .pre in
-    chosen-minus-one (p .0) (p .1) (p .3) (p .4) (rw (clean (s .fits .entry)) at (c .before .before .before .before .if1 .left)) (p .2) (c .before .before .add-row3 .ensures) (c .add-row4 .ensures)
+    chosen-minus-one (p .0) (p .1) (rw (clean (s .fits .entry)) at (c .before .before .before .before .if1 .left)) (p .2) (c .before .before .add-row3 .ensures) (c .add-row4 .ensures)
 
 pub choose-spec : {M : Type 1} → statement M
 choose-spec =

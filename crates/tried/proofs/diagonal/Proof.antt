@@ -18,18 +18,18 @@ abbrev μ-loop : tie.MeasureT-loop
 
 loop-again : tie.Need-loop-again Inv-loop μ-loop
 loop-again c =
-    let order = c .before .before .before .pre .0 .order in
-    (omega arith, rw (clean-result (c .entry), c .entry .ensures, add-one) (diagonal-more (c .before .before .before .pre .0) (c .before .loop-test .taken) (c .before .before .loop .inv .1)))
+    let p = c .before .before .before .pre in
+    (omega arith, rw (clean-result (c .entry), c .entry .ensures, add-one) (diagonal-more (p .0) (p .2) (c .before .loop-test .taken) (c .before .before .loop .inv .1)))
 
 pub diagonal-spec : {M : Type 1} → statement M
 diagonal-spec =
     tie.close
     (tie.spec Inv-loop μ-loop
-    (λ c. (omega arith, diagonal-start (c .pre .1)))
-    (λ c κs. let s = c .before .before in (s .pre .0 .order, c .loop-test .taken, c .loop-test .taken, s .pre .0 .size))
+    (λ c. (omega arith, diagonal-start (c .pre .3)))
+    (λ c κs. let s = c .before .before in (s .pre .0, c .loop-test .taken, c .loop-test .taken, s .pre .1))
     (λ c. search needs)
-    (λ c. let order = c .before .before .before .pre .0 .order in omega arith)
-    (λ c. let order = c .before .before .before .pre .0 .order in omega arith)
+    (λ c. let order = c .before .before .before .pre .0 in omega arith)
+    (λ c. let order = c .before .before .before .pre .0 in omega arith)
     (λ c. omega arith)
     loop-again
     (λ c. let e : c .before .loop .k ≡ c .before .before .args .n = omega arith in rw e at (c .before .loop .inv .1)))

@@ -2,8 +2,7 @@
 use mathlib.Core.Path.{_≡_, sym, _∙_}
 use Prim.Native.Nat.{_-_}
 use native.Mathlib.Omega.{arith}
-use borrow.Author.Needs.{needs}
-use Rattle.tried.proofs.Shares.{doubled-zeros, same-at, other-at, open-zeros}
+use Rattle.tried.proofs.Shares.{pairs-zeros, same-at, other-at, open-zeros, start-half}
 use Rattle.tried.proofs.Searching.{half-ext}
 use Rattle.tried.proofs.Agreement.{tried-half}
 use Rattle.tried.proofs.first_tried.Statement.{statement}
@@ -14,12 +13,12 @@ returns c =
     let b = c .before .before .before .before in
     let s = b .before .before .before .before in
     let n = s .args .n in
-    let pairs = b .before .before .double .ensures in
-    let e : n - 0 ≡ n = omega arith in
+    let pairs = b .before .before .fill-pairs .ensures in
+    let e : n - n ≡ 0 = omega arith in
     let r = rw e at (c .search-half .ensures) in
     record {
       answer =
-          tried-half _ _ _ (s .pre .2) _ (λ i h. b .diagonal .ensures .entries i h)
+          tried-half _ _ _ (s .pre .0 .bounds) _ (λ i h. b .diagonal .ensures .entries i h)
           ∙ sym (half-ext _ _ _ _ (same-at pairs) (other-at pairs) n 0 _ (omega arith))
           ∙ r .answer;
       size = r .size;
@@ -29,7 +28,9 @@ pub first-tried-spec : {M : Type 1} → statement M
 first-tried-spec =
     tie.close
     (tie.spec
-    (λ c κs. let p = c .before .pre in (p .0, p .1, doubled-zeros (p .0 .order)))
-    (λ c κs. (c .before .before .before .pre .0, open-zeros))
-    (λ c κs. search needs)
+    (λ c κs. let p = c .before .pre in (p .0, pairs-zeros (p .0 .order)))
+    (λ c κs. let g = c .before .before .before .pre .0 in (g .order, g .low-length, g .bounds .low-range, open-zeros))
+    (λ c κs.
+    let b = c .before .before .before in
+    (start-half (b .before .before .fill-pairs .ensures .tables) (b .diagonal .ensures .start), b .before .before .before .before .pre .1))
     returns)

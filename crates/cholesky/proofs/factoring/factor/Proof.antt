@@ -25,7 +25,7 @@ take-row-requires : tie.Need-take-row-requires Inv-loop μ-loop
 take-row-requires c κs =
     let h = c .before .loop-test .taken in
     let s = c .before .before .loop .inv .3 in
-    (s .walked .sized, h, rows-some s h)
+    (s .walked .left, h, rows-some s h)
 
 -- a column stopped
 loop-again : tie.Need-loop-again Inv-loop μ-loop

@@ -9,33 +9,37 @@ use Rattle.cholesky.proofs.scaling.diagonal.Tie as tie
 
 mul-result : tie.Need-mul-result
 mul-result c =
-    let p = c .before .before .pre in
+    let p = c .before .before .before .pre in
     rw (clean-result (c .row-width), c .row-width .ensures) (scaled-width-fits (p .0 .order) (p .0 .ranged) (p .1))
 
 add-result : tie.Need-add-result
 add-result c =
-    let p = c .before .before .pre in
-    rw (clean (mul-result c), clean-result (c .row-width), c .row-width .ensures) (taken-fits (p .0 .order) (p .0 .ranged) (p .1))
+    let p = c .before .before .before .pre in
+    let a = c .before .diagonal-allowance in
+    rw (clean-result a, a .ensures, clean (mul-result c), clean-result (c .row-width), c .row-width .ensures) (taken-fits (p .0 .order) (p .0 .ranged) (p .1))
 
 sub-result : tie.Need-sub-result
 sub-result c =
-    let p = c .before .before .pre in
-    let m = c .before .middle in
-    rw (clean-result m, m .ensures, clean (add-result c), clean (mul-result c), clean-result (c .row-width), c .row-width .ensures)
+    let p = c .before .before .before .pre in
+    let a = c .before .diagonal-allowance in
+    let m = c .before .before .middle in
+    rw (clean-result m, m .ensures, clean (add-result c), clean-result a, a .ensures, clean (mul-result c), clean-result (c .row-width), c .row-width .ensures)
     (on-fits (p .0 .order) (p .0 .ranged) (p .1) (p .1))
 
 returns : tie.Need-returns
 returns c =
-    let s = c .before .before in
-    let m = c .before .middle in
+    let s = c .before .before .before in
+    let a = c .before .diagonal-allowance in
+    let m = c .before .before .middle in
     clean (sub-result c)
-    ∙ rw (clean-result m, m .ensures, clean (add-result c), clean (mul-result c), clean-result (c .row-width), c .row-width .ensures)
-    (sym (scaled-on takeOff (s .args .n) _ _ (s .args .j)))
+    ∙ rw (clean-result m, m .ensures, clean (add-result c), clean-result a, a .ensures, clean (mul-result c), clean-result (c .row-width), c .row-width .ensures)
+    (sym (scaled-on (takeOff (s .args .n)) (s .args .n) _ _ (s .args .j)))
 
 pub diagonal-spec : {M : Type 1} → statement M
 diagonal-spec =
     tie.close
     (tie.spec
+    (λ c κs. search needs)
     (λ c κs. search needs)
     (λ c κs. search needs)
     mul-result

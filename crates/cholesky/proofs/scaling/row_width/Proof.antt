@@ -3,6 +3,7 @@ use mathlib.Core.Path.{_≡_, sym, _∙_}
 use Prim.Native.Nat.{_-_, _≤_}
 use native.Mathlib.Omega.{arith}
 use native.Mathlib.Numerals.{add-one}
+use lib.IntN.{ℤ}
 use mir.Syntax.{w64}
 use mir.Val.{toZ}
 use Rattle.integers.proofs.Machine.{clean, clean-element}
@@ -22,24 +23,28 @@ abbrev μ-loop : tie.MeasureT-loop
 place : (c : tie.In-loop Inv-loop μ-loop) → Placed (c .before .before .args .n) (c .before .before .args .i) (c .before .loop .k) (c .before .before .args .low .now) (c .before .before .args .high .now)
 place c = placed (c .before .before .pre .0) (c .before .before .pre .1) (omega arith)
 
+-- U(i,k)
+abbrev high : tie.After-w2 Inv-loop μ-loop → ℤ
+high c = let a = c .before .before .before .before .args in at (a .n) (a .high .now) (a .i) (c .before .before .before .loop .k)
+
 sub-w : tie.Need-sub-w Inv-loop μ-loop
 unfolding at
 sub-w c =
     let p = c .before .before .before .before .pre in
-    rw (clean-element _ (c .before .w .given), clean-element _ (c .w2 .given)) (gap-fits (p .0 .order) (p .0 .ranged) (p .1) (omega arith))
+    rw (clean-element (high c) (c .before .w .given), clean-element _ (c .w2 .given)) (gap-fits (p .0 .order) (p .0 .ranged) (p .1) (omega arith))
 
 add-w-3 : tie.Need-add-w-3 Inv-loop μ-loop
 unfolding at
 add-w-3 c =
     let p = c .before .before .before .before .pre in
-    rw (clean (sub-w c), clean-element _ (c .before .w .given), clean-element _ (c .w2 .given), c .before .before .before .loop .inv .1)
+    rw (clean (sub-w c), clean-element (high c) (c .before .w .given), clean-element _ (c .w2 .given), c .before .before .before .loop .inv .1)
     (width-fits (p .0 .order) (p .0 .ranged) (p .1) _ (omega arith))
 
 loop-again : tie.Need-loop-again Inv-loop μ-loop
 unfolding at rowWidth
 loop-again c =
     let l = c .before .before .before .loop in
-    (omega arith, clean (add-w-3 c) ∙ rw (clean (sub-w c), clean-element _ (c .before .w .given), clean-element _ (c .w2 .given), l .inv .1, add-one) (sym (sum-suc (l .k) _)))
+    (omega arith, clean (add-w-3 c) ∙ rw (clean (sub-w c), clean-element (high c) (c .before .w .given), clean-element _ (c .w2 .given), l .inv .1, add-one) (sym (sum-suc (l .k) _)))
 
 pub row-width-spec : {M : Type 1} → statement M
 unfolding rowWidth

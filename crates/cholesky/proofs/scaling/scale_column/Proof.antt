@@ -1,5 +1,5 @@
 -- The loop's invariant is the filling's, before row i.
-use mathlib.Core.Path.{_≡_, sym, _∙_}
+use mathlib.Core.Path.{_≡_}
 use Prim.Native.Nat.{_-_, _≤_}
 use native.Mathlib.Omega.{arith}
 use native.Mathlib.Numerals.{add-one}
@@ -23,8 +23,11 @@ loop-again c =
     let s = c .before .before .before in
     let order = s .pre .0 .order in
     let l = c .before .before .loop in
-    let off = scaled-off takeOff (s .args .n) _ _ (l .i) (s .args .j) (omega arith) in
-    (omega arith, rw (clean-result (c .middle), add-one) (filling-row (omega arith) (omega arith) (c .middle .ensures ∙ sym off) (l .inv .1)))
+    let n = s .args .n in (
+      omega arith,
+      rw (clean-result (c .middle), add-one)
+          (filling-row (omega arith) (omega arith) (rw (scaled-off (takeOff n) n _ _ (l .i) (s .args .j) (omega arith)) (c .middle .ensures)) (l .inv .1)),
+    )
 
 returns : tie.Need-returns Inv-loop μ-loop
 returns c =

@@ -1,11 +1,11 @@
 use mathlib.Core.Path.{sym}
-use Rattle.fields.specs.Fields.{kindOf, kindIn, tags}
+use Rattle.fields.specs.Fields.{kinds, kindOf, kindIn}
 use Rattle.fields.proofs.Finding.{kind-unlisted}
 use Rattle.fields.proofs.field.kind_of.Statement.{statement}
 use Rattle.fields.proofs.field.kind_of.Tie as tie
 
 pub kind-of-spec : {M : Type 1} → statement M
-unfolding kindOf kindIn tags
+unfolding kindOf kindIn
 kind-of-spec =
     tie.close
     (tie.spec
@@ -17,4 +17,4 @@ kind-of-spec =
     (λ c. rw (c .match .keys6))
     (λ c.
     let n = c .match .rest in
-    sym (kind-unlisted tags _ (n .0 .0 .0 .0 .0 .1, (n .0 .0 .0 .0 .1, (n .0 .0 .0 .1, (n .0 .0 .1, (n .0 .1, (n .1, tt)))))))))
+    sym (kind-unlisted kinds _ (n .0 .0 .0 .0 .0 .1, (n .0 .0 .0 .0 .1, (n .0 .0 .0 .1, (n .0 .0 .1, (n .0 .1, (n .1, tt)))))))))

@@ -1,81 +1,43 @@
 -- The choices of the first entry, each with the least sum over those of the last two.
-use mathlib.Core.Path.{_≡_, _∙_}
-use Prim.Native.Nat.{_^_}
+use mathlib.Core.Path.{_∙_}
+use native.Mathlib.Numerals.{add-one}
 use native.Mathlib.Omega.{arith}
 use borrow.Author.Needs.{needs}
-use Rattle.integers.specs.Numbers.{Within}
-use Rattle.integers.proofs.Machine.{clean, clean-result, within-more}
-use Rattle.lookahead.specs.declared.least.Share.{Share}
-use Rattle.lookahead.specs.LeastSums.{Sized, leastTwo, leastThree, added, opposed}
-use Rattle.lookahead.proofs.LeastSums.{sized-more, added-within, opposed-within, two-within, choice-fits, choice-is, least-is}
+use Rattle.integers.proofs.Machine.{clean, clean-result}
+use Rattle.lookahead.specs.LeastSums.{sharesAfter}
+use Rattle.lookahead.proofs.LeastSums.{last-zero, last-one, last-minus-one, first-small, choice-small, choice-is}
 use Rattle.lookahead.proofs.least.least_three.Statement.{statement}
 use Rattle.lookahead.proofs.least.least_three.Tie as tie
 
-sum-within : (c : tie.Start) → Within (2 ^ 36) (c .args .sum)
-sum-within c = within-more (omega arith) (c .pre .0)
-
-wider : {a : Share} → Sized (2 ^ 34) a → Sized (2 ^ 36) a
-wider f = sized-more (omega arith) f
-
-one-within : (c : tie.Start) → let s = c .args in Within (2 ^ 40) (leastTwo (s .sum) (added (s .b) (s .ab)) (added (s .c) (s .ac)) (s .bc))
-one-within c = let p = c .pre in within-more (omega arith) (two-within (sum-within c) (added-within (omega arith) (p .2) (p .4)) (added-within (omega arith) (p .3) (p .5)) (wider (p .6)))
-
-minus-one-within : (c : tie.Start) → let s = c .args in Within (2 ^ 40) (leastTwo (s .sum) (opposed (s .b) (s .ab)) (opposed (s .c) (s .ac)) (s .bc))
-minus-one-within c = let p = c .pre in within-more (omega arith) (two-within (sum-within c) (opposed-within (omega arith) (p .2) (p .4)) (opposed-within (omega arith) (p .3) (p .5)) (wider (p .6)))
-
--- what is added to the first entry's own
-one : (c : tie.After-struct-told) →
-    let s = c .before .before .before .before .before .before .args in c .before .before .least-two2 .result ≡ leastTwo (s .sum) (added (s .b) (s .ab)) (added (s .c) (s .ac)) (s .bc)
-one c =
-    let l = c .before .before in
-    rw (clean (l .before .before .before .before .fits .sum), l .before .before .added .ensures, l .before .added2 .ensures) at (l .least-two2 .ensures)
-
-minus-one : (c : tie.After-struct-told2) →
-    let s = c .before .before .before .before .before .before .before .before .before .before .before .args in c .before .before .least-two3 .result ≡ leastTwo (s .sum) (opposed (s .b) (s .ab)) (opposed (s .c) (s .ac)) (s .bc)
-minus-one c =
-    let l = c .before .before in
-    rw (clean (l .before .before .before .before .before .before .before .before .before .fits .sum), l .before .before .opposed .ensures, l .before .opposed2 .ensures) at (l .least-two3 .ensures)
-
-add-one : tie.Need-add-one
-add-one c =
-    let s = c .before .before .before .before .before .before in
-    choice-fits (within-more (omega arith) (s .pre .1 .plus)) (one-within s) (one c)
-
-add-minus-one : tie.Need-add-minus-one
-add-minus-one c =
-    let s = c .before .before .before .before .before .before .before .before .before .before .before in
-    choice-fits (within-more (omega arith) (s .pre .1 .minus)) (minus-one-within s) (minus-one c)
-
-returns : tie.Need-returns
-unfolding leastThree
-returns c =
-    let t = c .before .before .before .before .before .before in
-    let s = t .before .before .before .before .before .before in
-    let first = t .before .before .before .before .before .least-two in
-    clean-result (c .least-of)
-    ∙ c .least-of .ensures
-    ∙ least-is (clean-result first ∙ (rw (clean (s .fits .sum)) at (first .ensures)))
-    (choice-is (within-more (omega arith) (s .pre .1 .plus)) (one-within s) (one t))
-    (choice-is (within-more (omega arith) (s .pre .1 .minus)) (minus-one-within s) (minus-one (c .before)))
-
 pub least-three-spec : {M : Type 1} → statement M
+unfolding sharesAfter
 least-three-spec =
     tie.close
     (tie.spec
-    (λ c κs. let p = c .pre in (rw (clean (c .fits .sum)) (sum-within c), wider (p .2), wider (p .3), wider (p .6)))
-    (λ c κs. search needs)
-    (λ c κs. search needs)
-    (λ c κs.
-    let s = c .before .before .before in
-    let p = s .pre in
-    (rw (clean (s .fits .sum)) (sum-within s), rw (c .before .added .ensures) (added-within (omega arith) (p .2) (p .4)), rw (c .added2 .ensures) (added-within (omega arith) (p .3) (p .5)), wider (p .6)))
-    add-one
-    (λ c κs. search needs)
-    (λ c κs. search needs)
-    (λ c κs.
-    let s = c .before .before .before .before .before .before .before .before in
-    let p = s .pre in
-    (rw (clean (s .fits .sum)) (sum-within s), rw (c .before .opposed .ensures) (opposed-within (omega arith) (p .2) (p .4)), rw (c .opposed2 .ensures) (opposed-within (omega arith) (p .3) (p .5)), wider (p .6)))
-    add-minus-one
-    (λ c κs. search needs)
-    returns)
+    (λ c. search needs)
+    (λ c. search needs)
+    (λ c κs. rw (clean (c .fits .sum), add-one) (last-zero (c .pre)))
+    (λ c κs. let f = c .before .pre in (f .pairs, omega arith, omega arith, omega (arith, f .inside), omega (arith, f .inside, f .pairs .order), first-small (last-zero f)))
+    (λ c κs. let f = c .before .before .pre in (f .pairs, omega arith, omega arith, omega (arith, f .inside), omega (arith, f .inside, f .pairs .order), first-small (last-zero (last-zero f))))
+    (λ c κs. let s = c .before .before .before in rw (clean (s .fits .sum), c .before .share-after .ensures, c .share-after2 .ensures, add-one (s .args .d), add-one) (last-one (s .pre)))
+    (λ c κs. let f = c .before .before .before .before .pre in (f .pairs, omega arith, omega arith, omega (arith, f .inside), omega (arith, f .inside, f .pairs .order), first-small (last-zero f)))
+    (λ c κs. let f = c .before .before .before .before .before .pre in (f .pairs, omega arith, omega arith, omega (arith, f .inside), omega (arith, f .inside, f .pairs .order), first-small (last-zero (last-zero f))))
+    (λ c κs. let s = c .before .before .before .before .before .before in rw (clean (s .fits .sum), c .before .share-after3 .ensures, c .share-after4 .ensures, add-one (s .args .d), add-one) (last-minus-one (s .pre)))
+    (λ d κs.
+    let b = d .before .before .before in
+    let s = b .before .before .before .before in
+    choice-small 1 (s .pre)
+    (rw (clean-result (b .least-two2), b .least-two2 .ensures, clean (s .fits .sum), b .before .before .share-after .ensures, b .before .share-after2 .ensures, add-one (s .args .d), add-one))
+    (rw (clean-result (d .least-two3), d .least-two3 .ensures, clean (s .fits .sum), d .before .before .share-after3 .ensures, d .before .share-after4 .ensures, add-one (s .args .d), add-one))
+    (omega arith))
+    (λ c.
+    let d = c .before in
+    let b = d .before .before .before in
+    let a = b .before .before .before in
+    let s = a .before in
+    clean-result (c .least-choice)
+    ∙ c .least-choice .ensures
+    ∙ choice-is 1 (s .pre)
+    (rw (clean-result (b .least-two2), b .least-two2 .ensures, clean (s .fits .sum), b .before .before .share-after .ensures, b .before .share-after2 .ensures, add-one (s .args .d), add-one))
+    (rw (clean-result (d .least-two3), d .least-two3 .ensures, clean (s .fits .sum), d .before .before .share-after3 .ensures, d .before .share-after4 .ensures, add-one (s .args .d), add-one))
+    (rw (clean-result (a .least-two), a .least-two .ensures, clean (s .fits .sum), add-one))))

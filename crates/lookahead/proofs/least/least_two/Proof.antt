@@ -1,63 +1,40 @@
--- The choices of the first entry, each with the least sum over those of the last.
-use mathlib.Core.Path.{_≡_, _∙_}
-use Prim.Native.Nat.{_^_}
+-- The choices of the first entry, each with the least sum over the choices of the last.
+use mathlib.Core.Path.{_∙_}
+use native.Mathlib.Numerals.{add-one}
 use native.Mathlib.Omega.{arith}
 use borrow.Author.Needs.{needs}
-use Rattle.integers.proofs.Machine.{clean, clean-result, within-more}
-use Rattle.lookahead.specs.LeastSums.{Sized, leastOne, leastTwo, added, opposed}
-use Rattle.lookahead.proofs.LeastSums.{added-within, opposed-within, one-within, choice-fits, choice-is, least-is}
+use Rattle.integers.proofs.Machine.{clean, clean-result}
+use Rattle.lookahead.specs.LeastSums.{leastShares, sharesAfter}
+use Rattle.lookahead.proofs.LeastSums.{last-zero, last-one, last-minus-one, first-small, choice-small, choice-is}
 use Rattle.lookahead.proofs.least.least_two.Statement.{statement}
 use Rattle.lookahead.proofs.least.least_two.Tie as tie
 
--- the last entry's share
-after-one : (c : tie.Start) → Sized (2 ^ 40) (added (c .args .b) (c .args .ab))
-after-one c = added-within (omega arith) (c .pre .2) (c .pre .3)
-
-after-minus-one : (c : tie.Start) → Sized (2 ^ 40) (opposed (c .args .b) (c .args .ab))
-after-minus-one c = opposed-within (omega arith) (c .pre .2) (c .pre .3)
-
--- what is added to the first entry's own
-one : (c : tie.After-struct-told) → let s = c .before .before .before .before .before in c .before .before .least-one2 .result ≡ leastOne (s .args .sum) (added (s .args .b) (s .args .ab))
-one c = rw (clean (c .before .before .before .before .before .fits .sum), c .before .before .before .added .ensures) at (c .before .before .least-one2 .ensures)
-
-minus-one : (c : tie.After-struct-told2) →
-    let s = c .before .before .before .before .before .before .before .before .before in c .before .before .least-one3 .result ≡ leastOne (s .args .sum) (opposed (s .args .b) (s .args .ab))
-minus-one c =
-    rw (clean (c .before .before .before .before .before .before .before .before .before .fits .sum), c .before .before .before .opposed .ensures) at (c .before .before .least-one3 .ensures)
-
-add-one : tie.Need-add-one
-add-one c =
-    let s = c .before .before .before .before .before in
-    choice-fits (within-more (omega arith) (s .pre .1 .plus)) (one-within (within-more (omega arith) (s .pre .0)) (after-one s)) (one c)
-
-add-minus-one : tie.Need-add-minus-one
-add-minus-one c =
-    let s = c .before .before .before .before .before .before .before .before .before in
-    choice-fits (within-more (omega arith) (s .pre .1 .minus)) (one-within (within-more (omega arith) (s .pre .0)) (after-minus-one s)) (minus-one c)
-
-returns : tie.Need-returns
-unfolding leastTwo
-returns c =
-    let t = c .before .before .before .before .before in
-    let s = t .before .before .before .before .before in
-    let z = within-more {k = 2 ^ 40} (omega arith) (s .pre .0) in
-    let first = t .before .before .before .before .least-one in
-    clean-result (c .least-of)
-    ∙ c .least-of .ensures
-    ∙ least-is (clean-result first ∙ (rw (clean (s .fits .sum)) at (first .ensures)))
-    (choice-is (within-more (omega arith) (s .pre .1 .plus)) (one-within z (after-one s)) (one t))
-    (choice-is (within-more (omega arith) (s .pre .1 .minus)) (one-within z (after-minus-one s)) (minus-one (c .before)))
-
 pub least-two-spec : {M : Type 1} → statement M
+unfolding sharesAfter leastShares
 least-two-spec =
     tie.close
     (tie.spec
-    (λ c κs. search needs)
-    (λ c κs. search needs)
-    (λ c κs. rw (c .added .ensures) (after-one (c .before .before)))
-    add-one
-    (λ c κs. search needs)
-    (λ c κs. rw (c .opposed .ensures) (after-minus-one (c .before .before .before .before .before .before)))
-    add-minus-one
-    (λ c κs. search needs)
-    returns)
+    (λ c. search needs)
+    (λ c κs. first-small (last-zero (c .pre)))
+    (λ c κs. let f = c .before .pre in (f .pairs, omega arith, omega arith, omega (arith, f .inside), omega (arith, f .inside, f .pairs .order), first-small (last-zero f)))
+    (λ c κs. rw (c .share-after .ensures, add-one) (first-small (last-one (c .before .before .pre))))
+    (λ c κs. let f = c .before .before .before .pre in (f .pairs, omega arith, omega arith, omega (arith, f .inside), omega (arith, f .inside, f .pairs .order), first-small (last-zero f)))
+    (λ c κs. rw (c .share-after2 .ensures, add-one) (first-small (last-minus-one (c .before .before .before .before .pre))))
+    (λ d κs.
+    let b = d .before .before in
+    let s = b .before .before .before in
+    choice-small 0 (s .pre)
+    (rw (clean-result (b .least-one2), b .least-one2 .ensures, clean (s .fits .sum), b .before .share-after .ensures, add-one))
+    (rw (clean-result (d .least-one3), d .least-one3 .ensures, clean (s .fits .sum), d .before .share-after2 .ensures, add-one))
+    (omega arith))
+    (λ c.
+    let d = c .before in
+    let b = d .before .before in
+    let a = b .before .before in
+    let s = a .before in
+    clean-result (c .least-choice)
+    ∙ c .least-choice .ensures
+    ∙ choice-is 0 (s .pre)
+    (rw (clean-result (b .least-one2), b .least-one2 .ensures, clean (s .fits .sum), b .before .share-after .ensures, add-one))
+    (rw (clean-result (d .least-one3), d .least-one3 .ensures, clean (s .fits .sum), d .before .share-after2 .ensures, add-one))
+    (rw (clean-result (a .least-one), a .least-one .ensures, clean (s .fits .sum)))))

@@ -2,7 +2,7 @@
 use native.Mathlib.Omega.{arith}
 use borrow.Author.Needs.{needs}
 use Rattle.tables.proofs.Matrix.{table-fits}
-use Rattle.text.specs.Text.{ascii}
+use Rattle.text.specs.Text.{ascii, lines}
 use Rattle.text.proofs.Puts.{put-within, put-room, put-then}
 use Rattle.report.specs.Lines.{verdictText}
 use Rattle.report.proofs.Rows.{table-lines, rows-room}
@@ -17,9 +17,10 @@ put-lines-requires c κs =
 returns : tie.Need-returns
 unfolding verdictText
 returns c =
-    let p = c .before .before .before .before .before .before .before .before .before .before .before .before .before .before .before .pre in
-    rw (← table-lines (ascii "row") (c .before .before .before .before .before .before .before .before .before .before .before .before .write-factor .ensures))
-    (put-within (put-then (c .before .before .before .before .before .before .before .before .put-text .ensures) (omega (arith, p .1)) (c .before .before .put-lines .ensures)) (omega (arith, rows-room (p .0))))
+    let w = c .before .before .before .before .before .before .before .before .before .before .before .before in
+    let s = w .before .before .before in
+    rw (← table-lines (ascii "row") (w .write-factor .ensures))
+    (put-within (put-then (c .before .before .before .before .before .before .before .before .put-text .ensures) {s = lines (ascii "row") (w .write-factor .last .1 .1 .0) (s .args .n) (s .args .n)} (omega (arith, s .pre .1)) (c .before .before .put-lines .ensures)) (omega (arith, rows-room (s .pre .0))))
 
 pub put-factor-spec : {M : Type 1} → statement M
 put-factor-spec =

@@ -1,16 +1,25 @@
 -- By what the reading found.
+use mathlib.Core.Path.{_∙_}
 use native.Mathlib.Omega.{arith}
 use borrow.Author.Needs.{needs}
+use Rattle.summary.specs.Problems.{LetThrough}
+use Rattle.report.proofs.Fitting.{order}
+use Rattle.report.proofs.StatedText.{answers-text}
 use Rattle.report.proofs.Printed.{printed-problem, printed-refused, output-is}
 use Rattle.report.proofs.report.report.Statement.{statement}
 use Rattle.report.proofs.report.report.Tie as tie
 
+-- a problem was read, and let through
+passed : (c : tie.After-enum-told) → LetThrough (c .before .before .before .read .result .problem)
+passed c = c .before .before .before .read .ensures .1 (c .enum-told .given .1)
+
 problem : tie.Need-returns
 problem c =
     let p = c .before in
-    let e = p .before .before in
+    let w = p .before in
+    let e = w .before .before .before in
     let r = e .before .before .before in
-    output-is _ (printed-problem _ (r .read .ensures .0) (e .enum-told .given .1)) (p .put-problem .ensures) (omega arith)
+    output-is _ (printed-problem _ (r .read .ensures .0) (e .enum-told .given .1) ∙ answers-text (w .work-out .ensures)) (p .put-answers .ensures) (omega arith)
 
 refused : tie.Need-returns-2
 refused c =
@@ -26,7 +35,8 @@ report-spec =
     (λ c κs. search needs)
     (λ c. search needs)
     (λ c. search needs)
-    (λ c κs. (c .before .before .before .before .read .ensures .1 (c .before .enum-told .given .1), omega arith))
+    (λ c κs. passed (c .before .before))
+    (λ c κs. let w = c .work-out .ensures in (order (passed (c .before .before .before)) .1, w .verdict .size, w .box .size, omega arith))
     (λ c. search needs)
     (λ c. search needs)
     (λ c. search needs)

@@ -1,62 +1,84 @@
-use mathlib.Core.Path.{_≡_, _∙_}
-use mathlib.Core.Bool.{Bool, true, false}
+use mathlib.Core.Path.{_≡_, refl, sym, _∙_}
+use mathlib.Core.Bool.{true}
 use native.Mathlib.Omega.{arith}
 use borrow.Author.Needs.{needs}
-use lib.IntN.{natAbs}
 use lib.ListN.{length}
 use Rattle.integers.proofs.Machine.{clean}
 use Rattle.tables.specs.Matrix.{at}
 use Rattle.tables.specs.Members.{PositiveDefinite}
-use Rattle.tables.specs.Checks.{orderOk}
+use Rattle.tables.specs.Checks.{orderOf}
+use Rattle.tables.specs.Entering.{Entered}
 use Rattle.tables.specs.declared.Answer.{Answer}
 use Rattle.tables.specs.declared.Answer.the-variants as Answer
-use Rattle.tables.proofs.Matrix.{table-fits}
-use Rattle.tables.proofs.Checks.{call-false, call-true, order-of, order-usize, sizes-of}
-use Rattle.tables.proofs.Answers.{order-refused, size-refused, entry-passed, exactly}
-use Rattle.residual.specs.FactorTest.{factorSizes, factorTest}
-use Rattle.residual.proofs.Meaning.{test-definite}
+use Rattle.tables.proofs.Checks.{sizes-of}
+use Rattle.tables.proofs.Answers.{exactly}
+use Rattle.tables.proofs.Admission.{order-fits, no-order, came-through, entered-refused, entered-passed}
+use Rattle.residual.specs.FactorTest.{factorSizes, factorTested, factorTest}
+use Rattle.residual.proofs.Meaning.{tested-definite}
 use Rattle.residual.proofs.factor_test.test_factor.Statement.{statement}
 use Rattle.residual.proofs.factor_test.test_factor.Tie as tie
 
-ordered : (c : tie.Else1) → orderOk (c .before .before .args .n) ≡ true
-ordered c = rw (clean (c .before .before .fits .n)) at (call-true (c .before .order-ok .ensures) (c .if1 .left))
+order : (c : tie.After-order-of) → c .order-of .result ≡ orderOf (c .before .args .n)
+order c = rw (clean (c .before .fits .n)) at (c .order-of .ensures)
 
-abbrev size : tie.Start → Bool
-size s = let a = s .args in factorSizes (natAbs (a .n)) (length (a .low .now)) (length (a .high .now)) (length (a .factor .now))
+-- what check 2 finds
+sized : (c : tie.After-sizes-ok) → let a = c .before .before .before .args in
+    c .sizes-ok .result ≡ factorSizes (orderOf (a .n)) (length (a .low .now)) (length (a .high .now)) (length (a .factor .now))
+sized c = rw (order (c .before .before)) at (c .sizes-ok .ensures)
 
-sized : (c : tie.Else2) → size (c .before .before .before .before) ≡ true
-sized c = rw (clean (c .before .before .before .before .fits .n)) at (call-true (c .before .sizes-ok .ensures) (c .if2 .left))
+abbrev met : (c : tie.After-enter) → tie.After-sizes-ok
+met c = c .before .before .before
 
-unsized : (c : tie.Then2) → size (c .before .before .before .before) ≡ false
-unsized c = rw (clean (c .before .before .before .before .fits .n)) at (call-false (c .before .sizes-ok .ensures) (c .if2 .taken))
+abbrev start : (c : tie.After-enter) → tie.Start
+start c = met c .before .before .before
+
+-- the door, with what it found
+came : (c : tie.After-enter) → let a = start c .args in
+    Entered (a .n) (factorSizes (orderOf (a .n)) (length (a .low .now)) (length (a .high .now)) (length (a .factor .now))) true (a .low .now) (a .high .now)
+    (c .enter .result) (c .enter .last .1 .1 .1 .1 .1 .0) (c .enter .last .1 .1 .1 .1 .1 .1 .0)
+came c = rw (clean (start c .fits .n), sized (met c)) at (c .enter .ensures)
 
 -- what an answer means
 abbrev means : tie.Start → Answer → Type 0
 means s r =
     let a = s .args in
-    r ≡ Answer.Yes → PositiveDefinite (natAbs (a .n)) (at (natAbs (a .n)) (a .low .now)) (at (natAbs (a .n)) (a .high .now))
+    r ≡ Answer.Yes → PositiveDefinite (orderOf (a .n)) (at (orderOf (a .n)) (a .low .now)) (at (orderOf (a .n)) (a .high .now))
 
 definite : (s : tie.Start) → let a = s .args in means s (factorTest (a .n) (a .low .now) (a .high .now) (a .factor .now))
-definite s = let a = s .args in test-definite (a .low .now) (a .high .now) (a .factor .now) (a .n)
+unfolding factorTest
+definite s = let a = s .args in tested-definite (a .low .now) (a .high .now) (a .factor .now) (a .n) _
 
 pub test-factor-spec : {M : Type 1} → statement M
-unfolding factorTest
+unfolding factorTest factorTested
 test-factor-spec =
     tie.close
     (tie.spec
     (λ c κs. search needs)
-    (λ c.
-    let s = c .before .before in
-    exactly (means s) (definite s) _ (order-refused Answer.Refused _ _ _ (rw (clean (s .fits .n)) at (call-false (c .before .order-ok .ensures) (c .if1 .taken)))))
-    (λ c. order-usize (c .before .before .fits .n) (ordered c))
-    (λ c. rw (clean (c .before .before .fits .n)) (record { fits = omega (arith, table-fits (order-of (ordered c) .1)) }))
+    (λ c. let s = c .before .before in exactly (means s) (definite s) _ (no-order _ _ _ _ _ Answer.Refused _ (sym (order (c .before)) ∙ c .if1 .taken)))
+    (λ c. record { fits = omega (arith, order-fits _ (order (c .before))) })
+    (λ c. record { fits = omega (arith, order-fits _ (order (c .before))) })
     (λ c κs. search needs)
-    (λ c.
-    let s = c .before .before .before .before in
-    exactly (means s) (definite s) _ (size-refused Answer.Refused _ _ _ (ordered (c .before .before)) (unsized c)))
     (λ c κs.
-    let s = c .before .before .before .before in
-    rw (clean (s .fits .n)) (let z = sizes-of _ _ _ _ _ (sized c) in (order-of (ordered (c .before .before)) .1, z .0, z .1, z .2)))
+    let d = c .before .before in
+    ((λ s. rw (clean (d .before .before .before .fits .n)) (let z = sizes-of _ _ _ _ _ (sym (sized d) ∙ s) in (z .0, z .1))), refl, refl))
+    (λ c. search needs)
     (λ c.
-    let s = c .before .before .before .before .before in
-    exactly (means s) (definite s) _ ((rw (clean (s .fits .n)) at (c .answer .ensures)) ∙ entry-passed Answer.Refused _ _ _ (ordered (c .before .before .before)) (sized (c .before)))))
+    let e = c .before .before .before in
+    let s = start e in
+    exactly (means s) (definite s) _ (entered-refused _ _ _ _ _ Answer.Refused _ (came e) (c .before .checked .given .1)))
+    (λ c. search needs)
+    (λ c. sym (c .before .before .before .enter .ensures .rooms .low-size))
+    (λ c. sym (c .before .before .before .before .enter .ensures .rooms .high-size))
+    (λ c κs.
+    let e = c .before .before .before .before in
+    let q = c .before .before .enum-told .given .1 in
+    let z = sizes-of _ _ _ _ _ (came-through _ _ _ _ _ (came e) q .sizes) in
+    rw (order (met e .before .before)) (came e .held q .tables, omega (arith, z .2)))
+    (λ c.
+    let d = c .before .before .before in
+    let e = d .before .before in
+    let q = d .enum-told .given .1 in
+    let s = start e in
+    let h = came e .held q in
+    exactly (means s) (definite s) _
+    ((rw (order (met e .before .before), h .low, h .high) at (c .answer .ensures)) ∙ entered-passed _ _ _ _ _ Answer.Refused _ (came e) q)))

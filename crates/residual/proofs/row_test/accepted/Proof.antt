@@ -16,7 +16,7 @@ abbrev μ-loop : tie.MeasureT-loop
 loop-again : tie.Need-loop-again Inv-loop μ-loop
 loop-again c =
     let b = c .before .before in
-    (omega arith, rw add-one (rows-step (b .before .before .pre) (b .loop-test .taken) (b .before .loop .inv .1) (c .charge .ensures)))
+    (omega arith, rw add-one (rows-step (b .before .before .pre) (b .loop-test .taken) (b .before .loop .inv .1) (c .subtract-radii .ensures)))
 
 returns : tie.Need-returns Inv-loop μ-loop
 returns c =
@@ -29,7 +29,7 @@ accepted-spec =
     tie.close
     (tie.spec Inv-loop μ-loop
     (λ c. (omega arith, rows-start refl))
-    (λ c κs. (c .before .before .before .pre, c .before .loop-test .taken, c .before .before .loop .inv .1 .room))
+    (λ c κs. (c .before .before .before .pre, c .before .loop-test .taken, c .before .before .loop .inv .1 .within))
     (λ c. omega arith)
     (λ c. omega arith)
     loop-again

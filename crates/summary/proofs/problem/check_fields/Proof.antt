@@ -12,7 +12,7 @@ use Rattle.tables.specs.declared.Refusal.the-variants.{Size}
 use Rattle.tables.proofs.Checks.{call-true, call-false, first-none, first-passes, first-refuses, order-of}
 use Rattle.fields.specs.declared.field.Kind.the-variants as Kind
 use Rattle.fields.specs.Layouts.{lengthOf}
-use Rattle.summary.specs.Problems.{allPresent, orderIn, sizesOk, fieldChecks}
+use Rattle.summary.specs.Problems.{allPresent, orderIn, lengthsOk, fieldChecks}
 use Rattle.summary.proofs.problem.check_fields.Statement.{statement}
 use Rattle.summary.proofs.problem.check_fields.Tie as tie
 
@@ -39,7 +39,7 @@ ordered c = found (c .before .before) ∙ not-false _ (c .if3 .left)
 
 -- the last check decides
 last : (c : tie.Else3) → let a = start (c .before .before) .args in
-    firstRefusal (fieldChecks (a .file .now) (a .layout)) ≡ firstRefusal (record { passes = sizesOk (a .layout) (orderIn (a .file .now) (a .layout)); otherwise = Size } ∷ [])
+    firstRefusal (fieldChecks (a .file .now) (a .layout)) ≡ firstRefusal (record { passes = lengthsOk (a .layout) (orderIn (a .file .now) (a .layout)); otherwise = Size } ∷ [])
 unfolding fieldChecks
 last c = first-passes _ _ (present (c .before .before .before .before .before)) ∙ first-passes _ _ (one-byte (c .before)) ∙ first-passes _ _ (ordered c)
 
@@ -67,7 +67,7 @@ check-fields-spec =
     (λ c κs. rw (c .before .before .before .order-in .ensures) (order-of (ordered c) .1))
     (λ c.
     let n = c .before .before .before .before .before .order-in in
-    sym (last (c .before .before) ∙ first-passes _ _ (sym (rw (n .ensures, c .if4 .taken) at (c .before .sizes-ok .ensures))) ∙ first-none))
+    sym (last (c .before .before) ∙ first-passes _ _ (sym (rw (n .ensures, c .if4 .taken) at (c .before .lengths-ok .ensures))) ∙ first-none))
     (λ c.
     let n = c .before .before .before .before .before .order-in in
-    sym (last (c .before .before) ∙ first-refuses _ _ (sym (rw (n .ensures, c .if4 .left) at (c .before .sizes-ok .ensures))))))
+    sym (last (c .before .before) ∙ first-refuses _ _ (sym (rw (n .ensures, c .if4 .left) at (c .before .lengths-ok .ensures))))))

@@ -1,4 +1,4 @@
-use mathlib.Core.Path.{_∙_}
+use mathlib.Core.Path.{refl, _∙_}
 use Rattle.integers.proofs.Machine.{clean-result}
 use Rattle.fields.proofs.Parts.{length-content}
 use Rattle.summary.proofs.problem.number_in.Statement.{statement}
@@ -8,5 +8,5 @@ pub number-in-spec : {M : Type 1} → statement M
 number-in-spec =
     tie.close
     (tie.spec (λ c κs. c .before .pre .0 .ends _)
-    (λ c κs. let p = c .before .before .pre in rw (c .content .ensures, length-content _ _ _ (p .0)) (p .1))
-    (λ c. clean-result (c .load-i64) ∙ (rw (c .before .content .ensures) at (c .load-i64 .ensures))))
+    (λ c κs. let p = c .before .before .pre in (refl, rw (c .content .ensures, length-content _ _ _ (p .0)) (p .1)))
+    (λ c. clean-result (c .load-signed) ∙ (rw (c .before .content .ensures) at (c .load-signed .ensures))))

@@ -1,11 +1,15 @@
+use mathlib.Core.Path.{_≡_}
 use Prim.Native.Nat.{_≤_}
 use native.Mathlib.Omega.{arith}
 use borrow.Author.Needs.{needs}
 use Rattle.integers.proofs.Machine.{clean-result}
 use Rattle.tables.specs.Ranges.{greatestOrder}
 use Rattle.tables.proofs.Matrix.{table-fits}
-use Rattle.summary.specs.Problems.{problemIn}
-use Rattle.summary.proofs.Spelled.{Lengths, lengths-of}
+use Rattle.fields.specs.declared.field.Kind.{Kind}
+use Rattle.fields.specs.declared.field.Kind.the-variants as Kind
+use Rattle.fields.specs.Layouts.{lengthOf}
+use Rattle.summary.specs.Problems.{lengthFor, problemIn}
+use Rattle.summary.proofs.Spelled.{length-is}
 use Rattle.summary.proofs.problem.problem_in.Statement.{statement}
 use Rattle.summary.proofs.problem.problem_in.Tie as tie
 
@@ -13,8 +17,8 @@ use Rattle.summary.proofs.problem.problem_in.Tie as tie
 small : (c : tie.After-order-in) → c .order-in .result ≤ greatestOrder
 small c = let e = c .order-in .ensures in let h = c .before .before .pre .order in omega arith
 
-lengths : (c : tie.After-order-in) → Lengths (c .before .before .args .layout) (c .order-in .result)
-lengths c = lengths-of _ _ (rw (c .order-in .ensures) (c .before .before .pre .sizes))
+length : (c : tie.After-order-in) (k : Kind) → lengthOf (c .before .before .args .layout) k ≡ lengthFor (c .order-in .result) k
+length c = length-is _ _ (rw (c .order-in .ensures) (c .before .before .pre .sizes))
 
 pub problem-in-spec : {M : Type 1} → statement M
 unfolding problemIn
@@ -23,12 +27,12 @@ problem-in-spec =
     (tie.spec (λ c κs. search needs)
     (λ c. search needs)
     (λ c. omega (arith, table-fits (small c)))
-    (λ c κs. let z = lengths c in (c .before .before .pre .inside, omega arith, table-fits (small c)))
+    (λ c κs. (c .before .before .pre .inside, omega (arith, length c Kind.Low), table-fits (small c)))
     (λ c. omega (arith, table-fits (small (c .before))))
-    (λ c κs. let d = c .before in let z = lengths d in (d .before .before .pre .inside, omega arith, table-fits (small d)))
-    (λ c κs. let d = c .before .before in let z = lengths d in (d .before .before .pre .inside, omega arith, small d))
-    (λ c κs. let d = c .before .before .before in let z = lengths d in (d .before .before .pre .inside, omega arith))
-    (λ c κs. let d = c .before .before .before .before in let z = lengths d in (d .before .before .pre .inside, omega arith, small d))
+    (λ c κs. let d = c .before in (d .before .before .pre .inside, omega (arith, length d Kind.Low, length d Kind.High), table-fits (small d)))
+    (λ c κs. let d = c .before .before in (d .before .before .pre .inside, omega (arith, length d Kind.Linear), small d))
+    (λ c κs. let d = c .before .before .before in (d .before .before .pre .inside, omega (arith, length d Kind.Limit)))
+    (λ c κs. let d = c .before .before .before .before in (d .before .before .pre .inside, omega (arith, length d Kind.Centre), small d))
     (λ c.
     let d = c .before .before .before in
     rw (

@@ -1,6 +1,7 @@
 use mathlib.Core.Path.{_∙_}
 use borrow.Author.Needs.{needs}
 use Rattle.integers.proofs.Machine.{clean, clean-element, clean-result}
+use Rattle.tables.specs.Matrix.{nth}
 use Rattle.vectors.specs.LeastShares.{leastPair}
 use Rattle.tables.proofs.CheckedTables.{low-within, high-within}
 use Rattle.vectors.proofs.Values.{product-within, product-fits}
@@ -9,15 +10,17 @@ use Rattle.vectors.proofs.least.least_pair.Tie as tie
 
 product : tie.Need-mul-least-term-3
 product c =
-    let p = c .before .before .before .before .pre in
-    rw (clean-element _ (c .before .least-term-arg .given), clean-element _ (c .least-term-arg2 .given)) (product-fits (p .0) (p .1) (p .2))
+    let s = c .before .before .before .before in
+    let p = s .pre in
+    rw (clean-element (nth (s .args .x .now) (s .args .i)) (c .before .least-term-arg .given), clean-element _ (c .least-term-arg2 .given)) (product-fits (p .0) (p .1) (p .2))
 
 asked : tie.Need-least-term-requires
 asked c κs =
     let e2 = c .before .before in
     let e1 = e2 .before in
-    let p = e1 .before .pre in
-    rw (clean-result (e1 .entry), clean-result (e2 .entry2), e1 .entry .ensures, e2 .entry2 .ensures, clean (product c), clean-element _ (c .before .least-term-arg .given), clean-element _ (c .least-term-arg2 .given))
+    let s = e1 .before in
+    let p = s .pre in
+    rw (clean-result (e1 .entry), clean-result (e2 .entry2), e1 .entry .ensures, e2 .entry2 .ensures, clean (product c), clean-element (nth (s .args .x .now) (s .args .i)) (c .before .least-term-arg .given), clean-element _ (c .least-term-arg2 .given))
     (low-within (p .0 .tables) (p .1) (p .2), high-within (p .0 .tables) (p .1) (p .2), product-within (p .0) (p .1) (p .2))
 
 returns : tie.Need-returns
@@ -26,8 +29,9 @@ returns c =
     let a = c .before in
     let e2 = a .before .before in
     let e1 = e2 .before in
+    let s = e1 .before in
     clean-result (c .least-term) ∙ c .least-term .ensures
-    ∙ rw (clean-result (e1 .entry), clean-result (e2 .entry2), e1 .entry .ensures, e2 .entry2 .ensures, clean (product a), clean-element _ (a .before .least-term-arg .given), clean-element _ (a .least-term-arg2 .given))
+    ∙ rw (clean-result (e1 .entry), clean-result (e2 .entry2), e1 .entry .ensures, e2 .entry2 .ensures, clean (product a), clean-element (nth (s .args .x .now) (s .args .i)) (a .before .least-term-arg .given), clean-element _ (a .least-term-arg2 .given))
 
 pub least-pair-spec : {M : Type 1} → statement M
 least-pair-spec =

@@ -1,12 +1,13 @@
 use mathlib.Core.Path.{sym}
 use borrow.Author.Needs.{needs}
+use Rattle.tables.specs.Checks.{allWithin}
 use Rattle.tables.proofs.Checks.{call-false, call-true, and-first-false}
 use Rattle.vectors.specs.VectorTest.{vectorShape}
 use Rattle.vectors.proofs.vector_test.vector_shape.Statement.{statement}
 use Rattle.vectors.proofs.vector_test.vector_shape.Tie as tie
 
 pub vector-shape-spec : {M : Type 1} → statement M
-unfolding vectorShape
+unfolding vectorShape allWithin
 vector-shape-spec =
     tie.close
     (tie.spec

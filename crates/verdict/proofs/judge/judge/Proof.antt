@@ -1,71 +1,91 @@
--- Checks 1 and 2, and then the rest.
-use mathlib.Core.Path.{_≡_, ap, _∙_}
-use mathlib.Core.Bool.{Bool, true, false}
+use mathlib.Core.Path.{_≡_, refl, sym, ap, _∙_}
+use mathlib.Core.Bool.{Bool, true}
 use mathlib.Core.List.{List}
 use Prim.Native.Nat.{_*_}
 use native.Mathlib.Omega.{arith}
 use borrow.Author.Needs.{needs}
-use lib.IntN.{ℤ, natAbs}
+use lib.IntN.{ℤ}
 use lib.ListN.{length}
 use Rattle.integers.proofs.Machine.{clean}
-use Rattle.tables.specs.Checks.{orderOk}
-use Rattle.tables.proofs.Matrix.{table-fits}
-use Rattle.tables.proofs.Checks.{call-false, call-true, order-of, order-usize}
-use Rattle.tables.proofs.Answers.{order-refused, size-refused, entry-passed, exactly}
-use Rattle.verdict.specs.Judge.{Judgement, refused, Judged, written, judgeSizes, judge, Meaning}
-use Rattle.verdict.proofs.Decisions.{order-positive, judge-sizes-of}
-use Rattle.verdict.proofs.Meanings.{judge-means}
+use Rattle.tables.specs.Checks.{orderOf}
+use Rattle.tables.specs.Entering.{Entered}
+use Rattle.tables.proofs.Answers.{exactly}
+use Rattle.tables.proofs.Admission.{order-fits, no-order, came-through, entered-refused, entered-passed}
+use Rattle.verdict.specs.Judge.{Judgement, refused, Judged, written, judgeSizes, judging, judge, Meaning}
+use Rattle.verdict.proofs.Decisions.{judge-sizes-of}
+use Rattle.verdict.proofs.Meanings.{judging-means}
 use Rattle.verdict.proofs.judge.judge.Statement.{statement}
 use Rattle.verdict.proofs.judge.judge.Tie as tie
 
-ordered : (c : tie.Else1) → orderOk (c .before .before .args .n) ≡ true
-ordered c = rw (clean (c .before .before .fits .n)) at (call-true (c .before .order-ok .ensures) (c .if1 .left))
+order : (c : tie.After-order-of) → c .order-of .result ≡ orderOf (c .before .args .n)
+order c = rw (clean (c .before .fits .n)) at (c .order-of .ensures)
 
-abbrev size : tie.Start → Bool
-size s =
+-- what check 2 finds
+abbrev sizes : tie.Start → Bool
+sizes s =
     let a = s .args in
-    judgeSizes (natAbs (a .n) * natAbs (a .n)) (natAbs (a .n)) (length (a .low .now)) (length (a .high .now)) (length (a .factor .now)) (length (a .vector .now))
+    let k = orderOf (a .n) in
+    judgeSizes (k * k) k (length (a .low .now)) (length (a .high .now)) (length (a .factor .now)) (length (a .vector .now))
 
-sized : (c : tie.Else2) → size (c .before .before .before .before) ≡ true
-sized c = rw (clean (c .before .before .before .before .fits .n)) at (call-true (c .before .sizes-ok .ensures) (c .if2 .left))
+sized : (c : tie.After-sizes-ok) → c .sizes-ok .result ≡ sizes (c .before .before .before)
+sized c = rw (order (c .before .before)) at (c .sizes-ok .ensures)
 
-unsized : (c : tie.Then2) → size (c .before .before .before .before) ≡ false
-unsized c = rw (clean (c .before .before .before .before .fits .n)) at (call-false (c .before .sizes-ok .ensures) (c .if2 .taken))
+abbrev met : (c : tie.After-enter) → tie.After-sizes-ok
+met c = c .before .before .before
+
+abbrev start : (c : tie.After-enter) → tie.Start
+start c = met c .before .before .before
+
+-- the door, with what it found
+came : (c : tie.After-enter) → let a = start c .args in
+    Entered (a .n) (sizes (start c)) true (a .low .now) (a .high .now) (c .enter .result) (c .enter .last .1 .1 .1 .1 .1 .0) (c .enter .last .1 .1 .1 .1 .1 .1 .0)
+came c = rw (clean (start c .fits .n), sized (met c)) at (c .enter .ensures)
 
 -- what an answer means
 abbrev means : tie.Start → Judged (List ℤ) → Type 0
-means s j = let a = s .args in Meaning (j .verdict) (natAbs (a .n)) (a .low .now) (a .high .now) (j .factor) (j .vector)
+means s j = let a = s .args in Meaning (a .n) (a .low .now) (a .high .now) (j .verdict) (j .factor) (j .vector)
 
 shown : (s : tie.Start) → let a = s .args in means s (judge (a .n) (a .low .now) (a .high .now) (a .factor .now) (a .vector .now))
-shown s = let a = s .args in judge-means (a .low .now) (a .high .now) (a .factor .now) (a .vector .now) (a .n)
+unfolding judge
+shown s = let a = s .args in judging-means (a .n) _ (a .low .now) (a .high .now) (a .factor .now) (a .vector .now)
 
 -- both buffers with it
 abbrev given : tie.Start → Judgement → Judged (List ℤ)
 given s g = written g (s .args .factor .now) (s .args .vector .now)
 
 pub judge-spec : {M : Type 1} → statement M
-unfolding judge
+unfolding judge judging
 judge-spec =
     tie.close
-    (tie.spec (λ c κs. search needs)
-    (λ c.
-    let s = c .before .before in
-    exactly (means s) (shown s) _ (ap (given s) (order-refused refused _ _ _ (rw (clean (s .fits .n)) at (call-false (c .before .order-ok .ensures) (c .if1 .taken))))))
-    (λ c. order-usize (c .before .before .fits .n) (ordered c))
-    (λ c. rw (clean (c .before .before .fits .n)) (record { fits = omega (arith, table-fits (order-of (ordered c) .1)) }))
+    (tie.spec
     (λ c κs. search needs)
-    (λ c.
-    let s = c .before .before .before .before in
-    exactly (means s) (shown s) _ (ap (given s) (size-refused refused _ _ _ (ordered (c .before .before)) (unsized c))))
+    (λ c. let s = c .before .before in exactly (means s) (shown s) _ (ap (given s) (no-order _ _ _ _ _ refused _ (sym (order (c .before)) ∙ c .if1 .taken))))
+    (λ c. record { fits = omega (arith, order-fits _ (order (c .before))) })
+    (λ c κs. search needs)
     (λ c κs.
-    let s = c .before .before .before .before .before .before in
-    let z = judge-sizes-of _ _ _ _ _ _ (sized (c .before .before)) in
-    let o = ordered (c .before .before .before .before) in
-    rw (clean (s .fits .n)) (order-of o .1, order-positive _ o, z .0, z .1, z .2, z .3))
+    let d = c .before .before in
+    ((λ s. rw (clean (d .before .before .before .fits .n)) (let z = judge-sizes-of _ _ _ _ _ _ (sym (sized d) ∙ s) in (z .0, z .1))), refl, refl))
+    (λ c. search needs)
+    (λ c.
+    let e = c .before .before .before in
+    let s = start e in
+    exactly (means s) (shown s) _ (ap (given s) (entered-refused _ _ _ _ _ refused _ (came e) (c .before .checked .given .1))))
+    (λ c. search needs)
+    (λ c. sym (c .before .before .before .enter .ensures .rooms .low-size))
+    (λ c. sym (c .before .before .before .before .enter .ensures .rooms .high-size))
+    (λ c κs.
+    let e = c .before .before .before .before .before .before in
+    let q = c .before .before .before .before .enum-told .given .1 in
+    let b = came-through _ _ _ _ _ (came e) q in
+    let z = judge-sizes-of _ _ _ _ _ _ (b .sizes) in
+    rw (order (met e .before .before)) (came e .held q .tables, z .2, z .3))
     (λ c. search needs)
     (λ c. search needs)
     (λ c.
-    let s = c .before .before .before .before .before .before .before .before .before in
+    let d = c .before .before .before .before .before .before .before in
+    let e = d .before .before in
+    let q = d .enum-told .given .1 in
+    let s = start e in
+    let h = came e .held q in
     exactly (means s) (shown s) _
-    ((rw (clean (s .fits .n)) at (c .before .before .judge-tables .ensures))
-    ∙ ap (given s) (entry-passed refused _ _ _ (ordered (c .before .before .before .before .before .before .before)) (sized (c .before .before .before .before .before))))))
+    ((rw (order (met e .before .before), h .low, h .high) at (c .before .before .judge-bounds .ensures)) ∙ ap (given s) (entered-passed _ _ _ _ _ refused _ (came e) q))))

@@ -1,6 +1,6 @@
 -- The tried, then the solved ones.
 use native.Mathlib.Omega.{arith}
-use Rattle.verdict.proofs.Listing.{first-hit, first-miss, low-table, high-table}
+use Rattle.verdict.proofs.Listing.{first-hit, first-miss}
 use Rattle.verdict.proofs.listed.first_listed.Statement.{statement}
 use Rattle.verdict.proofs.listed.first_listed.Tie as tie
 
@@ -20,7 +20,7 @@ returns-3 c =
 pub first-listed-spec : {M : Type 1} → statement M
 first-listed-spec =
     tie.close
-    (tie.spec (λ c κs. let p = c .before .pre in (low-table (p .0), high-table (p .0), p .0 .bounds, p .2, p .3))
+    (tie.spec (λ c κs. let p = c .before .pre in (p .0, p .2))
     returns
     (λ c κs. let p = c .before .before .before .before .pre in (p .0, p .1, record { size = omega arith }, c .before .before .first-tried .ensures .size))
     returns-2

@@ -1,11 +1,12 @@
 -- There is no solved vector, or the one that there is shows it, or not.
-use mathlib.Core.Path.{_≡_, refl, sym, _∙_}
+use mathlib.Core.Path.{_≡_, refl}
 use mathlib.Core.Bool.{true, false}
 use borrow.Author.Needs.{needs}
 use Rattle.integers.proofs.Machine.{clean}
-use Rattle.tables.specs.Matrix.{nth, tabulate}
 use Rattle.tables.proofs.Checks.{call-true, call-false}
 use Rattle.tables.proofs.Matrix.{nth-tabulate}
+use Rattle.solved.specs.Solved.{solved}
+use Rattle.solved.specs.Stopped.{stoppedAt}
 use Rattle.verdict.proofs.Listing.{shows-ext, solved-none, solved-one, solved-asked}
 use Rattle.verdict.proofs.listed.solved_shows.Statement.{statement}
 use Rattle.verdict.proofs.listed.solved_shows.Tie as tie
@@ -25,4 +26,5 @@ solved-shows-spec =
     (λ c.
     let s = c .before .before .before .before .before in
     let e : c .before .before .before .solve .result ≡ true = call-true refl (c .before .before .if1 .left) in
-    solved-one _ (rw (clean (s .fits .s), e) at (c .before .before .before .solve .ensures)) _ (shows-ext _ _ _ _ _ (nth-tabulate _ _) ∙ sym (c .shows .ensures))))
+    let a = s .args in
+    solved-one _ {o = solved (a .n) (stoppedAt (a .t .now) (a .j) (a .m)) (a .s)} (rw (clean (s .fits .s), e) at (c .before .before .before .solve .ensures)) _ (rw (c .shows .ensures) (shows-ext _ _ _ _ _ (nth-tabulate _ _)))))

@@ -1,0 +1,63 @@
+-- The numbers that a buffer spells, loaded over zeros.
+use mathlib.Core.Path.{_≡_, refl, ap, ap₂, _∙_}
+use mathlib.Core.Bool.{Bool, true, false, _&&_}
+use mathlib.Core.List.{List, _++_}
+use Prim.Native.Nat.{ℕ, _≤_}
+use native.Mathlib.Omega.{arith}
+use lib.IntN.{ℤ}
+use lib.ListN.{length, drop, length-append, length-drop, length-replicate}
+use mir.Syntax.{w64}
+use Rattle.words.specs.Numbers.{numbersOf}
+use Rattle.words.proofs.Laws.{length-numbersOf}
+use Rattle.tables.specs.Ranges.{linearRange, limitRange, centreRange}
+use Rattle.tables.specs.Checks.{termsWithin, all, within, allWithin, orderOk, orderOf, firstRefusal, entryChecks, boundsChecks}
+use Rattle.tables.specs.Entering.{Laid, Entered, doorChecks, entered}
+use Rattle.tables.specs.declared.Refusal.{Refusal}
+use Rattle.tables.specs.declared.Refusal.the-variants.{Length}
+use Rattle.tables.specs.declared.Checked.{Checked}
+use Rattle.tables.proofs.Checks.{first-passes, first-refuses, no-more-checks}
+use Rattle.tables.proofs.Answers.{after-refused}
+use Rattle.tables.proofs.Admission.{zeros, Padded, laid-zeros, entered-laid}
+use Rattle.buffers.specs.Buffers.{tableOf, vectorOf, Terms}
+
+-- k numbers laid over zeros
+module _ {room k : ℕ} (s : List ℕ) {o o′ : List ℤ} (b : o ≡ zeros room) (h : k ≤ room) (q : o′ ≡ numbersOf w64 s k ++ drop k o) where
+  pub loaded : Padded (numbersOf w64 s k) o′
+  loaded = rw (q, b) (rw (length-numbersOf w64 s k) at (laid-zeros room (numbersOf w64 s k) (omega (arith, length-numbersOf w64 s k))))
+
+  pub loaded-room : length o′ ≡ room
+  loaded-room = ap length q ∙ rw (length-append, length-numbersOf, length-drop, b, length-replicate) (omega arith)
+
+-- a call whose n is an order, and whose buffers have other sizes
+ordered : (n : ℤ) → (orderOf n ≡ 0 → ⊥) → orderOk n ≡ true
+unfolding orderOf
+ordered n h = go (orderOk n) refl
+  where
+    go : (b : Bool) → orderOk n ≡ b → orderOk n ≡ true
+    go true e = e
+    go false e = absurd (h (rw (orderOf, e)))
+
+pub no-sizes : (n : ℤ) (sized others : Bool) (l u : List ℤ) {A : Type 0} (refused : Refusal → A) (a : A) → (orderOf n ≡ 0 → ⊥) → sized ≡ false →
+    refused Length ≡ entered refused n sized others l u a
+unfolding entered entryChecks
+no-sizes n sized others l u refused a h e =
+    after-refused refused Length a (no-more-checks (entryChecks n sized) (boundsChecks others (orderOf n) l u) Length (first-passes _ _ (ordered n h) ∙ first-refuses _ _ e))
+
+-- checks 1 to 5 of the bounds that were loaded are those of the bounds that the buffers spell
+pub came-loaded : {n n′ : ℤ} {m : ℕ} {sized sized′ others : Bool} (l u : List ℕ) {l′ u′ : List ℤ} {r : Checked} → m ≡ orderOf n → n′ ≡ n → sized′ ≡ sized →
+    Laid m sized′ (tableOf m l) (tableOf m u) l′ u′ → r ≡ firstRefusal (doorChecks n′ sized′ others l′ u′) →
+    Entered n sized others (tableOf (orderOf n) l) (tableOf (orderOf n) u) r l′ u′
+came-loaded l u e f g p a = entered-laid _ _ _ (λ s. (length-numbersOf w64 l _, length-numbersOf w64 u _)) (rw (← e, ← g) p) (rw (← f, ← g) a)
+
+-- check 3 of the numbers that were loaded is that of the numbers that the buffers spell
+pub terms-spelled : (n : ℕ) (sized : Bool) (a c : List ℕ) {x y : List ℤ} (α : ℤ) {r sized′ : Bool} {m : ℕ} {β : ℤ} → r ≡ (sized′ && termsWithin m x β y) → sized′ ≡ sized → m ≡ n → β ≡ α →
+    Terms n sized a x → Terms n sized c y → r ≡ (sized && termsWithin n (vectorOf n a) α (vectorOf n c))
+unfolding termsWithin allWithin
+terms-spelled n true a c α e f g h p q =
+    (rw (f, g, h) at e)
+    ∙ ap₂ (λ (f g : ℕ → ℤ). all n (λ k. within linearRange (f k)) && (within limitRange α && all n (λ k. within centreRange (g k)))) (p .numbers refl) (q .numbers refl)
+terms-spelled n false a c α e f g h p q = rw f at e
+
+-- of equal parts
+pub terms-by : {n m : ℕ} {sized sized′ : Bool} {b : List ℕ} {x : List ℤ} → n ≡ m → sized ≡ sized′ → Terms n sized b x → Terms m sized′ b x
+terms-by e f h = rw (← e, ← f) h

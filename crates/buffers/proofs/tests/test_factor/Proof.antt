@@ -1,0 +1,97 @@
+use mathlib.Core.Path.{_≡_, refl, sym, _∙_}
+use mathlib.Core.Bool.{Bool, true}
+use native.Mathlib.Omega.{arith}
+use borrow.Author.Needs.{needs}
+use lib.ListN.{length}
+use Rattle.integers.proofs.Machine.{clean}
+use Rattle.tables.specs.Ranges.{tableRoom}
+use Rattle.tables.specs.Matrix.{at}
+use Rattle.tables.specs.Checks.{orderOf}
+use Rattle.tables.specs.Entering.{Entered}
+use Rattle.tables.specs.declared.Answer.the-variants as Answer
+use Rattle.tables.proofs.Matrix.{table-fits}
+use Rattle.tables.proofs.Checks.{call-false, sizes-of}
+use Rattle.tables.proofs.Admission.{Padded, padded-at, order-small, order-fits, no-order, came-through, entered-refused, entered-passed}
+use Rattle.residual.specs.FactorTest.{factorTested, factorAnswer}
+use Rattle.buffers.specs.Buffers.{tableOf, factorBuffers}
+use Rattle.buffers.proofs.Loading.{no-sizes, came-loaded, loaded, loaded-room}
+use Rattle.buffers.proofs.tests.test_factor.Statement.{statement}
+use Rattle.buffers.proofs.tests.test_factor.Tie as tie
+
+order : (c : tie.After-order-of) → c .order-of .result ≡ orderOf (c .before .before .before .before .args .n)
+order c = rw (clean (c .before .before .before .before .fits .n)) at (c .order-of .ensures)
+
+-- what check 2 finds
+abbrev sizes : tie.Start → Bool
+sizes s = let a = s .args in factorBuffers (orderOf (a .n)) (length (a .low .now)) (length (a .high .now)) (length (a .factor .now))
+
+sized : (c : tie.After-sizes-ok) → c .sizes-ok .result ≡ sizes (c .before .before .before .before .before .before)
+sized c = rw (order (c .before .before)) at (c .sizes-ok .ensures)
+
+abbrev loads : (c : tie.After-check-door) → tie.After-load-bounds
+loads c = c .before .before .before
+
+abbrev met : (c : tie.After-check-door) → tie.After-sizes-ok
+met c = loads c .before .before .before .before
+
+abbrev start : (c : tie.After-check-door) → tie.Start
+start c = met c .before .before .before .before .before .before
+
+-- the door, with what it found
+came : (c : tie.After-check-door) → let a = start c .args in
+    Entered (a .n) (sizes (start c)) true (tableOf (orderOf (a .n)) (a .low .now)) (tableOf (orderOf (a .n)) (a .high .now))
+    (c .check-door .result) (loads c .load-bounds .last .1 .1 .1 .1 .0) (loads c .load-bounds .last .1 .1 .1 .1 .1 .0)
+came c =
+    came-loaded _ _ (order (met c .before .before)) (clean (start c .fits .n)) (sized (met c)) (loads c .load-bounds .ensures) (c .check-door .ensures)
+
+-- what is offered
+abbrev entering : (c : tie.After-load-numbers) → tie.After-check-door
+entering c = c .before .before .before .before
+
+offered : (c : tie.After-load-numbers) → let a = start (entering c) .args in Padded (tableOf (orderOf (a .n)) (a .factor .now)) (c .load-numbers .last .1 .0)
+offered c = loaded _ refl (table-fits (order-small _)) (rw (order (met (entering c) .before .before)) at (c .load-numbers .ensures))
+
+room : (c : tie.After-load-numbers) → length (c .load-numbers .last .1 .0) ≡ tableRoom
+room c = loaded-room _ refl (table-fits (order-small _)) (rw (order (met (entering c) .before .before)) at (c .load-numbers .ensures))
+
+pub test-factor-spec : {M : Type 1} → statement M
+unfolding factorTested
+test-factor-spec =
+    tie.close
+    (tie.spec
+    (λ c κs. search needs)
+    (λ c. no-order _ _ _ _ _ Answer.Refused _ (sym (order (c .before)) ∙ c .if1 .taken))
+    (λ c. record { fits = omega (arith, order-fits _ (order (c .before))) })
+    (λ c. record { fits = omega (arith, order-fits _ (order (c .before))) })
+    (λ c κs. search needs)
+    (λ c. no-sizes _ _ _ _ _ Answer.Refused _ (λ e. c .before .before .if1 .left (order (c .before .before .before) ∙ e)) (call-false (sized (c .before)) (c .if2 .taken)))
+    (λ c κs.
+    let d = c .before .before .before in
+    rw (order (d .before .before)) (order-small _, (λ s. let z = sizes-of _ _ _ _ _ (sym (sized d) ∙ s) in (omega (arith, z .0), omega (arith, z .1))), refl, refl))
+    (λ c κs. c .before .before .load-bounds .ensures .rooms)
+    (λ c. search needs)
+    (λ c. let e = c .before .before .before in let a = start e .args in let k = orderOf (a .n) in
+    entered-refused _ _ _ _ _ Answer.Refused (factorAnswer k (at k (tableOf k (a .low .now))) (at k (tableOf k (a .high .now))) (at k (tableOf k (a .factor .now)))) (came e) (c .before .checked .given .1))
+    (λ c. search needs)
+    (λ c. search needs)
+    (λ c. record { fits = omega (arith, order-fits _ (order (met (c .before .before .before) .before .before))) })
+    (λ c κs.
+    let e = c .before .before .before in
+    let z = sizes-of _ _ _ _ _ (came-through _ _ _ _ _ (came e) (c .before .enum-told .given .1) .sizes) in
+    rw (order (met e .before .before)) (refl, omega (arith, z .2), table-fits (order-small _)))
+    (λ c. sym (came (c .before .before .before .before .before .before) .rooms .low-size))
+    (λ c. sym (came (c .before .before .before .before .before .before .before) .rooms .high-size))
+    (λ c. sym (room (c .before .before .before .before)))
+    (λ c κs.
+    let o = c .before .before .before .before in
+    let t = o .before .before in
+    let e = t .before .before in
+    let h = came e .held (t .enum-told .given .1) in
+    rw (order (met e .before .before)) (h .tables, omega (arith, room o, table-fits (order-small (start e .args .n)))))
+    (λ c.
+    let o = c .before .before .before .before .before in
+    let t = o .before .before in
+    let e = t .before .before in
+    let q = t .enum-told .given .1 in
+    let h = came e .held q in
+    (rw (order (met e .before .before), h .low, h .high, padded-at (offered o) _) at (c .answer .ensures)) ∙ entered-passed _ _ _ _ _ Answer.Refused _ (came e) q))

@@ -1,0 +1,57 @@
+// R19.2 to R19.4 of docs/RULES.md: the answers to a problem, worked out and not printed.
+ghost use Rattle.summary.specs.Problems.{LetThrough};
+ghost use Rattle.report.specs.Answers.{Answered};
+use enclosure::enclose::BoxAnswer;
+use enclosure::enclose::box_bounds;
+use tables::GREATEST_ORDER;
+use tables::SIDES_ROOM;
+use tables::Sides;
+use tables::TABLE_ROOM;
+use tables::Table;
+use tables::Vector;
+use tables::problem::Problem;
+use verdict::judge::Verdict;
+use verdict::judge::decide;
+
+// The verdict on a problem and the answer of its box. Where the verdict is 'definite' the factor's columns stand in factor, where it is
+// 'not definite' the vector in vector, and where the box has sides they stand in sides.
+pub struct Answers {
+    pub verdict: Verdict,
+    pub factor: Table,
+    pub vector: Vector,
+    pub answer: BoxAnswer,
+    pub sides: Sides,
+}
+
+// The answers to a problem that passed the checks.
+pub fn work_out(problem: Problem) -> Answers
+    requires { ⌜ LetThrough problem ⌝ }
+    ensures { λ r. ⌜ Answered problem r ⌝ }
+{
+    let constraint = problem.constraint;
+    let n = constraint.order;
+    let low = constraint.low;
+    let high = constraint.high;
+    let linear = constraint.linear;
+    let centre = problem.centre;
+    let mut factor = [0i64; TABLE_ROOM];
+    let mut vector = [0i64; GREATEST_ORDER];
+    let mut sides = [0i64; SIDES_ROOM];
+    let verdict = decide(n, &low, &high, &mut factor, &mut vector);
+    let answer = box_bounds(
+        n,
+        &low,
+        &high,
+        &linear,
+        constraint.limit,
+        &centre,
+        &mut sides,
+    );
+    Answers {
+        verdict,
+        factor,
+        vector,
+        answer,
+        sides,
+    }
+}

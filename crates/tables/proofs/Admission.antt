@@ -1,0 +1,216 @@
+-- Laws of the front door: which way it lets a call go, and what holds after it.
+use mathlib.Core.Path.{_≡_, refl, sym, ap, ap₂, _∙_}
+use mathlib.Core.Bool.{Bool, true, false, false≢true, _&&_}
+use mathlib.Core.List.{List, _++_}
+use Prim.Native.Nat.{ℕ, _+_, _*_, _-_, _≤_}
+use native.Mathlib.Omega.{arith}
+use lib.IntN.{ℤ, pos, negsuc, natAbs}
+use lib.Signed.{_≤ℤ_, leZ}
+use lib.ListN.{length, take, drop, replicate, length-append, length-drop, length-replicate, replicate-append-replicate}
+use lib.Seq.{take-all, drop-at}
+use Rattle.integers.proofs.Parts.{≤-out}
+use Rattle.tables.specs.Ranges.{greatestOrder, tableRoom, entryRange}
+use Rattle.tables.specs.Matrix.{Matrix, nth, at}
+use Rattle.tables.specs.Checks.{all, within, allWithin, tablesWithin, nowhereCrossed, same, symmetric, boundsChecks, firstRefusal, orderOk, orderOf, entryChecks}
+use Rattle.tables.specs.Answers.{after}
+use Rattle.tables.specs.Entering.{Exact, Blank, Over, Laid, Entered, doorChecks, entered}
+use Rattle.tables.specs.declared.Refusal.{Refusal}
+use Rattle.tables.specs.declared.Refusal.the-variants.{Order}
+use Rattle.tables.specs.declared.Checked.{Checked}
+use Rattle.tables.specs.declared.Checked.the-variants.{Passed, Refused}
+use Rattle.tables.proofs.Matrix.{nth-padded, at-padded, table-fits}
+use Rattle.tables.proofs.Checks.{false-of, first-passes, first-refuses, first-none, first-passed, rest-passed, more-checks, no-more-checks, order-of, passed-bounds, and-left}
+use Rattle.tables.proofs.Answers.{after-refused, after-passed, prefix-passed}
+
+-- ---- a list of numbers with zeros behind it
+abbrev pub zeros : ℕ → List ℤ
+zeros m = replicate m (pos 0)
+
+-- x, and zeros behind it
+pub record Padded (x x′ : List ℤ) : Type 0 where
+  pub rest : ℕ
+  pub list : x′ ≡ x ++ zeros rest
+
+module _ {x x′ : List ℤ} (p : Padded x x′) where
+  pub padded-nth : nth x′ ≡ nth x
+  padded-nth = rw (p .list) (nth-padded x (p .rest))
+
+  pub padded-at : (n : ℕ) → at n x′ ≡ at n x
+  padded-at n = rw (p .list) (at-padded n x (p .rest))
+
+  pub padded-length : length x ≤ length x′
+  padded-length = omega (arith, ap length (p .list) ∙ length-append x (zeros (p .rest)))
+
+-- numbers laid over zeros
+pub laid-zeros : (room : ℕ) (x : List ℤ) → length x ≤ room → Padded x (x ++ drop (length x) (zeros room))
+laid-zeros room x h = record { rest = room - length x; list = ap (λ (z : List ℤ). x ++ z) (split room (length x) h) }
+  where
+    split : (n k : ℕ) → k ≤ n → drop k (zeros n) ≡ zeros (n - k)
+    split n k h =
+        let e : n ≡ k + (n - k) = omega arith in
+        ap (λ (m : ℕ). drop k (zeros m)) e ∙ ap (drop k) (sym (replicate-append-replicate k (n - k) (pos 0)))
+        ∙ drop-at (zeros k) (zeros (n - k)) k (length-replicate k (pos 0))
+
+-- into a scratch table
+pub blank-length : {o : List ℤ} → Blank o → length o ≡ tableRoom
+blank-length b = ap length b ∙ length-replicate tableRoom (pos 0)
+
+pub copied-over : {k : ℕ} (x : List ℤ) {o t : List ℤ} → Blank o → length x ≡ k → t ≡ take k x ++ drop k o → Over k x t
+copied-over {k} x b e q = q ∙ rw (b, take-all k x (omega (arith, e))) refl
+
+pub over-padded : {k : ℕ} {x t : List ℤ} → length x ≡ k → k ≤ tableRoom → Over k x t → Padded x t
+over-padded {k} {x} e h q = rw (q, ← e) (laid-zeros tableRoom x (omega (arith, e)))
+
+pub over-room : {k : ℕ} (x : List ℤ) {t : List ℤ} → length x ≡ k → k ≤ tableRoom → Over k x t → length t ≡ tableRoom
+over-room {k} x e h q = ap length q ∙ rw (length-append, e, length-drop, length-replicate) (omega arith)
+
+-- ---- zeros behind the tables change no check
+pub range-padded : (b m : ℕ) {x x′ : List ℤ} → Padded x x′ → allWithin b m x′ ≡ allWithin b m x
+unfolding allWithin
+range-padded b m p = ap (λ (f : ℕ → ℤ). all m (λ i. within b (f i))) (padded-nth p)
+
+crossed-padded : (m : ℕ) {x x′ y y′ : List ℤ} → Padded x x′ → Padded y y′ → nowhereCrossed m x′ y′ ≡ nowhereCrossed m x y
+unfolding nowhereCrossed
+crossed-padded m p q = ap₂ (λ (f g : ℕ → ℤ). all m (λ i. leZ (f i) (g i))) (padded-nth p) (padded-nth q)
+
+symmetric-padded : (n : ℕ) {x x′ : List ℤ} → Padded x x′ → symmetric n x′ ≡ symmetric n x
+unfolding symmetric
+symmetric-padded n p = ap (λ (M : Matrix). all n (λ i. all i (λ j. same (M i j) (M j i)))) (padded-at p n)
+
+-- where check 3 passes the other numbers pass, and so do the bounds alone
+others-within : (others : Bool) (n : ℕ) (l u : List ℤ) → firstRefusal (boundsChecks others n l u) ≡ Passed → others ≡ true
+unfolding boundsChecks
+others-within others n l u e = and-left others (tablesWithin (n * n) l u) (first-passed _ _ e)
+
+others-passed : (others : Bool) (n : ℕ) (l u : List ℤ) → firstRefusal (boundsChecks others n l u) ≡ Passed → firstRefusal (boundsChecks true n l u) ≡ Passed
+unfolding boundsChecks
+others-passed true n l u e = e
+others-passed false n l u e = cc (first-passed _ _ e)
+
+module _ {l u l′ u′ : List ℤ} (p : Padded l l′) (q : Padded u u′) where
+  checks-padded : (others : Bool) (n : ℕ) → boundsChecks others n l′ u′ ≡ boundsChecks others n l u
+  unfolding boundsChecks tablesWithin
+  checks-padded others n = rw (range-padded entryRange (n * n) p, range-padded entryRange (n * n) q, crossed-padded (n * n) p q, symmetric-padded n p, symmetric-padded n q)
+
+-- what checks 1 and 2 say
+pub entry-passed : (n : ℤ) (sized : Bool) → firstRefusal (entryChecks n sized) ≡ Passed → (orderOk n ≡ true) × (sized ≡ true)
+unfolding entryChecks
+entry-passed n sized p = (first-passed _ _ p, first-passed _ _ (rest-passed _ _ p))
+
+-- ---- the order of a call
+pub order-small : (n : ℤ) → orderOf n ≤ greatestOrder
+unfolding orderOf
+order-small n = go (orderOk n) refl
+  where
+    go : (b : Bool) → orderOk n ≡ b → elim b as (λ z. ℕ) [ true ↦ natAbs n | false ↦ 0 ] ≤ greatestOrder
+    go true e = order-of e .1
+    go false e = omega arith
+
+pub order-known : (n : ℤ) → orderOk n ≡ true → orderOf n ≡ natAbs n
+unfolding orderOf
+order-known n e = rw (orderOf, e)
+
+pub order-none : (n : ℤ) → orderOf n ≡ 0 → orderOk n ≡ false
+order-none n e = false-of (orderOk n) (λ o. go n (order-of o .0) (sym (order-known n o) ∙ e))
+  where
+    go : (n : ℤ) → pos 1 ≤ℤ n → natAbs n ≡ 0 → ⊥
+    go (pos m) h z = omega (arith, ≤-out h)
+    go (negsuc m) h z = absurd (h .le)
+
+-- the numbers of a table of the order of a call
+pub order-fits : {m : ℕ} (n : ℤ) → m ≡ orderOf n → m * m ≤ tableRoom
+order-fits n e = rw e (table-fits (order-small n))
+
+-- ---- checks 1 to 5 of what was laid into the scratch tables
+pub entered-laid : (n : ℤ) (sized others : Bool) {l u l′ u′ : List ℤ} {r : Checked} → Exact (orderOf n) sized (length l) (length u) → Laid (orderOf n) sized l u l′ u′ →
+    r ≡ firstRefusal (doorChecks n sized others l′ u′) → Entered n sized others l u r l′ u′
+entered-laid n sized others {l} {u} {l′} {u′} {r} x p a = go (firstRefusal (entryChecks n sized)) refl
+  where
+    go : (c : Checked) → firstRefusal (entryChecks n sized) ≡ c → Entered n sized others l u r l′ u′
+    go (Refused k) e =
+        rw (a ∙ no-more-checks (entryChecks n sized) (boundsChecks others (orderOf n) l′ u′) k e)
+        (record { answered = sym (no-more-checks (entryChecks n sized) (boundsChecks others (orderOf n) l u) k e); rooms = p .rooms; held = λ s. absurd (false≢true cc) })
+    go Passed e =
+        let z = entry-passed n sized e .1 in
+        let h = table-fits (order-small n) in
+        let v = over-padded (x z .0) h (p .low z) in
+        let w = over-padded (x z .1) h (p .high z) in
+        let b = a ∙ more-checks (entryChecks n sized) _ e in
+        record {
+          answered = b ∙ ap firstRefusal (checks-padded v w others (orderOf n)) ∙ sym (more-checks (entryChecks n sized) _ e);
+          rooms = p .rooms;
+          held = λ s. record {
+            tables = record {
+              order = order-small n;
+              low-length = omega (arith, x z .0, padded-length v);
+              high-length = omega (arith, x z .1, padded-length w);
+              bounds = passed-bounds (orderOf n) l′ u′ (others-passed _ (orderOf n) l′ u′ (sym b ∙ s));
+            };
+            low = padded-at v (orderOf n);
+            high = padded-at w (orderOf n);
+          };
+        }
+
+-- ---- what holds where checks 1 to 5 pass
+pub record Behind (n : ℤ) (sized others : Bool) (l u : List ℤ) : Type 0 where
+  pub ordered : orderOk n ≡ true
+  pub sizes : sized ≡ true
+  pub within : others ≡ true
+  pub checked : firstRefusal (boundsChecks others (orderOf n) l u) ≡ Passed
+  pub tables : firstRefusal (boundsChecks true (orderOf n) l u) ≡ Passed
+
+module _ (n : ℤ) (sized others : Bool) (l u : List ℤ) where
+  pub behind : firstRefusal (doorChecks n sized others l u) ≡ Passed → Behind n sized others l u
+  behind p =
+      let first = prefix-passed (entryChecks n sized) (boundsChecks others (orderOf n) l u) p in
+      let rest = sym (more-checks (entryChecks n sized) (boundsChecks others (orderOf n) l u) first) ∙ p in
+      record { ordered = entry-passed n sized first .0; sizes = entry-passed n sized first .1; within = others-within others (orderOf n) l u rest; checked = rest; tables = others-passed others (orderOf n) l u rest }
+
+  pub behind-passed : Behind n sized others l u → firstRefusal (doorChecks n sized others l u) ≡ Passed
+  unfolding entryChecks
+  behind-passed b =
+      more-checks (entryChecks n sized) (boundsChecks others (orderOf n) l u) (first-passes _ _ (b .ordered) ∙ first-passes _ _ (b .sizes) ∙ first-none)
+      ∙ b .checked
+
+  pub came-through : {r : Checked} {l′ u′ : List ℤ} → Entered n sized others l u r l′ u′ → r ≡ Passed → Behind n sized others l u
+  came-through e q = behind (sym (e .answered) ∙ q)
+
+  -- ---- an act behind the door
+  module _ {A : Type 0} (refused : Refusal → A) (a : A) where
+    module _ {r : Checked} {l′ u′ : List ℤ} (e : Entered n sized others l u r l′ u′) where
+      pub entered-refused : {k : Refusal} → r ≡ Refused k → refused k ≡ entered refused n sized others l u a
+      unfolding entered
+      entered-refused {k} q = after-refused refused k a (sym (e .answered) ∙ q)
+
+      pub entered-passed : r ≡ Passed → a ≡ entered refused n sized others l u a
+      unfolding entered
+      entered-passed q = after-passed refused a (sym (e .answered) ∙ q)
+
+    pub behind-entered : Behind n sized others l u → a ≡ entered refused n sized others l u a
+    unfolding entered
+    behind-entered b = after-passed refused a (behind-passed b)
+
+    -- a call whose n is no order
+    pub no-order : orderOf n ≡ 0 → refused Order ≡ entered refused n sized others l u a
+    unfolding entered entryChecks
+    no-order e = after-refused refused Order a (no-more-checks (entryChecks n sized) (boundsChecks others (orderOf n) l u) Order (first-refuses _ _ (order-none n e)))
+
+    -- what holds of each refusal, and of the act behind the door, holds of the whole
+    pub entered-means : (P : A → Type 0) → ((r : Refusal) → P (refused r)) → (Behind n sized others l u → P a) → P (entered refused n sized others l u a)
+    unfolding entered after
+    entered-means P f g = go (firstRefusal (doorChecks n sized others l u)) refl
+      where
+        go : (k : Checked) → firstRefusal (doorChecks n sized others l u) ≡ k → P (after refused k a)
+        go Passed q = g (behind q)
+        go (Refused r) q = f r
+
+-- where the sizes fail, nothing else is asked
+pub entered-sized : (n : ℤ) (sized others : Bool) (l u : List ℤ) {r : Checked} {l′ u′ : List ℤ} → Entered n sized (sized && others) l u r l′ u′ → Entered n sized others l u r l′ u′
+unfolding entryChecks firstRefusal
+entered-sized n true others l u e = e
+entered-sized n false others l u e = record { answered = e .answered; rooms = e .rooms; held = e .held }
+
+-- of equal parts
+pub entered-by : {n m : ℤ} {sized sized′ others others′ : Bool} {l u : List ℤ} {r : Checked} {l′ u′ : List ℤ} → n ≡ m → sized ≡ sized′ → others ≡ others′ →
+    Entered n sized others l u r l′ u′ → Entered m sized′ others′ l u r l′ u′
+entered-by e f g h = rw (← e, ← f, ← g) h
