@@ -524,7 +524,7 @@ static void print_peers(void)
     print_said("definite by little: B'B, B of determinant not 0", UNDECIDED);
     printf("\nwhat each proves\n"
            "library      every matrix from low to high is positive definite, not this one alone: the code is proved to meet that contract; whole numbers\n"
-           "plain C      nothing: the document's steps, compared with the library's answers\n"
+           "plain C      nothing: the steps of docs/RULES.md, compared with the library's answers\n"
            "tuned C      nothing: other steps, compared likewise\n"
            "dpotrf       nothing of the given matrix: floating point, without a bound of its error\n"
            "arb_mat_cho  balls that hold the factor, so that every matrix in the balls given is positive definite: as far as one trusts Arb's code\n");

@@ -240,7 +240,7 @@ static int64_t least_term(int64_t product, int64_t low, int64_t high)
     return product * (product > 0 ? low : high);
 }
 
-/* The least value of x: L on the diagonal and where x(i) x(j) > 0, U elsewhere, over all i and j */
+/* The least value of x (R8): each product x(i) x(j) takes the low bound where it is positive or a square, the high bound where not */
 static int64_t whole_form(int64_t n, const int64_t *low, const int64_t *high, const int64_t *x)
 {
     int64_t sum = 0;

@@ -1,9 +1,11 @@
+/* part: head */
 /* From the rides that a unit has measured to the kilometres on its display. docs/FIRMWARE.md has this file part by part, and says why. */
 #include <inttypes.h>
 #include <stdio.h>
 
 #include "hankboulder.h"
 
+/* part: numbers */
 /* Writes numbers as the library reads them: 8 bytes each, low byte first, whatever the processor's own order is. */
 static void store(uint8_t *buffer, const int64_t *numbers, size_t count)
 {
@@ -23,6 +25,7 @@ static void load(int64_t *numbers, const uint8_t *buffer, size_t count)
     }
 }
 
+/* part: rides */
 /* The unknown coefficients: energy for a kilometre, and for a metre climbed. The unit of energy is 10 mWh. */
 #define ORDER 2
 
@@ -32,6 +35,85 @@ struct ride {
     int64_t energy;
 };
 
+/* What the rides add up to. The unit keeps these, and they are exact. */
+struct sums {
+    int64_t low[ORDER * ORDER];
+    int64_t high[ORDER * ORDER];
+    int64_t linear[ORDER];
+    int64_t limit;
+};
+
+/*
+ * Adds rides to the sums, for every x with which the squares of the rides' errors, energy - factors'x, add up to at most allowed.
+ * Multiplied out that is x'Mx + 2a'x <= limit: M is the sum of the products of a ride's factors, a that of -energy * factors, and limit is
+ * allowed less that of energy^2. A product of two factors may be up to slack more than was measured; the others are taken as they are.
+ */
+static void gather(struct sums *sums, const struct ride *rides, size_t count, int64_t slack, int64_t allowed)
+{
+    sums->limit += allowed;
+    for (size_t k = 0; k < count; k++) {
+        for (int i = 0; i < ORDER; i++) {
+            for (int j = 0; j < ORDER; j++) {
+                int64_t product = rides[k].factors[i] * rides[k].factors[j];
+                sums->low[i * ORDER + j] += product;
+                sums->high[i * ORDER + j] += product + slack;
+            }
+            sums->linear[i] -= rides[k].energy * rides[k].factors[i];
+        }
+        sums->limit -= rides[k].energy * rides[k].energy;
+    }
+}
+
+/* part: coarsen */
+/* What no coefficient is beyond, either way: 25 Wh for a kilometre, and 2.5 Wh for a metre climbed */
+static const int64_t greatest[ORDER] = {2500, 250};
+
+/* Half of a number, rounded down and rounded up */
+static int64_t half_down(int64_t number)
+{
+    return (number - (number & 1)) / 2;
+}
+
+static int64_t half_up(int64_t number)
+{
+    return (number + (number & 1)) / 2;
+}
+
+/*
+ * Halves the sums, so that no coefficients are lost: x'Mx + 2a'x <= limit becomes x'(M/2)x + 2(a/2)'x <= limit/2. low is rounded down and
+ * high up, so M/2 is between them. Where a linear term is odd, its half is rounded down by 1/2, which makes 2(a/2)'x greater by at most the
+ * greatest magnitude that this coefficient has: the limit takes that up.
+ */
+static void halve(struct sums *sums)
+{
+    sums->limit = half_up(sums->limit);
+    for (int k = 0; k < ORDER * ORDER; k++) {
+        sums->low[k] = half_down(sums->low[k]);
+        sums->high[k] = half_up(sums->high[k]);
+    }
+    for (int k = 0; k < ORDER; k++) {
+        if (sums->linear[k] & 1)
+            sums->limit += greatest[k];
+        sums->linear[k] = half_down(sums->linear[k]);
+    }
+}
+
+/* part: problem */
+static int within(const int64_t *numbers, size_t count, int64_t range)
+{
+    for (size_t k = 0; k < count; k++)
+        if (numbers[k] < -range || numbers[k] > range)
+            return 0;
+    return 1;
+}
+
+/* Whether the library takes numbers of this size */
+static int fits(const struct sums *sums)
+{
+    return within(sums->low, ORDER * ORDER, HB_ENTRY_RANGE) && within(sums->high, ORDER * ORDER, HB_ENTRY_RANGE) &&
+           within(sums->linear, ORDER, HB_LINEAR_RANGE) && within(&sums->limit, 1, HB_LIMIT_RANGE);
+}
+
 /* What the library is asked about, in its own bytes but for the limit */
 struct problem {
     uint8_t low[HB_TABLE_BYTES(ORDER)];
@@ -40,31 +122,21 @@ struct problem {
     int64_t limit;
 };
 
-/*
- * The problem of every x for which the squares of all rides' errors, energy - factors'x, add up to at most allowed. Multiplied out that is
- * x'Mx + 2a'x <= limit: M is the sum of the products of a ride's factors, a that of -energy * factors, and limit is allowed less that of energy^2.
- * A product of two factors may be up to slack more than was measured; the others are taken as they are.
- */
-static void gather(struct problem *problem, const struct ride *rides, size_t count, int64_t slack, int64_t allowed)
+/* Makes a problem of the sums, halved as often as it takes. They come as a copy, and those that the unit keeps stay exact. */
+static void pack(struct problem *problem, struct sums sums)
 {
-    int64_t low[ORDER * ORDER] = {0}, high[ORDER * ORDER] = {0}, linear[ORDER] = {0};
-    problem->limit = allowed;
-    for (size_t k = 0; k < count; k++) {
-        for (int i = 0; i < ORDER; i++) {
-            for (int j = 0; j < ORDER; j++) {
-                int64_t product = rides[k].factors[i] * rides[k].factors[j];
-                low[i * ORDER + j] += product;
-                high[i * ORDER + j] += product + slack;
-            }
-            linear[i] -= rides[k].energy * rides[k].factors[i];
-        }
-        problem->limit -= rides[k].energy * rides[k].energy;
-    }
-    store(problem->low, low, ORDER * ORDER);
-    store(problem->high, high, ORDER * ORDER);
-    store(problem->linear, linear, ORDER);
+    int halvings = 0;
+    for (; !fits(&sums); halvings++)
+        halve(&sums);
+    if (halvings > 0)
+        printf("  halvings: %d\n", halvings);
+    store(problem->low, sums.low, ORDER * ORDER);
+    store(problem->high, sums.high, ORDER * ORDER);
+    store(problem->linear, sums.linear, ORDER);
+    problem->limit = sums.limit;
 }
 
+/* part: refusals */
 /* Logs a refusal by number and word, and what to do about it. */
 static void log_refusal(const char *function, int64_t number)
 {
@@ -76,7 +148,7 @@ static void log_refusal(const char *function, int64_t number)
         remedy = "a mistake in this program's call";
         break;
     case HB_REFUSED_RANGE:
-        remedy = "too many rides or a measurement out of range, gather anew";
+        remedy = "a measurement out of range, gather anew";
         break;
     case HB_REFUSED_CROSSED:
     case HB_REFUSED_LOPSIDED:
@@ -98,6 +170,7 @@ static void log_refusal(const char *function, int64_t number)
     printf("  %s refused, %" PRId64 " %s: %s\n", function, number, words[number], remedy);
 }
 
+/* part: judge */
 /* Judges the bounds. Returns 1, with the factor written, where every matrix between them is positive definite. */
 static int judge(const struct problem *problem, uint8_t *factor)
 {
@@ -122,6 +195,7 @@ static int judge(const struct problem *problem, uint8_t *factor)
     }
 }
 
+/* part: filed */
 /* Tests the factor that was filed with the bounds. Returns 1 where it shows that they are definite, and they need not be judged again. */
 static int test_filed(const struct problem *problem, const uint8_t *factor)
 {
@@ -139,6 +213,7 @@ static int test_filed(const struct problem *problem, const uint8_t *factor)
     }
 }
 
+/* part: logged */
 /* Tests a witness vector that a unit has logged, in a workshop's tool. */
 static void test_logged(const struct problem *problem, const int64_t *witness)
 {
@@ -158,32 +233,41 @@ static void test_logged(const struct problem *problem, const int64_t *witness)
     }
 }
 
+/* part: centre */
 /*
- * The centre that the factor R gives: R'Rc = -2^32 a, solved forward and then backward, cut to the range. It may be rounded in any way, for a box holds
- * the ellipsoid from any centre.
+ * The centre, where Cc + a = 0 for the middle C of the bounds, by elimination: no pivot is 0, for C is positive definite. Entries are
+ * rounded from the last to the first, and each makes up for the rounding of those after it. Any rounding is sound, for a box holds the
+ * ellipsoid from any centre.
  */
-static void solve_centre(const uint8_t *factor, const uint8_t *linear, int64_t *centre)
+static void solve_centre(const struct problem *problem, int64_t *centre)
 {
-    int64_t r[ORDER * ORDER], a[ORDER];
-    double x[ORDER];
-    load(r, factor, ORDER * ORDER);
-    load(a, linear, ORDER);
+    int64_t low[ORDER * ORDER], high[ORDER * ORDER], linear[ORDER];
+    double middle[ORDER][ORDER], rest[ORDER];
+    load(low, problem->low, ORDER * ORDER);
+    load(high, problem->high, ORDER * ORDER);
+    load(linear, problem->linear, ORDER);
     for (int i = 0; i < ORDER; i++) {
-        x[i] = -65536.0 * (double)a[i];
-        for (int k = 0; k < i; k++)
-            x[i] -= (double)r[k * ORDER + i] * x[k];
-        x[i] /= (double)r[i * ORDER + i];
+        rest[i] = -(double)linear[i];
+        for (int j = 0; j < ORDER; j++)
+            middle[i][j] = (double)(low[i * ORDER + j] + high[i * ORDER + j]) / 2;
+        for (int k = 0; k < i; k++) {
+            double share = middle[i][k] / middle[k][k];
+            rest[i] -= share * rest[k];
+            for (int j = k; j < ORDER; j++)
+                middle[i][j] -= share * middle[k][j];
+        }
     }
     for (int i = ORDER - 1; i >= 0; i--) {
-        x[i] *= 65536.0;
-        for (int k = i + 1; k < ORDER; k++)
-            x[i] -= (double)r[i * ORDER + k] * (double)centre[k];
-        x[i] /= (double)r[i * ORDER + i];
-        x[i] = x[i] > HB_CENTRE_RANGE ? HB_CENTRE_RANGE : x[i] < -HB_CENTRE_RANGE ? -HB_CENTRE_RANGE : x[i];
-        centre[i] = (int64_t)(x[i] < 0 ? x[i] - 0.5 : x[i] + 0.5);
+        double entry = rest[i];
+        for (int j = i + 1; j < ORDER; j++)
+            entry -= middle[i][j] * (double)centre[j];
+        entry /= middle[i][i];
+        entry = entry > HB_CENTRE_RANGE ? HB_CENTRE_RANGE : entry < -HB_CENTRE_RANGE ? -HB_CENTRE_RANGE : entry;
+        centre[i] = (int64_t)(entry < 0 ? entry - 0.5 : entry + 0.5);
     }
 }
 
+/* part: box */
 /* Boxes the ellipsoid from a centre. Returns 1, with the sides written, where a box is given. */
 static int box(const struct problem *problem, const int64_t *centre, int64_t *sides)
 {
@@ -207,6 +291,7 @@ static int box(const struct problem *problem, const int64_t *centre, int64_t *si
     }
 }
 
+/* part: shown */
 /* What is shown wherever the rides do not tell */
 static void show_table(void)
 {
@@ -224,9 +309,10 @@ static void show_kilometres(const int64_t *sides)
         printf("  display: %" PRId64 " to %" PRId64 " km\n", energy / most, energy / least);
 }
 
+/* part: display */
 /*
- * The display's work: test the factor that was filed with the bounds, or judge them and have a factor to file; then box from the centre that the factor
- * gives. filed is 1 where there is a filed factor.
+ * The display's work: test the factor that was filed with the bounds, or judge them and have a factor to file; then box from the centre.
+ * filed is 1 where there is a filed factor.
  */
 static void display(const struct problem *problem, uint8_t *factor, int filed)
 {
@@ -238,14 +324,23 @@ static void display(const struct problem *problem, uint8_t *factor, int filed)
         show_table();
         return;
     }
-    solve_centre(factor, problem->linear, centre);
+    solve_centre(problem, centre);
     if (box(problem, centre, sides))
         show_kilometres(sides);
     else
         show_table();
 }
 
+/* part: cases */
 #define COUNT(rides) (sizeof(rides) / sizeof((rides)[0]))
+
+/* Makes the problem of some rides alone. */
+static void pack_rides(struct problem *problem, const struct ride *rides, size_t count, int64_t slack, int64_t allowed)
+{
+    struct sums sums = {{0}, {0}, {0}, 0};
+    gather(&sums, rides, count, slack, allowed);
+    pack(problem, sums);
+}
 
 int main(void)
 {
@@ -257,10 +352,11 @@ int main(void)
     const struct ride other_unit[] = {{{10, 50}, 1235000}, {{8, 200}, 1742000}, {{12, 0}, 1198000}};
     const int64_t logged[ORDER] = {0, 1};
     uint8_t factor[HB_TABLE_BYTES(ORDER)] = {0};
+    struct sums season = {{0}, {0}, {0}, 0};
     struct problem problem;
 
     printf("a week of rides\n");
-    gather(&problem, week, COUNT(week), 1, 30000);
+    pack_rides(&problem, week, COUNT(week), 1, 30000);
     display(&problem, factor, 0);
     printf("the same after the next start, its factor filed\n");
     display(&problem, factor, 1);
@@ -270,21 +366,32 @@ int main(void)
     printf("the same, the bounds damaged\n");
     problem.low[HB_NUMBER_BYTES] ^= 1;
     display(&problem, factor, 1);
+    printf("thirty such weeks\n");
+    for (int k = 0; k < 30; k++)
+        gather(&season, week, COUNT(week), 1, 30000);
+    pack(&problem, season);
+    display(&problem, factor, 0);
+    printf("the week, the products of its factors known to 20 each\n");
+    pack_rides(&problem, week, COUNT(week), 20, 30000);
+    display(&problem, factor, 0);
+    printf("the same, known to 130 each\n");
+    pack_rides(&problem, week, COUNT(week), 130, 30000);
+    display(&problem, factor, 0);
     printf("level rides only\n");
-    gather(&problem, level, COUNT(level), 1, 20000);
+    pack_rides(&problem, level, COUNT(level), 1, 20000);
     display(&problem, factor, 0);
     test_logged(&problem, logged);
     printf("two rides that are too much alike\n");
-    gather(&problem, alike, COUNT(alike), 0, 20000);
+    pack_rides(&problem, alike, COUNT(alike), 0, 20000);
     display(&problem, factor, 0);
     printf("the first two kilometres\n");
-    gather(&problem, first, COUNT(first), 0, 20000);
+    pack_rides(&problem, first, COUNT(first), 0, 20000);
     display(&problem, factor, 0);
     printf("rides that contradict each other\n");
-    gather(&problem, unlike, COUNT(unlike), 1, 30000);
+    pack_rides(&problem, unlike, COUNT(unlike), 1, 30000);
     display(&problem, factor, 0);
     printf("a meter that counts in another unit\n");
-    gather(&problem, other_unit, COUNT(other_unit), 1, 30000);
+    pack_rides(&problem, other_unit, COUNT(other_unit), 1, 30000);
     display(&problem, factor, 0);
     return 0;
 }

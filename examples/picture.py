@@ -1,13 +1,15 @@
 #!/usr/bin/env python3
 """Draws the ellipses of a problem of order 2 and the box that the program gives them, as SVG.
 
-    bash examples/picture > docs/ellipse.svg
+    target/bin/judge < examples/ellipse.summary | python3 examples/picture.py examples/ellipse.txt
 
-The ellipses are those of the eight matrices at the ends of the bounds; the box comes from the program's `side` lines.
+The argument is the problem's text form, and standard input has what the program printed for it; examples/picture runs both. The ellipses
+are those of the eight matrices at the ends of the bounds; the box comes from the program's `side` lines.
 """
 
 import itertools
 import math
+import os
 import sys
 
 WIDTH = 400
@@ -41,6 +43,12 @@ def ellipse(m11, m12, m22, a, limit):
 
 
 def main():
+    if sys.argv[1:] == ["--help"]:
+        print(__doc__, end="")
+        return
+    if len(sys.argv) != 2 or not os.path.isfile(sys.argv[1]):
+        print("picture.py: it takes the file of a problem's text form; picture.py --help says more", file=sys.stderr)
+        sys.exit(2)
     low, high, a, limit, centre = problem(sys.argv[1])
     sides = [[int(word) for word in line.split()[1:]] for line in sys.stdin if line.startswith("side ")]
     if len(sides) != 2:

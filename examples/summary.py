@@ -338,8 +338,11 @@ COMMANDS = {"make": make, "show": show, "hex": hex_listing}
 
 
 def main(arguments):
+    if arguments == ["--help"]:
+        print(__doc__, end="")
+        return 0
     if len(arguments) != 1 or arguments[0] not in COMMANDS:
-        print(__doc__, file=sys.stderr)
+        print("summary.py: it takes one word, make, show or hex; summary.py --help says more", file=sys.stderr)
         return 2
     try:
         COMMANDS[arguments[0]]()

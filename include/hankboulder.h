@@ -45,6 +45,17 @@
 extern "C" {
 #endif
 
+/*
+ * The version of this header and of the archive that it is installed with, as numbers and as a string. It is said here alone: the file for
+ * pkg-config has it from here.
+ */
+#define HB_VERSION_MAJOR 0
+#define HB_VERSION_MINOR 1
+#define HB_VERSION_PATCH 0
+#define HB_VERSION_STRING HB_VERSION_JOINED(HB_VERSION_MAJOR, HB_VERSION_MINOR, HB_VERSION_PATCH)
+#define HB_VERSION_JOINED(major, minor, patch) HB_VERSION_QUOTED(major) "." HB_VERSION_QUOTED(minor) "." HB_VERSION_QUOTED(patch)
+#define HB_VERSION_QUOTED(number) #number
+
 /* The greatest order. */
 #define HB_MAX_ORDER 8
 
@@ -67,9 +78,9 @@ extern "C" {
 
 /*
  * The stack that a call needs, in bytes, at any order, its arguments and return address included. Measured and not proved: bench/stack painted the stack
- * below 2000 calls of each function at each order. At most 5896 bytes were overwritten by hb_judge, 1832 by hb_test_factor, 1272 by hb_test_vector and
- * 2864 by hb_box; they are rounded up here by a third or more. That is the archive which rattle-kit-5b compiles with LLVM 22 for x86-64, with
- * memcpy and memset of glibc 2.36: with any other compiler or processor, measure again. What an interrupt puts on the same stack comes on top.
+ * below 2000 calls of each function at each order, and what was overwritten is rounded up here by a third or more (docs/FIRMWARE.md has the figures).
+ * That is the archive which rattle-kit-5b compiles with LLVM 22 for x86-64, with memcpy and memset of glibc 2.36: with any other compiler or processor,
+ * measure again. What an interrupt puts on the same stack comes on top.
  */
 #define HB_JUDGE_STACK 8192
 #define HB_TEST_FACTOR_STACK 4096
@@ -100,15 +111,15 @@ enum {
     HB_REFUSED_RANGE = 3,    /* "range": an entry of low or high, a linear term, the limit or a centre entry is beyond its range */
     HB_REFUSED_CROSSED = 4,  /* "crossed": an entry of low is above its entry of high */
     HB_REFUSED_LOPSIDED = 5, /* "lopsided": low or high is not symmetric */
-    HB_REFUSED_FACTOR = 6,   /* "factor": nonzero below the diagonal, a diagonal entry not 1 to 2^26, or another beyond +-2^26 */
+    HB_REFUSED_FACTOR = 6,   /* "factor": not upper triangular, a diagonal entry below 1 or above 2^26, or any other beyond +-2^26 */
     HB_REFUSED_VECTOR = 7,   /* "vector": all zero, or an entry beyond +-2^15 */
     HB_REFUSED_FLAT = 8,     /* "flat": of a box, t, the step that can be taken off the diagonal, is 0 */
     HB_REFUSED_FAR = 9,      /* "far": of a box, some g(k), the gradient bound at the centre, is above 2^20 */
-    HB_REFUSED_CUT = 10,     /* "cut": of a file, 1 or 2 bytes left at a field's start, or its length runs past the end */
+    HB_REFUSED_CUT = 10,     /* "cut": of a file, a field's three bytes of tag and length are not all there, or its content is not */
     HB_REFUSED_TAG = 11,     /* "tag": of a file, a tag that is not 01 to 06 */
     HB_REFUSED_AGAIN = 12,   /* "again": of a file, a tag already seen */
     HB_REFUSED_ABSENT = 13,  /* "absent": of a file, one of the six tags is missing */
-    HB_REFUSED_SIZE = 14,    /* "size": of a file, a field's length is not the one called for */
+    HB_REFUSED_SIZE = 14,    /* "size": of a file, a field is longer or shorter than its tag and the order ask for */
     HB_REFUSED_LONG = 15     /* "long": of a file, more than 4096 bytes */
 };
 
@@ -170,9 +181,11 @@ int64_t hb_judge(int64_t n, const uint8_t *low, size_t low_len, const uint8_t *h
  *   low_len, high_len,  the lengths of the three buffers, in bytes
  *   factor_len
  *
- * Let P(i,j) be the sum over k of R(k,i) * R(k,j). The factor is accepted exactly if for each row i
+ * Let P(i,j) be the sum over k of R(k,i) * R(k,j). The test asks of every row i that
  *
  *     2^32 * low(i,i) - P(i,i)  >=  the sum over j other than i of the greater of |2^32 * low(i,j) - P(i,j)| and |2^32 * high(i,j) - P(i,j)|
+ *
+ * and accepts the factor exactly where all of them hold.
  *
  * Returns
  *
@@ -245,8 +258,8 @@ int64_t hb_test_vector(int64_t n, const uint8_t *low, size_t low_len, const uint
  *
  * Returns
  *
- *   HB_BOX               every x of the ellipsoid is in the box: for each k, counted from 0, x(k) lies from the low to the high of side k, both
- *                        included. Smaller boxes may hold it too, and the ellipsoid may be empty all the same
+ *   HB_BOX               every x of the ellipsoid is in the box: for each k, counted from 0, x(k) is at least the low and at most the high of
+ *                        side k. Smaller boxes may hold it too, and the ellipsoid may be empty all the same
  *   HB_EMPTY             the ellipsoid is empty: x'Mx + 2a'x > limit for every x and every M from low to high. Nothing is written
  *   HB_REFUSED_ORDER     n is not 1 to 8; no length is looked at
  *   HB_REFUSED_LENGTH    a length is not HB_TABLE_BYTES(n) for low and high, HB_VECTOR_BYTES(n) for linear and centre, HB_SIDES_BYTES(n) for sides; too

@@ -1,5 +1,5 @@
-//! The listed cases of document 01: "Judged matrices", case P and "Wrong turns
-//! that look natural". Expected answers are literals.
+//! The worked cases W1 to W23, and cases for the mistakes that docs/RULES.md
+//! remarks on. Expected answers are literals.
 
 use std::fmt;
 
@@ -44,7 +44,7 @@ impl fmt::Display for Case {
     }
 }
 
-/// Every listed case, in the order of the document.
+/// Every case: W1 to W20, W21 (case P), then those for the mistakes.
 pub fn listed_cases() -> Vec<Case> {
     [
         judged_matrices(),
@@ -180,13 +180,13 @@ fn answer(got: Result<String, Refusal>) -> String {
     got.unwrap_or_else(|refusal| format!("refused {}", refusal.number()))
 }
 
-/// Interval bounds written as in the document, such as `[2 1; 1 2]`.
+/// Interval bounds written as in docs/RULES.md, such as `[2 1; 1 2]`.
 pub fn bounds(low: &str, high: &str) -> Result<Bounds, Refusal> {
     let order = low.split(';').count();
     Bounds::read(order, &numbers(low), &numbers(high))
 }
 
-/// The numbers of a matrix written as in the document, row by row.
+/// The numbers of a matrix written as in docs/RULES.md, row by row.
 pub fn numbers(matrix: &str) -> Vec<i64> {
     matrix
         .split(['[', ']', ';', ' '])

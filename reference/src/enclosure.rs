@@ -1,4 +1,4 @@
-//! The enclosure of an ellipsoid: document 01, "Box".
+//! The enclosure of an ellipsoid: R12 to R14.
 
 use crate::factoring::{ceiling_quotient, ends, least_whole};
 use crate::problem::{
@@ -28,8 +28,8 @@ pub enum Enclosure {
     Empty,
 }
 
-/// "t starts at 0. For b = 19 down to 0, 2^b is added to t if factoring ends
-/// with t + 2^b taken off" the diagonal entries of L and U named by `places`.
+/// R12.2 and R12.3: the greatest step that the trials find, bit by bit from
+/// 2^19 down, for the diagonal entries of L and U named by `places`.
 pub fn greatest_step(bounds: &Bounds, places: &[usize]) -> i128 {
     let mut t = 0;
     for b in (0..=19).rev() {
@@ -40,7 +40,8 @@ pub fn greatest_step(bounds: &Bounds, places: &[usize]) -> i128 {
     t
 }
 
-/// "a trial that brings an L diagonal entry to 0 or less doesn't end"
+/// R12.1: a trial, with the step subtracted at `places`. The lowered entries of
+/// L have to stay positive.
 fn trial_ends(bounds: &Bounds, places: &[usize], step: i128) -> bool {
     let mut trial = bounds.clone();
     for &i in places {
@@ -50,21 +51,21 @@ fn trial_ends(bounds: &Bounds, places: &[usize], step: i128) -> bool {
     places.iter().all(|&i| trial.low[i][i] > 0) && ends(&trial)
 }
 
-/// t: the step "taken off every diagonal entry".
+/// R12.2: t, the step at every diagonal entry.
 pub fn common_step(bounds: &Bounds) -> i128 {
     let every: Vec<usize> = (0..bounds.order).collect();
     greatest_step(bounds, &every)
 }
 
-/// t(k): "found likewise, taking it off entry (k,k) only".
+/// R12.3: each t(k), the step at the diagonal entry k alone.
 pub fn single_steps(bounds: &Bounds) -> Vec<i128> {
     (0..bounds.order)
         .map(|k| greatest_step(bounds, &[k]))
         .collect()
 }
 
-/// "g(k) is the greatest |Σ M(k,j)·c(j) + a(k)|, with each M(k,j) free between
-/// its bounds."
+/// R13.1: g(k), from the least and the greatest entry k of Mc + a, where the
+/// entries of M in that row are chosen independently.
 pub fn gradient_bound(problem: &Problem, k: usize) -> i128 {
     let (mut least, mut greatest) = (problem.linear[k], problem.linear[k]);
     for (j, c) in problem.centre.iter().enumerate() {
@@ -76,7 +77,7 @@ pub fn gradient_bound(problem: &Problem, k: usize) -> i128 {
     least.abs().max(greatest.abs())
 }
 
-/// "D = α − 2·Σ a(k)·c(k) − the least value of c (0 for zero c)."
+/// R13.2: D.
 pub fn limit_at_centre(problem: &Problem) -> i128 {
     problem.limit
         - 2 * inner_product(&problem.linear, &problem.centre)
@@ -87,7 +88,7 @@ fn inner_product(x: &[i128], y: &[i128]) -> i128 {
     x.iter().zip(y).map(|(p, q)| p * q).sum()
 }
 
-/// "the least whole s ≥ 0 with t·s² ≥ B"
+/// R1.4: the least root of a bound over a step.
 fn least_radius(step: i128, bound: i128) -> i128 {
     least_whole(|s| step * s * s >= bound)
 }
@@ -106,25 +107,23 @@ pub fn enclosure(problem: &Problem) -> Result<Enclosure, Refusal> {
 
 fn sides(problem: &Problem, t: i128, g: &[i128]) -> Enclosure {
     let d = limit_at_centre(problem);
-    // "B = D + Σg(k)²/t, the quotient rounded up. If B < 0: 'empty'."
+    // R13.3 and R14.1
     let b = d + ceiling_quotient(inner_product(g, g), t);
     if b < 0 {
         return Enclosure::Empty;
     }
-    // "Y(k) is g(k)/t rounded up plus the least whole s ≥ 0 with t·s² ≥ B."
+    // R13.4
     let s = least_radius(t, b);
     let y: Vec<i128> = g.iter().map(|gk| ceiling_quotient(*gk, t) + s).collect();
-    // "B2 = D + 2·Σ g(k)·Y(k); if B2 < 0: 'empty'."
+    // R13.5 and R14.2
     let b2 = d + 2 * inner_product(g, &y);
     if b2 < 0 {
         return Enclosure::Empty;
     }
     let side = |(k, tk): (usize, i128)| {
-        // "Z(k) is the least whole z ≥ 0 with t(k)·z² ≥ B2, or Y(k) where
-        // t(k) = 0."
+        // R13.6
         let z = if tk == 0 { y[k] } else { least_radius(tk, b2) };
-        // "Side k runs from c(k) − h to c(k) + h, h the smaller of Y(k) and
-        // Z(k)."
+        // R14.3
         let h = y[k].min(z);
         Side {
             step: tk,
@@ -136,7 +135,8 @@ fn sides(problem: &Problem, t: i128, g: &[i128]) -> Enclosure {
     Enclosure::Sides(steps.into_iter().enumerate().map(side).collect())
 }
 
-/// The box: checks 1 to 5, 8, 9, then the answer. "'Empty' writes no sides."
+/// The box: checks 1 to 5, 8, 9, then the answer (R5.5, R14). Only a box that is
+/// given is written.
 pub fn enclose(
     n: i64,
     low: &[i64],
@@ -158,7 +158,7 @@ pub fn enclose(
     let problem = Problem::read(order, low, high, linear, limit, centre)?;
     let answer = enclosure(&problem)?;
     if let Enclosure::Sides(list) = &answer {
-        // "low then high for each k"
+        // R14.4
         let numbers: Vec<i128> = list.iter().flat_map(|s| [s.low, s.high]).collect();
         write_numbers(&numbers, sides);
     }

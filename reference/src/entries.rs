@@ -1,10 +1,6 @@
-//! The four acts over bytes, as the C entries have them: document 01, "What
-//! the unit carries".
+//! The four acts over bytes, as the C entries have them: R15.
 //!
-//! "Over bytes, each number is 8 bytes, signed, low byte first." "At the C
-//! entry a refusal is its number; 'definite', 'accepted', 'yes' and a given box
-//! are 0; 'not definite', 'not accepted', 'no' and 'empty' are −1; 'undecided'
-//! is −2."
+//! Numbers take up 8 bytes (R15.2); what is returned is that of R15.4.
 
 use crate::enclosure::{self, Enclosure};
 use crate::judge::{self as judging, Verdict};
@@ -14,14 +10,14 @@ use crate::residual;
 use crate::summary::{decode, encode, NUMBER_WIDTH};
 use crate::vectors;
 
-/// 'definite', 'accepted', 'yes' and a given box
+/// 'definite', 'accepted', 'yes', a box
 pub const POSITIVE: i64 = 0;
-/// 'not definite', 'not accepted', 'no' and 'empty'
+/// 'not definite', 'not accepted', 'no', 'empty'
 pub const NEGATIVE: i64 = -1;
 /// 'undecided'
 pub const UNDECIDED: i64 = -2;
 
-/// The count of numbers an order calls for.
+/// R15.3: how many numbers belong to an order.
 type Count = fn(usize) -> usize;
 /// The numbers of a, c or a vector.
 const LIST: Count = |order| order;

@@ -1,13 +1,13 @@
-//! The Cholesky factor: document 01, "Factoring".
+//! The Cholesky factor: R6.
 
 use crate::problem::{Bounds, Table, FACTOR_RANGE};
 
 /// The outcome of factoring.
 #[derive(Clone, Debug, PartialEq, Eq)]
 pub enum Factoring {
-    /// "Factoring ends where it stops in no column": the factor.
+    /// R6.6: no column stopped it; the factor
     Ends(Table),
-    /// "factoring stops with column j and last row m"
+    /// R6.2 and R6.4: a stop
     Stops {
         /// j, from 1
         column: usize,
@@ -18,8 +18,7 @@ pub enum Factoring {
     },
 }
 
-/// H: "2^31·(L(i,j)+U(i,j)) off the diagonal; on it, 2^29 + 2^31·w(i) is taken
-/// off".
+/// R6.1: H, the sum of both bounds times 2^31, its diagonal lowered.
 pub fn shifted_sum(bounds: &Bounds) -> Table {
     let entry = |i: usize, j: usize| {
         let sum = (1 << 31) * (bounds.low[i][j] + bounds.high[i][j]);
@@ -34,38 +33,34 @@ pub fn shifted_sum(bounds: &Bounds) -> Table {
         .collect()
 }
 
-/// Factors H column by column.
+/// R6.2 to R6.6: factors H column by column.
 pub fn factor(bounds: &Bounds) -> Factoring {
     let n = bounds.order;
     let h = shifted_sum(bounds);
-    // "Below the diagonal the factor is 0."
+    // R6.6: entries that are not computed are 0.
     let mut r = vec![vec![0; n]; n];
     let stop = |j: usize, m: usize, partial: Table| Factoring::Stops {
         column: j + 1,
         last_row: m,
         partial,
     };
-    // "Columns j run from 1 to n."
     for j in 0..n {
-        // "The rest starts as H(j,j)." "If H(j,j) itself is below 1, it stops
-        // with m = 0."
+        // R6.2
         let mut rest = h[j][j];
         if rest < 1 {
             return stop(j, 0, r);
         }
         for i in 0..j {
-            // "r(i,j) is H(i,j) − Σ over k < i of r(k,i)·r(k,j), divided by
-            // r(i,i) and rounded down toward minus infinity."
+            // R6.3
             let products: i128 = (0..i).map(|k| r[k][i] * r[k][j]).sum();
             r[i][j] = floor_quotient(h[i][j] - products, r[i][i]);
-            // "The rest loses r(i,j)². If |r(i,j)| > 2^26, or the rest is below
-            // 1, factoring stops with column j and last row m = i."
+            // R6.4
             rest -= r[i][j] * r[i][j];
             if r[i][j].abs() > FACTOR_RANGE || rest < 1 {
                 return stop(j, i + 1, r);
             }
         }
-        // "r(j,j) is the whole root, rounded down, of the rest"
+        // R6.5
         r[j][j] = whole_root(rest);
     }
     Factoring::Ends(r)
@@ -76,7 +71,7 @@ pub fn ends(bounds: &Bounds) -> bool {
     matches!(factor(bounds), Factoring::Ends(_))
 }
 
-/// The quotient by a positive divisor, rounded down toward minus infinity.
+/// R1.1: the quotient by a positive divisor, rounded down.
 pub fn floor_quotient(numerator: i128, divisor: i128) -> i128 {
     assert!(divisor > 0);
     let toward_zero = numerator / divisor;
@@ -87,7 +82,7 @@ pub fn floor_quotient(numerator: i128, divisor: i128) -> i128 {
     }
 }
 
-/// The quotient by a positive divisor, rounded up.
+/// R1.2: the quotient by a positive divisor, rounded up.
 pub fn ceiling_quotient(numerator: i128, divisor: i128) -> i128 {
     -floor_quotient(-numerator, divisor)
 }
@@ -115,7 +110,7 @@ pub fn least_whole(enough: impl Fn(i128) -> bool) -> i128 {
     high
 }
 
-/// The whole root, rounded down: the next number's square is above.
+/// R1.3: the whole root. The square of the next number is above.
 pub fn whole_root(number: i128) -> i128 {
     assert!(number >= 0);
     least_whole(|root| (root + 1) * (root + 1) > number)

@@ -1,4 +1,4 @@
-//! The verdict: document 01, "Judge".
+//! The verdict: R11.
 
 use crate::factoring::{factor, Factoring};
 use crate::problem::{check_lengths, check_order, table_size, write_numbers, Bounds, Table};
@@ -28,7 +28,7 @@ pub enum List {
 /// Judges interval bounds.
 pub fn verdict(bounds: &Bounds) -> Verdict {
     match factor(bounds) {
-        // "if factoring ends, 'definite'"
+        // R11.2
         Factoring::Ends(factor) => Verdict::Definite(factor),
         Factoring::Stops {
             column,
@@ -36,14 +36,14 @@ pub fn verdict(bounds: &Bounds) -> Verdict {
             partial,
         } => match witness(bounds, column, last_row, &partial) {
             Some((list, x)) => Verdict::NotDefinite(list, x),
-            // "Otherwise 'undecided'"
+            // R11.4
             None => Verdict::Undecided,
         },
     }
 }
 
-/// "Otherwise the first of the tried, then the solved vectors that shows it": the
-/// vector and its list, for factoring stopped with the column and last row.
+/// R11.3: the first listed vector that shows 'not definite', and its list, after
+/// factoring stopped in this column with this last row.
 fn witness(
     bounds: &Bounds,
     column: usize,
@@ -60,8 +60,8 @@ fn witness(
     })
 }
 
-/// The judge: checks 1 to 5, then the verdict. 'Definite' writes the factor,
-/// 'not definite' the vector; every other buffer is kept.
+/// The judge: checks 1 to 5 (R5.2), then the verdict. 'Definite' writes the
+/// factor, 'not definite' the vector, and nothing else is written (R11.2 to R11.4).
 pub fn judge(
     n: i64,
     low: &[i64],

@@ -1,7 +1,7 @@
-//! Second implementation of the matrix judge, written from the documents alone, independent of the crates.
+//! Second implementation of the matrix judge, written from the rules alone, independent of the crates.
 //!
 //! All work is in `i128`. Inputs are the plain `i64` and `u8` slices that a
-//! caller lends. Each comment in quotation marks cites document 01.
+//! caller lends. Numbers such as R6.3 in comments are those of docs/RULES.md.
 
 #![forbid(unsafe_code)]
 #![warn(missing_docs)]

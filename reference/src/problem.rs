@@ -1,23 +1,22 @@
-//! A problem and checks 1 to 5: document 01, "What the unit carries" and
-//! "Refused calls".
+//! A problem and checks 1 to 5: R2, R4.1 to R4.5 and R5.
 
 use crate::refusal::{require, Refusal};
 
-/// The greatest order.
+/// R2.1: the greatest order.
 pub const MAX_ORDER: i64 = 8;
-/// "Entries are within ±2^20."
+/// R2.3: entries of L and U.
 pub const ENTRY_RANGE: i128 = 1 << 20;
-/// "The linear terms a(i) are within ±2^36"
+/// R2.4: linear terms.
 pub const LINEAR_RANGE: i128 = 1 << 36;
-/// "the limit α within ±2^54"
+/// R2.5: the limit.
 pub const LIMIT_RANGE: i128 = 1 << 54;
-/// "the centre c(i) within ±2^12"
+/// R2.6: entries of the centre.
 pub const CENTRE_RANGE: i128 = 1 << 12;
-/// "Vector entries are within ±2^15."
+/// R2.7: entries of a vector.
 pub const VECTOR_RANGE: i128 = 1 << 15;
-/// Factor entries are within ±2^26: refusal 6 and "Factoring".
+/// R2.8: entries of a factor.
 pub const FACTOR_RANGE: i128 = 1 << 26;
-/// Refusal 9: g(k) is at most 2^20.
+/// R4.9: the greatest g(k) that passes.
 pub const GRADIENT_RANGE: i128 = 1 << 20;
 
 /// A square table, row by row.
@@ -55,7 +54,7 @@ impl Bounds {
         Bounds::after_range_check(order, low, high)
     }
 
-    /// Checks 4 and 5, each over the whole input before the next.
+    /// Checks 4 and 5, in this order (R5.1).
     fn after_range_check(order: usize, low: &[i64], high: &[i64]) -> Result<Bounds, Refusal> {
         let low = square(order, low);
         let high = square(order, high);
@@ -65,7 +64,7 @@ impl Bounds {
         Ok(Bounds { order, low, high })
     }
 
-    /// "w(i) is the sum over j, i included, of U(i,j) − L(i,j)."
+    /// R2.9: w(i).
     pub fn row_width(&self, i: usize) -> i128 {
         (0..self.order)
             .map(|j| self.high[i][j] - self.low[i][j])
@@ -100,19 +99,19 @@ impl Problem {
     }
 }
 
-/// Check 1: "n is not 1 to 8".
+/// Check 1: n is an order (R4.1).
 pub fn check_order(n: i64) -> Result<usize, Refusal> {
     require((1..=MAX_ORDER).contains(&n), Refusal::Order)?;
     Ok(n as usize)
 }
 
-/// Check 2: each pair is a lent buffer's size and the size n calls for.
+/// Check 2: each pair is a lent buffer's size and the size it has to have (R4.2).
 pub fn check_lengths(lengths: &[(usize, usize)]) -> Result<(), Refusal> {
     let all = lengths.iter().all(|(lent, wanted)| lent == wanted);
     require(all, Refusal::Length)
 }
 
-/// Check 3: each pair is a list of entries and their range, both ends included.
+/// Check 3: each pair is a list of entries and their range (R4.3, R1.5).
 fn check_ranges(lists: &[(&[i64], i128)]) -> Result<(), Refusal> {
     let all = lists
         .iter()
@@ -120,12 +119,12 @@ fn check_ranges(lists: &[(&[i64], i128)]) -> Result<(), Refusal> {
     require(all, Refusal::Range)
 }
 
-/// The numbers of a table or factor: "A table or factor has n² numbers".
+/// R15.3: the numbers of a table or factor.
 pub fn table_size(order: usize) -> usize {
     order * order
 }
 
-/// The numbers of the sides: "the sides 2n".
+/// R15.3: the numbers of the sides.
 pub fn sides_size(order: usize) -> usize {
     2 * order
 }

@@ -1,11 +1,11 @@
-//! The output of the program "judge": document 01, "Summary file and program".
+//! The output of the program `judge`: R19.
 
 use crate::enclosure::{enclosure, Enclosure, Side};
 use crate::judge::{verdict, Verdict};
 use crate::problem::{Bounds, Problem};
 use crate::summary::read_problem;
 
-/// The whole output for a file's bytes.
+/// R19.2: the whole output for a file's bytes.
 pub fn output(file: &[u8]) -> String {
     match read_problem(file) {
         Err(refusal) => format!("refused {}\n", refusal.number()),
@@ -13,8 +13,7 @@ pub fn output(file: &[u8]) -> String {
     }
 }
 
-/// "`definite` and a `row` line for each factor row, `not` and a `vector`
-/// line, or `undecided`"
+/// R19.3: the lines of the verdict.
 pub fn verdict_lines(bounds: &Bounds) -> String {
     match verdict(bounds) {
         Verdict::Definite(factor) => {
@@ -26,8 +25,7 @@ pub fn verdict_lines(bounds: &Bounds) -> String {
     }
 }
 
-/// "a `side` line (low, high) for each k, or `empty`, or `box refused` and the
-/// number"
+/// R19.4: the lines of the box.
 pub fn box_lines(problem: &Problem) -> String {
     match enclosure(problem) {
         Ok(Enclosure::Sides(sides)) => {
@@ -39,7 +37,7 @@ pub fn box_lines(problem: &Problem) -> String {
     }
 }
 
-/// A word and its numbers, one space between.
+/// R19.5: a word and its numbers, one space between.
 fn line(word: &str, numbers: &[i128]) -> String {
     let numbers = numbers.iter().map(|number| format!(" {number}"));
     format!("{word}{}\n", numbers.collect::<String>())

@@ -1,39 +1,37 @@
-//! The fifteen refusals: document 01, "Refused calls".
+//! The fifteen refusals: R4. Refusal k is rule R4.k.
 
 /// Why a call or a file is refused.
 #[derive(Clone, Copy, Debug, PartialEq, Eq)]
 pub enum Refusal {
-    /// "n is not 1 to 8"
+    /// 1: n is no order
     Order,
-    /// "a lent buffer hasn't exactly the size n calls for"
+    /// 2: a buffer of another size than belongs to n
     Length,
-    /// "an entry of L, U, a, c or α beyond its range"
+    /// 3: a number of the problem outside of its range
     Range,
-    /// "some L entry above its U entry"
+    /// 4: L above U somewhere
     Crossed,
-    /// "L or U not symmetric"
+    /// 5: a table that is not symmetric
     Lopsided,
-    /// "offered factor: nonzero below the diagonal, a diagonal entry not 1 to
-    /// 2^26, or another beyond ±2^26"
+    /// 6: an offered factor that is not of a factor's form (R2.8)
     Factor,
-    /// "offered vector all zero, or an entry out of range"
+    /// 7: an offered vector that is zero, or has too large an entry
     Vector,
-    /// "box: t, below, is 0"
+    /// 8, box: t is 0
     Flat,
-    /// "box: some g(k), below, above 2^20"
+    /// 9, box: a g(k) above 2^20
     Far,
-    /// "file: just 1 or 2 bytes left at a field's start, or its length runs
-    /// past the end"
+    /// 10, file: a field that the file has not all bytes of
     Cut,
-    /// "file: tag not 01 to 06"
+    /// 11, file: an unknown tag
     Tag,
-    /// "file: tag already seen"
+    /// 12, file: a tag that occurs twice
     Again,
-    /// "file: one of the six tags missing"
+    /// 13, file: a tag that does not occur
     Absent,
-    /// "file: a field's length is not the one called for"
+    /// 14, file: a content of another length than it has to have
     Size,
-    /// "file: more than 4096 bytes"
+    /// 15, file: 4097 bytes or more
     Long,
 }
 

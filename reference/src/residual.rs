@@ -1,11 +1,11 @@
-//! The residual test of an offered factor: document 01, "Residual test".
+//! The residual test of an offered factor: R7.
 
 use crate::problem::{
     check_lengths, check_order, pairs, square, table_size, Bounds, Table, FACTOR_RANGE,
 };
 use crate::refusal::{require, Refusal};
 
-/// "P(i,j) = Σ r(k,i)·r(k,j)."
+/// R7.1: P.
 pub fn product(factor: &Table) -> Table {
     let n = factor.len();
     let entry = |i: usize, j: usize| (0..n).map(|k| factor[k][i] * factor[k][j]).sum();
@@ -14,15 +14,13 @@ pub fn product(factor: &Table) -> Table {
         .collect()
 }
 
-/// "An offered factor is accepted exactly if, for each row i", the row test
-/// holds.
+/// R7.3: all rows pass.
 pub fn accepted(bounds: &Bounds, factor: &Table) -> bool {
     let p = product(factor);
     (0..bounds.order).all(|i| row_test(bounds, &p, i))
 }
 
-/// "2^32·L(i,i) − P(i,i) is at least the sum over j ≠ i of the greater of
-/// |2^32·L(i,j) − P(i,j)| and |2^32·U(i,j) − P(i,j)|"
+/// R7.2: row i passes.
 fn row_test(bounds: &Bounds, p: &Table, i: usize) -> bool {
     let residual = |entry: i128, j: usize| (1 << 32) * entry - p[i][j];
     let off_diagonal: i128 = (0..bounds.order)
@@ -36,8 +34,7 @@ fn row_test(bounds: &Bounds, p: &Table, i: usize) -> bool {
     residual(bounds.low[i][i], i) >= off_diagonal
 }
 
-/// Check 6: "nonzero below the diagonal, a diagonal entry not 1 to 2^26, or
-/// another beyond ±2^26".
+/// Check 6: the form of a factor (R4.6, R2.8).
 pub fn check_factor(order: usize, numbers: &[i64]) -> Result<Table, Refusal> {
     let factor = square(order, numbers);
     let proper = pairs(order).all(|(i, j)| {
@@ -54,7 +51,8 @@ pub fn check_factor(order: usize, numbers: &[i64]) -> Result<Table, Refusal> {
     Ok(factor)
 }
 
-/// The factor test: checks 1 to 6, then 'accepted' (true) or 'not accepted'.
+/// The factor test: checks 1 to 6 (R5.3), then 'accepted' (true) or 'not
+/// accepted' (R7.4).
 pub fn test_factor(n: i64, low: &[i64], high: &[i64], factor: &[i64]) -> Result<bool, Refusal> {
     let order = check_order(n)?;
     let table = table_size(order);

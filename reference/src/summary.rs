@@ -1,30 +1,29 @@
-//! The summary file: document 01, "Summary file and program" and the order of
-//! the file's checks in "Refused calls".
+//! The summary file: R16 and R17, with the order of checks of R5.11 and R5.12.
 
 use crate::problem::{check_order, table_size, Problem};
 use crate::refusal::{require, Refusal};
 
-/// "file: more than 4096 bytes"
+/// R17.1: the longest file that is read.
 pub const MAX_FILE: usize = 4096;
-/// A tag and a two-byte length.
+/// R16.1: bytes of a tag and a length.
 const FIELD_HEAD: usize = 3;
 
-/// "Tag 01: n"
+/// R16.2: n
 pub const TAG_ORDER: u8 = 1;
-/// "02 L"
+/// R16.2: L
 pub const TAG_LOW: u8 = 2;
-/// "03 U"
+/// R16.2: U
 pub const TAG_HIGH: u8 = 3;
-/// "04 a"
+/// R16.2: a
 pub const TAG_LINEAR: u8 = 4;
-/// "05 α"
+/// R16.2: α
 pub const TAG_LIMIT: u8 = 5;
-/// "06 c"
+/// R16.2: c
 pub const TAG_CENTRE: u8 = 6;
 
-/// Bytes of a number of L and U: "4 bytes an entry".
+/// R16.2: bytes of a number of L and U.
 pub const TABLE_WIDTH: usize = 4;
-/// Bytes of a number of a, c and α.
+/// R16.2: bytes of a number of a, c and α.
 pub const NUMBER_WIDTH: usize = 8;
 
 /// A field: its tag and its content, a part of the file.
@@ -36,7 +35,8 @@ pub struct Field<'a> {
     pub content: &'a [u8],
 }
 
-/// The fields of a file in the order they stand: "field by field, 10, 11, 12".
+/// The fields of a file in the order they stand, each asked 10, 11 and 12
+/// (R16.4).
 pub fn fields(file: &[u8]) -> Result<Vec<Field<'_>>, Refusal> {
     let mut found: Vec<Field> = vec![];
     let mut rest = file;
@@ -51,8 +51,7 @@ pub fn fields(file: &[u8]) -> Result<Vec<Field<'_>>, Refusal> {
     Ok(found)
 }
 
-/// The field at the front and the bytes after it: check 10. "A field is a
-/// one-byte tag, a two-byte length (low byte first), then the content."
+/// The field at the front and the bytes after it (R16.1): check 10.
 fn split_field(bytes: &[u8]) -> Result<(Field<'_>, &[u8]), Refusal> {
     require(bytes.len() >= FIELD_HEAD, Refusal::Cut)?;
     let (head, rest) = bytes.split_at(FIELD_HEAD);
@@ -66,8 +65,7 @@ fn split_field(bytes: &[u8]) -> Result<(Field<'_>, &[u8]), Refusal> {
     Ok((field, after))
 }
 
-/// The problem of a file: 15, the field walk, 13, 14 for tag 01, 1, 14 for the
-/// other tags, then 3, 4, 5.
+/// The problem of a file, with the checks in the order of R5.11.
 pub fn read_problem(file: &[u8]) -> Result<Problem, Refusal> {
     require(file.len() <= MAX_FILE, Refusal::Long)?;
     let found = fields(file)?;
@@ -81,10 +79,10 @@ pub fn read_problem(file: &[u8]) -> Result<Problem, Refusal> {
     let linear = content(TAG_LINEAR)?;
     let limit = content(TAG_LIMIT)?;
     let centre = content(TAG_CENTRE)?;
-    // "then 14 for tag 01, then 1"
+    // R17.3
     check_sizes(&[(order_content, 1)])?;
     let order = check_order(i64::from(order_content[0]))?;
-    // "then 14 for the other tags in rising order"
+    // R17.4
     let table = TABLE_WIDTH * table_size(order);
     let list = NUMBER_WIDTH * order;
     check_sizes(&[
@@ -94,7 +92,7 @@ pub fn read_problem(file: &[u8]) -> Result<Problem, Refusal> {
         (limit, NUMBER_WIDTH),
         (centre, list),
     ])?;
-    // "then 3, 4, 5"
+    // R17.5
     Problem::read(
         order,
         &decode(low, TABLE_WIDTH),
@@ -105,13 +103,13 @@ pub fn read_problem(file: &[u8]) -> Result<Problem, Refusal> {
     )
 }
 
-/// Check 14: each pair is a field's content and the length called for.
+/// Check 14: each pair is a field's content and the length it has to have.
 fn check_sizes(fields: &[(&[u8], usize)]) -> Result<(), Refusal> {
     let all = fields.iter().all(|(content, size)| content.len() == *size);
     require(all, Refusal::Size)
 }
 
-/// Numbers of 1 to 8 bytes each, "signed, low byte first".
+/// R1.6: signed numbers of 1 to 8 bytes each.
 pub fn decode(bytes: &[u8], width: usize) -> Vec<i64> {
     bytes.chunks(width).map(decode_number).collect()
 }
@@ -128,7 +126,7 @@ fn decode_number(bytes: &[u8]) -> i64 {
     i64::try_from(signed).expect("at most 8 bytes a number")
 }
 
-/// The bytes of numbers, `width` bytes each, signed, low byte first.
+/// R1.6: the bytes of signed numbers, `width` bytes each.
 pub fn encode(numbers: &[i64], width: usize) -> Vec<u8> {
     let bytes = |number: &i64| number.to_le_bytes()[..width].to_vec();
     numbers.iter().flat_map(bytes).collect()

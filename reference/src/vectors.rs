@@ -1,4 +1,4 @@
-//! Witness vectors: document 01, "Showing a vector".
+//! Witness vectors: R8 to R10.
 
 use std::sync::OnceLock;
 
@@ -8,11 +8,10 @@ use crate::problem::{
 };
 use crate::refusal::{require, Refusal};
 
-/// The scales of the solved vectors: "for s = 1 then s = 64".
+/// R10.1: the scales s of the solved vectors.
 pub const SCALES: [i128; 2] = [1, 64];
 
-/// "The least value of x is the least x'Mx over members: L on the diagonal and
-/// where x(i)·x(j) > 0, U elsewhere."
+/// R8.1 and R8.2: the least value of a vector.
 pub fn least_value(bounds: &Bounds, x: &[i128]) -> i128 {
     let row = |i: usize| -> i128 {
         let (low, high) = (&bounds.low[i], &bounds.high[i]);
@@ -30,8 +29,7 @@ pub fn least_value(bounds: &Bounds, x: &[i128]) -> i128 {
     rows.map(|i| x[i] * row(i)).sum()
 }
 
-/// "x shows 'not definite' exactly if it is nonzero and its least value is 0
-/// or less."
+/// R8.3: whether the vector shows 'not definite'.
 pub fn shows(bounds: &Bounds, x: &[i128]) -> bool {
     nonzero(x) && least_value(bounds, x) <= 0
 }
@@ -40,7 +38,7 @@ fn nonzero(x: &[i128]) -> bool {
     x.iter().any(|entry| *entry != 0)
 }
 
-/// Check 7: "offered vector all zero, or an entry out of range".
+/// Check 7: an offered vector's entries (R4.7).
 pub fn check_vector(numbers: &[i64]) -> Result<Vec<i128>, Refusal> {
     let x = widen(numbers);
     let within = x.iter().all(|entry| entry.abs() <= VECTOR_RANGE);
@@ -48,8 +46,7 @@ pub fn check_vector(numbers: &[i64]) -> Result<Vec<i128>, Refusal> {
     Ok(x)
 }
 
-/// The vector test: checks 1 to 5 and 7, then yes (true) where the vector
-/// shows 'not definite', or no.
+/// The vector test: checks 1 to 5 and 7 (R5.4), then 'yes' (true) or 'no' (R8.4).
 pub fn test_vector(n: i64, low: &[i64], high: &[i64], vector: &[i64]) -> Result<bool, Refusal> {
     let order = check_order(n)?;
     let table = table_size(order);
@@ -63,9 +60,7 @@ pub fn test_vector(n: i64, low: &[i64], high: &[i64], vector: &[i64]) -> Result<
     Ok(shows(&bounds, &x))
 }
 
-/// "The tried vectors of order n are those of order n − 1 with one entry put
-/// in front: first all with 0 in front, then 1, then −1. Order 0 has the empty
-/// vector only. The zero vector is skipped."
+/// R9.2 and R9.3: the tried vectors, without that of zeros.
 pub fn tried_vectors(order: usize) -> &'static [Vec<i128>] {
     // Each order's list is made once.
     static LISTS: OnceLock<Vec<Vec<Vec<i128>>>> = OnceLock::new();
@@ -90,24 +85,23 @@ fn unit_entry_vectors(order: usize) -> Vec<Vec<i128>> {
     [0, 1, -1].into_iter().flat_map(with_front).collect()
 }
 
-/// The solved vector of scale s for factoring stopped with column j and last
-/// row m. `None` where "an entry passes ±2^15".
+/// R10: the solved vector of scale s, after factoring stopped in this column with
+/// this last row. `None` where an entry is out of range (R10.5).
 pub fn solved_vector(
     column: usize,
     last_row: usize,
     partial: &Table,
     s: i128,
 ) -> Option<Vec<i128>> {
-    // "x(j) = s for the stopping column j." "All other entries are 0."
+    // R10.2
     let mut x = vec![0; partial.len()];
     x[column - 1] = s;
-    // "For i = m down to 1, with T = Σ over k > i of r(i,k)·x(k)"
+    // R10.3
     for i in (0..last_row).rev() {
         let r = &partial[i];
         let t: i128 = (i + 1..x.len()).map(|k| r[k] * x[k]).sum();
-        // "x(i) is minus the rounded-down quotient of 2T + r(i,i) by 2·r(i,i)"
         x[i] = -floor_quotient(2 * t + r[i], 2 * r[i]);
-        // "If an entry passes ±2^15 this s gives none."
+        // R10.5
         if x[i].abs() > VECTOR_RANGE {
             return None;
         }

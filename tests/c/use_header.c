@@ -303,9 +303,18 @@ static void run_one_table(void)
     expect("its sides", holds(sides, still, 2 * ORDER), 1);
 }
 
+/* The version's numbers and its string are one version. */
+static void run_version(void)
+{
+    char joined[64];
+    sprintf(joined, "%d.%d.%d", HB_VERSION_MAJOR, HB_VERSION_MINOR, HB_VERSION_PATCH);
+    expect("the version's string", strcmp(joined, HB_VERSION_STRING), 0);
+}
+
 int main(void)
 {
     size_t k;
+    run_version();
     run_words();
     run_one_table();
     for (k = 0; k < sizeof box_cases / sizeof box_cases[0]; k++)

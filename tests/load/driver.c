@@ -51,7 +51,7 @@
 #define PAGE 4096
 /* Numbers are dealt to the threads in blocks of this many. */
 #define BLOCK 120
-#define PROGRESS 1000000
+#define PROGRESS 10 /* seconds */
 
 /* Answers are -2 to 9, orders 1 to 8 or out of range (0). */
 #define LEAST (-2)
@@ -98,6 +98,8 @@ struct worker {
 
 static uint64_t seed, first, calls;
 static atomic_uint_fast64_t next;
+static double begun;
+static atomic_uint said;
 static _Thread_local uint64_t current;
 
 static void say_where(void) {
@@ -288,6 +290,21 @@ static void count(struct worker *worker, const struct load_call *call) {
     worker->met[call->act][order][call->answer - LEAST]++;
 }
 
+static double seconds(void) {
+    struct timespec now;
+    clock_gettime(CLOCK_MONOTONIC, &now);
+    return (double)now.tv_sec + (double)now.tv_nsec / 1e9;
+}
+
+/* Says how far the calls are, once in so many seconds, whichever thread comes first. */
+static void say_progress(void) {
+    unsigned turn = (unsigned)((seconds() - begun) / PROGRESS), last = atomic_load(&said);
+    if (turn > last && atomic_compare_exchange_strong(&said, &last, turn)) {
+        uint64_t taken = atomic_load(&next);
+        fprintf(stderr, "%u s: %" PRIu64 " of %" PRIu64 " calls\n", turn * PROGRESS, taken < calls ? taken : calls, calls);
+    }
+}
+
 static void *work(void *argument) {
     struct worker *worker = argument;
     struct load_source *source = load_open(seed);
@@ -302,10 +319,8 @@ static void *work(void *argument) {
             load_call(source, current, &call);
             compare(worker, &call);
             count(worker, &call);
-            if ((done + 1) % PROGRESS == 0) {
-                fprintf(stderr, "%" PRIu64 " calls\n", done + 1);
-            }
         }
+        say_progress();
         if (start + BLOCK >= calls) {
             break;
         }
@@ -358,12 +373,6 @@ static bool print(counts met) {
     return all;
 }
 
-static double seconds(void) {
-    struct timespec now;
-    clock_gettime(CLOCK_MONOTONIC, &now);
-    return (double)now.tv_sec + (double)now.tv_nsec / 1e9;
-}
-
 int main(int count_of_arguments, char **arguments) {
     if (count_of_arguments < 3) {
         fprintf(stderr, "driver CALLS SEED [FIRST]\n");
@@ -378,7 +387,7 @@ int main(int count_of_arguments, char **arguments) {
 #ifndef LOAD_VALGRIND
     __sanitizer_set_death_callback(say_where);
 #endif
-    double start = seconds();
+    begun = seconds();
     for (size_t k = 0; k < THREADS; k++) {
         if (pthread_create(&workers[k].thread, NULL, work, &workers[k]) != 0) {
             return 2;
@@ -390,7 +399,7 @@ int main(int count_of_arguments, char **arguments) {
             (&met[0][0][0])[place] += (&workers[k].met[0][0][0])[place];
         }
     }
-    double taken = seconds() - start;
+    double taken = seconds() - begun;
     bool all = print(met);
     printf("seed %" PRIu64 ", %" PRIu64 " calls in %.0f s, %.0f a second, no difference\n", seed, calls, taken, (double)calls / taken);
     if (whole && !all) {

@@ -1,4 +1,4 @@
-//! Runs the listed cases of document 01 and prints one line for each.
+//! Runs the worked cases of docs/RULES.md and prints one line for each.
 
 use std::process::ExitCode;
 

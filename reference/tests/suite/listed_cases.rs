@@ -1,4 +1,4 @@
-//! The listed cases of document 01, and the same lines through the byte
+//! The worked cases of docs/RULES.md, and the same lines through the byte
 //! entries.
 
 use hankboulder_reference::cases::{listed_cases, numbers};
@@ -26,7 +26,7 @@ fn a_failing_case_would_be_seen() {
     assert!(case.to_string().ends_with("FAIL"));
 }
 
-/// Judges matrices written as in the document.
+/// Judges matrices written as in docs/RULES.md.
 fn judged(low: &str, high: &str) -> Judged {
     let n = low.split(';').count();
     judge(n, &numbers(low), &numbers(high))

@@ -1,5 +1,5 @@
 //! Tests of the reference implementation. Expected values are literals of
-//! document 01 or worked by another route.
+//! docs/RULES.md or worked by another route.
 
 mod entries;
 mod files;

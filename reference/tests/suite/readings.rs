@@ -1,4 +1,5 @@
-//! Edge cases: what the short sentences of document 01 mean.
+//! Edge cases: what docs/RULES.md says of the ends of ranges, of roundings and of
+//! the order in which things are asked.
 
 use hankboulder_reference::cases::{bounds, numbers};
 use hankboulder_reference::enclosure::{common_step, single_steps};

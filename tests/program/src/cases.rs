@@ -256,7 +256,7 @@ fn boxes() -> Vec<Case> {
     boxes
 }
 
-/// Case P of document 01, and its fields in falling order
+/// Case P (W21), and its fields in falling order
 fn listed() -> Vec<Case> {
     let case_p = thin("[4]", &[-8], 0, &[2]);
     let mut falling = fields(&case_p);

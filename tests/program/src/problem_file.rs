@@ -7,7 +7,7 @@ use hankboulder_reference::summary::{problem_fields, write_summary};
 /// The fields of a file in the order they stand: tag and content.
 pub type Fields = Vec<(u8, Vec<u8>)>;
 
-/// A problem whose bounds are written as in document 01, such as `[2 1; 1 2]`.
+/// A problem whose bounds are written as in docs/RULES.md, such as `[2 1; 1 2]`.
 pub fn wide(low: &str, high: &str, linear: &[i64], limit: i64, centre: &[i64]) -> RawProblem {
     RawProblem {
         order: linear.len(),

@@ -1,5 +1,5 @@
 //! What the box answers and writes. Expected sides and refusals are literals
-//! worked from the rules; matrices are written as in document 01.
+//! worked from the rules; matrices are written as in docs/RULES.md.
 
 use hankboulder_compare::enclosure::BOX;
 use hankboulder_compare::{bytes, numbers, Call, Detail};

@@ -1,5 +1,5 @@
 //! What the judge answers, what it writes and what it keeps. Expected verdicts
-//! are literals worked from the rules; matrices are written as in document 01.
+//! are literals worked from the rules; matrices are written as in docs/RULES.md.
 
 use hankboulder_compare::judge::JUDGE;
 use hankboulder_compare::{bytes, Detail};
@@ -98,10 +98,10 @@ fn the_other_listed_lines() {
 }
 
 #[test]
-fn wrong_turns_that_look_natural() {
-    // Dividing toward zero
+fn mistakes_easily_made() {
+    // Quotients toward zero
     expect("[2 -1; -1 2]", Definite(&[89738, -47862, 0, 75909]));
-    // Judging L alone
+    // L looked at alone
     expect_wide("[1 0; 0 1]", "[1 2; 2 1]", Not(&[1, -1]));
     expect_wide("[1 -2; -2 1]", "[1 0; 0 1]", Not(&[1, 1]));
     // Looking only when a column is full: factoring stops in column 3 with m = 1,

@@ -1,4 +1,4 @@
-//! "Fields may stand in any order."
+//! The order of the fields is free (R16.3).
 
 use hankboulder_program::problem_file::{definite, fields, file, Fields};
 use hankboulder_program::{on_threads, Program};

@@ -54,8 +54,7 @@ impl Fault {
     }
 
     /// Which fault is found first, where this one is in the field of a tag at a
-    /// place: "Then, field by field, 10, 11, 12. Then 13, then 14 for tag 01,
-    /// then 1, then 14 for the other tags in rising order, then 3, 4, 5."
+    /// place: the order of R5.11 and R5.12.
     fn turn(self, tag: u8, place: usize) -> (usize, usize, i64) {
         let stage = match self {
             Cut(_) | PastEnd(_) | Tag(_) | Twice => return (0, place, self.number()),

@@ -28,6 +28,12 @@ def run(command, given):
     return [bytes([status]), sys.stdout.buffer.getvalue(), sys.stderr.getvalue().encode()]
 
 
+if sys.argv[1:] == ["--help"]:
+    print(__doc__, end="")
+    sys.exit(0)
+if len(sys.argv) != 2 or sys.argv[1] not in summary.COMMANDS:
+    print("many.py: it takes one word, a command of examples/summary.py; many.py --help says more", file=sys.stderr)
+    sys.exit(2)
 standard_input, standard_output = sys.stdin.buffer, sys.stdout.buffer
 for given in parts(standard_input.read()):
     for part in run(sys.argv[1], given):

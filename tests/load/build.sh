@@ -1,13 +1,12 @@
-# For the scripts beside this file, which run from the repository's folder.
+# For the scripts beside this file, which have sourced tests/script.sh and run from the repository's folder.
+# shellcheck shell=bash
 
 # build_driver PROGRAM FLAG..: build the driver with the library and the second implementation
 build_driver() {
-    local program=$1 library
+    local program=$1
     shift
-    if [ -z "${HANKBOULDER_LIB_DIR:-}" ]; then
-        rt staticlib hankboulder >&2
-    fi
-    library=${HANKBOULDER_LIB_DIR:-target/staticlib}/libhankboulder.a
+    make_archive hankboulder
+    echo "$self: building the second implementation and the driver" >&2
     cargo build --quiet --release --offline --manifest-path tests/load/Cargo.toml --target-dir target/load/cargo
     rm -f "$program"
     "${CC:-gcc}" -std=c11 -O1 -g -Wall -Wextra -Werror -Iinclude "$@" tests/load/driver.c "$library" target/load/cargo/release/libhankboulder_load.a \
