@@ -14,7 +14,8 @@ pub record Point (n : ℕ) (L U : Matrix) (a : ℕ → ℤ) (α : ℤ) (X : ℕ 
   pub denominator : ℤ
   pub member : Member n L U matrix denominator
   pub whole : pos 1 ≤ℤ p
-  pub inside : (form n matrix X +ℤ pos 2 *ℤ p *ℤ denominator *ℤ sum n (λ k. a k *ℤ X k)) ≤ℤ (α *ℤ (p *ℤ p) *ℤ denominator)
+  pub inside :
+      (form n matrix X +ℤ pos 2 *ℤ p *ℤ denominator *ℤ sum n (λ k. a k *ℤ X k)) ≤ℤ (α *ℤ (p *ℤ p) *ℤ denominator)
 
 -- the same of a constraint
 abbrev pub Allowed : Constraint → (ℕ → ℤ) → ℤ → Type 0
