@@ -12,26 +12,12 @@ Inv-loop x above₀ r = (x < (r + 1) * (r + 1)) × (r < 2 ^ 32)
 abbrev μ-loop : tie.MeasureT-loop
 μ-loop x above₀ r = r
 
-mul-loop : tie.Need-mul-loop Inv-loop μ-loop
-mul-loop c = let k : c .loop .above ≤ 4294967295 = omega arith in omega (arith, mul-le-mul k k)
-
 some : (x r : ℕ) → x < r * r → 0 < r
 some x zero h = omega arith
 some x (suc r) h = omega arith
 
-newton-requires : tie.Need-newton-requires Inv-loop μ-loop
-newton-requires c κs = (some _ _ (c .loop-test .taken), omega arith, omega arith)
-
 loop-less : tie.Need-loop-less Inv-loop μ-loop
 loop-less c = rw (c .newton .ensures) (newton-falls _ _ (c .before .loop-test .taken))
-
-loop-again : tie.Need-loop-again Inv-loop μ-loop
-loop-again c =
-    let l = c .before .before .loop in
-    (rw (c .newton .ensures) (newton-above _ (l .above) (some _ _ (c .before .loop-test .taken))), omega (arith, loop-less c))
-
-returns-2 : tie.Need-returns-2 Inv-loop μ-loop
-returns-2 c = let l = c .before .loop in (omega arith, l .inv .0, l .inv .1)
 
 pub root-spec : {M : Type 1} → statement M
 root-spec =
@@ -42,8 +28,10 @@ root-spec =
     (λ c. omega arith)
     (λ c κs. omega arith)
     (λ c. c .first-step .ensures)
-    mul-loop
-    newton-requires
+    (λ c. let k : c .loop .above ≤ 4294967295 = omega arith in omega (arith, mul-le-mul k k))
+    (λ c κs. (some _ _ (c .loop-test .taken), omega arith, omega arith))
     loop-less
-    loop-again
-    returns-2)
+    (λ c.
+    let l = c .before .before .loop in
+    (rw (c .newton .ensures) (newton-above _ (l .above) (some _ _ (c .before .loop-test .taken))), omega (arith, loop-less c)))
+    (λ c. let l = c .before .loop in (omega arith, l .inv .0, l .inv .1)))

@@ -18,52 +18,37 @@ Inv-loop b out₀ k size i₀ out i = (i ≤ k) × (out ≡ numbersOf (widthOf s
 abbrev μ-loop : tie.MeasureT-loop
 μ-loop b out₀ k size i₀ out i = k - i
 
-loop-holds : tie.Need-loop-holds Inv-loop μ-loop
-unfolding numbersOf
-loop-holds c = (omega arith, refl)
-
 -- number i ends where the k numbers end, or before
 room : (c : tie.In-loop Inv-loop μ-loop)
     → suc (c .before .loop .i) * c .before .before .before .args .size ≤ c .before .before .before .args .k * c .before .before .before .args .size
 room c = mul-le-mul-right (c .before .before .before .args .size) (omega arith)
 
-slice-set-from-v : tie.Need-slice-set-from-v Inv-loop μ-loop
-slice-set-from-v c =
-    let l = c .before .before .loop in
-    let a = c .before .before .before .before .args in
-    rw (l .inv .1) (omega (arith, length-filled (widthOf (a .size)) (a .b .now) (a .out .now) (l .i) (omega arith)))
-
-loop-again : tie.Need-loop-again Inv-loop μ-loop
-loop-again c =
-    let l = c .before .before .loop in
-    let a = c .before .before .before .before .args in
-    let e = ap (λ (n : ℕ). signedAt (widthOf (a .size)) (a .b .now) (l .i * n)) (c .before .before .before .before .pre .0) in
-    let v = toZ-ofZ {w = w64} (sfits-of (c .load-signed .ok)) ∙ c .load-signed .ensures ∙ e in
-    (omega arith, rw (l .inv .1, v) (fill-number (widthOf (a .size)) (a .b .now) (a .out .now) (l .i) (omega arith)))
-
-same-length : tie.Need-same-length Inv-loop μ-loop
-same-length c =
-    let a = c .before .before .before .args in
-    ap length (c .before .loop .inv .1) ∙ length-filled (widthOf (a .size)) (a .b .now) (a .out .now) (c .before .loop .i) (omega arith)
-
-returns : tie.Need-returns Inv-loop μ-loop
-returns c =
-    let e : c .before .loop .i ≡ c .before .before .before .args .k = omega arith in
-    rw e at (c .before .loop .inv .1)
-
 pub load-numbers-spec : {M : Type 1} → statement M
+unfolding numbersOf
 load-numbers-spec =
     tie.close
     (tie.spec
     Inv-loop
     μ-loop
-    loop-holds
+    (λ c. (omega arith, refl))
     (λ c. record { fits = omega (arith, room c) })
     (λ c κs. (c .before .before .before .pre .0, omega (arith, room c)))
     (λ c. omega arith)
-    slice-set-from-v
+    (λ c.
+    let l = c .before .before .loop in
+    let a = c .before .before .before .before .args in
+    rw (l .inv .1) (omega (arith, length-filled (widthOf (a .size)) (a .b .now) (a .out .now) (l .i) (omega arith))))
     (λ c. omega arith)
     (λ c. omega arith)
-    loop-again
-    same-length
-    returns)
+    (λ c.
+    let l = c .before .before .loop in
+    let a = c .before .before .before .before .args in
+    let e = ap (λ (n : ℕ). signedAt (widthOf (a .size)) (a .b .now) (l .i * n)) (c .before .before .before .before .pre .0) in
+    let v = toZ-ofZ {w = w64} (sfits-of (c .load-signed .ok)) ∙ c .load-signed .ensures ∙ e in
+    (omega arith, rw (l .inv .1, v) (fill-number (widthOf (a .size)) (a .b .now) (a .out .now) (l .i) (omega arith))))
+    (λ c.
+    let a = c .before .before .before .args in
+    ap length (c .before .loop .inv .1) ∙ length-filled (widthOf (a .size)) (a .b .now) (a .out .now) (c .before .loop .i) (omega arith))
+    (λ c.
+    let e : c .before .loop .i ≡ c .before .before .before .args .k = omega arith in
+    rw e at (c .before .loop .inv .1)))

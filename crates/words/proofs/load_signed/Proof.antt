@@ -17,15 +17,13 @@ read c =
     let a = c .before .before .args in
     c .load-unsigned .ensures ∙ ap (λ (n : ℕ). unsignedAt n (a .b .now) (a .at)) (c .before .before .pre .0)
 
-signed-of-requires : tie.Need-signed-of-requires
-signed-of-requires c κs =
-    let a = c .before .before .args in
-    rw (read c) (unsignedAt-fits (widthOf (a .size)) (a .b .now) (a .at) (record { each = λ j. omega (arith, c .before .shared-slice-known .given j) }))
-
-returns : tie.Need-returns
-unfolding signedAt
-returns c =
-    toZ-ofZ {w = w64} (sfits-of (c .signed-of .ok)) ∙ c .signed-of .ensures ∙ ap (toZ (widthOf (c .before .before .before .args .size))) (read (c .before))
-
 pub load-signed-spec : {M : Type 1} → statement M
-load-signed-spec = tie.close (tie.spec (λ c κs. omega (arith, narrow-of (c .before .args .size))) signed-of-requires returns)
+unfolding signedAt
+load-signed-spec =
+    tie.close
+    (tie.spec (λ c κs. omega (arith, narrow-of (c .before .args .size)))
+    (λ c κs.
+    let a = c .before .before .args in
+    rw (read c) (unsignedAt-fits (widthOf (a .size)) (a .b .now) (a .at) (record { each = λ j. omega (arith, c .before .shared-slice-known .given j) })))
+    (λ c.
+    toZ-ofZ {w = w64} (sfits-of (c .signed-of .ok)) ∙ c .signed-of .ensures ∙ ap (toZ (widthOf (c .before .before .before .args .size))) (read (c .before))))

@@ -14,10 +14,6 @@ Inv-loop b at k u₀ i₀ u i = (i ≤ k) × (u ≡ unsignedAt (k - i) b (at + i
 abbrev μ-loop : tie.MeasureT-loop
 μ-loop b at k u₀ i₀ u i = i
 
-loop-holds : tie.Need-loop-holds Inv-loop μ-loop
-unfolding unsignedAt fromLeBytes
-loop-holds c = (omega arith, rw sub-self)
-
 below : (c : tie.After-wide Inv-loop μ-loop) → c .before .before .before .loop .u < 256 ^ 7
 below c =
     let l = c .before .before .before .loop in
@@ -26,26 +22,14 @@ below c =
     let p : 256 ^ (a .k - l .i) ≤ 256 ^ 7 = pow-le-pow-right {n = 256} (omega arith) {j = 7} (omega arith) in
     omega arith
 
-loop-again : tie.Need-loop-again Inv-loop μ-loop
-loop-again c =
-    let l = c .before .before .before .loop in
-    let a = c .before .before .before .before .before .args in
-    let n : a .k - (l .i - 1) ≡ suc (a .k - l .i) = omega arith in
-    let m : suc (a .at + (l .i - 1)) ≡ a .at + l .i = omega arith in
-    (omega arith, rw (n, unsignedAt-suc (a .k - l .i) (a .b .now) (a .at + (l .i - 1)) (omega arith), m) (omega arith))
-
-returns : tie.Need-returns Inv-loop μ-loop
-returns c =
-    let e : c .before .loop .i ≡ 0 = omega arith in
-    rw (e, sub-zero, add-zero) at (c .before .loop .inv .1)
-
 pub load-unsigned-spec : {M : Type 1} → statement M
+unfolding unsignedAt fromLeBytes
 load-unsigned-spec =
     tie.close
     (tie.spec
     Inv-loop
     μ-loop
-    loop-holds
+    (λ c. (omega arith, rw sub-self))
     (λ c. omega arith)
     (λ c. omega arith)
     (λ c. omega arith)
@@ -53,5 +37,12 @@ load-unsigned-spec =
     (λ c. record { fits = omega (arith, below c) })
     (λ c. record { fits = omega (arith, below c) })
     (λ c. omega arith)
-    loop-again
-    returns)
+    (λ c.
+    let l = c .before .before .before .loop in
+    let a = c .before .before .before .before .before .args in
+    let n : a .k - (l .i - 1) ≡ suc (a .k - l .i) = omega arith in
+    let m : suc (a .at + (l .i - 1)) ≡ a .at + l .i = omega arith in
+    (omega arith, rw (n, unsignedAt-suc (a .k - l .i) (a .b .now) (a .at + (l .i - 1)) (omega arith), m) (omega arith)))
+    (λ c.
+    let e : c .before .loop .i ≡ 0 = omega arith in
+    rw (e, sub-zero, add-zero) at (c .before .loop .inv .1)))

@@ -21,43 +21,34 @@ Inv-loop a out₀ k size i₀ out i =
 abbrev μ-loop : tie.MeasureT-loop
 μ-loop a out₀ k size i₀ out i = k - i
 
-loop-holds : tie.Need-loop-holds Inv-loop μ-loop
-unfolding bytesOf
-loop-holds c = (omega arith, refl, rw (zero-mul (bytes (widthOf (c .before .args .size)))))
-
 -- the bytes of number i end where those of the k numbers end, or before
 room : (c : tie.In-loop Inv-loop μ-loop)
     → suc (c .before .loop .i) * c .before .before .before .args .size ≤ c .before .before .before .args .k * c .before .before .before .args .size
 room c = mul-le-mul-right (c .before .before .before .args .size) (omega arith)
 
-loop-again : tie.Need-loop-again Inv-loop μ-loop
-loop-again c =
-    let s = c .before .before .store-signed in
-    let l = c .before .before .before .before .before .before .loop in
-    let b = c .before .before .before .before .before .before .before .before in
-    let a = b .args in
-    let v = c .before .before .before .before .v .given in
-    let e = ap (λ (n : ℕ). withSigned (widthOf (a .size)) (l .out) (l .i * n) (getD (a .a .now) (l .i) (pos 0))) (b .pre .0) in
-    (omega arith, s .kept .0 ∙ l .inv .1, rw (toZ-ofZ {w = w64} (sfits-of v)) at (s .ensures) ∙ e ∙ rw (l .inv .2) (fill-bytes (widthOf (a .size)) (a .a .now) (a .out .now) (l .i)))
-
-returns : tie.Need-returns Inv-loop μ-loop
-returns c =
-    let e : c .before .loop .i ≡ c .before .before .before .args .k = omega arith in
-    rw e at (c .before .loop .inv .2)
-
 pub store-numbers-spec : {M : Type 1} → statement M
+unfolding bytesOf
 store-numbers-spec =
     tie.close
     (tie.spec
     Inv-loop
     μ-loop
-    loop-holds
+    (λ c. (omega arith, refl, rw (zero-mul (bytes (widthOf (c .before .args .size))))))
     (λ c. omega arith)
     (λ c. omega arith)
     (λ c. record { fits = omega (arith, room (c .before .before)) })
     (λ c κs. (c .before .before .before .before .before .pre .0, omega (arith, room (c .before .before))))
     (λ c. omega arith)
     (λ c. omega arith)
-    loop-again
+    (λ c.
+    let s = c .before .before .store-signed in
+    let l = c .before .before .before .before .before .before .loop in
+    let b = c .before .before .before .before .before .before .before .before in
+    let a = b .args in
+    let v = c .before .before .before .before .v .given in
+    let e = ap (λ (n : ℕ). withSigned (widthOf (a .size)) (l .out) (l .i * n) (getD (a .a .now) (l .i) (pos 0))) (b .pre .0) in
+    (omega arith, s .kept .0 ∙ l .inv .1, rw (toZ-ofZ {w = w64} (sfits-of v)) at (s .ensures) ∙ e ∙ rw (l .inv .2) (fill-bytes (widthOf (a .size)) (a .a .now) (a .out .now) (l .i))))
     (λ c. omega arith)
-    returns)
+    (λ c.
+    let e : c .before .loop .i ≡ c .before .before .before .args .k = omega arith in
+    rw e at (c .before .loop .inv .2)))

@@ -15,35 +15,26 @@ Inv-loop b₀ at k u rest₀ i₀ b rest i =
 abbrev μ-loop : tie.MeasureT-loop
 μ-loop b₀ at k u rest₀ i₀ b rest i = k - i
 
-loop-holds : tie.Need-loop-holds Inv-loop μ-loop
-loop-holds c = (omega arith, refl, rw (sub-zero, add-zero))
-
-loop-again : tie.Need-loop-again Inv-loop μ-loop
-loop-again c =
-    let l = c .before .loop in
-    let a = c .before .before .args in
-    let n : a .k - l .i ≡ suc (a .k - (l .i + 1)) = omega arith in
-    let m : a .at + (l .i + 1) ≡ suc (a .at + l .i) = omega arith in
-    (omega arith, simp length-set (l .inv .1), rw m (sym (withUnsigned-suc (a .k - (l .i + 1)) (l .b) (a .at + l .i) (l .rest) (omega arith)) ∙ rw n at (l .inv .2)))
-
-returns : tie.Need-returns Inv-loop μ-loop
-returns c =
-    let l = c .before .loop in
-    let e : c .before .before .args .k - l .i ≡ 0 = omega arith in
-    sym (withUnsigned-zero (l .b) (c .before .before .args .at + l .i) (l .rest)) ∙ rw e at (l .inv .2)
-
 pub store-unsigned-spec : {M : Type 1} → statement M
 store-unsigned-spec =
     tie.close
     (tie.spec
     Inv-loop
     μ-loop
-    loop-holds
+    (λ c. (omega arith, refl, rw (sub-zero, add-zero)))
     (λ c. omega arith)
     (λ c. omega arith)
     (λ c. omega arith)
     (λ c. omega arith)
     (λ c. omega arith)
-    loop-again
+    (λ c.
+    let l = c .before .loop in
+    let a = c .before .before .args in
+    let n : a .k - l .i ≡ suc (a .k - (l .i + 1)) = omega arith in
+    let m : a .at + (l .i + 1) ≡ suc (a .at + l .i) = omega arith in
+    (omega arith, simp length-set (l .inv .1), rw m (sym (withUnsigned-suc (a .k - (l .i + 1)) (l .b) (a .at + l .i) (l .rest) (omega arith)) ∙ rw n at (l .inv .2))))
     (λ c. omega arith)
-    returns)
+    (λ c.
+    let l = c .before .loop in
+    let e : c .before .before .args .k - l .i ≡ 0 = omega arith in
+    sym (withUnsigned-zero (l .b) (c .before .before .args .at + l .i) (l .rest)) ∙ rw e at (l .inv .2)))
