@@ -31,15 +31,6 @@ add-s c =
     rw (clean (multiplied c), clean-element (nth (b .before .before .args .x .now) (b .before .loop .k)) (c .before .s .given), clean-element _ (c .s2 .given), b .before .loop .inv .1)
     (terms-add (b .before .before .pre) (b .loop-test .taken))
 
-loop-again : tie.Need-loop-again Inv-loop μ-loop
-loop-again c =
-    let b = c .before .before .before in
-    let l = b .loop in (
-      omega arith,
-      clean (add-s c)
-          ∙ rw (clean (multiplied c), clean-element (nth (b .before .args .x .now) (l .k)) (c .before .s .given), clean-element _ (c .s2 .given), l .inv .1, add-one) (sym (sum-suc (l .k) _)),
-    )
-
 pub product-sum-spec : {M : Type 1} → statement M
 product-sum-spec =
     tie.close
@@ -53,5 +44,11 @@ product-sum-spec =
     add-s
     (λ c. omega arith)
     (λ c. omega arith)
-    loop-again
+    (λ c.
+    let b = c .before .before .before in
+    let l = b .loop in (
+      omega arith,
+      clean (add-s c)
+          ∙ rw (clean (multiplied c), clean-element (nth (b .before .args .x .now) (l .k)) (c .before .s .given), clean-element _ (c .s2 .given), l .inv .1, add-one) (sym (sum-suc (l .k) _)),
+    ))
     (λ c. let e : c .before .loop .k ≡ c .before .before .args .n = omega arith in rw e at (c .before .loop .inv .1)))

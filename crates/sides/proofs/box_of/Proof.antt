@@ -61,23 +61,6 @@ second-no c =
     let b = c .before .second-bound in
     rw (second-bound-is (c .before)) at (leZ-false (lt-yes {x = b .result} {y = pos 0} (record { sfits = b .ok }) (fits-literal tt) (c .if2 .taken)))
 
-asked : tie.Need-write-sides-requires
-asked c κs =
-    let b2 = c .before .before .before in
-    let h = b2 .before .before in
-    let s = h .before .before .before .before in
-    let q = s .pre .0 in
-    let w = bound-within (q .near) (q .difference) in (
-      record {
-        order = q .near .order;
-        centre-length = q .centre-length;
-        centre = q .centre;
-        halves = halves-within (q .near) w (filled h);
-        bound = rw (clean-result (b2 .second-bound), b2 .second-bound .ensures, clean (s .fits .d)) (second-within (half-terms (q .near) w (filled h)) (q .difference));
-      },
-      s .pre .1,
-    )
-
 pub box-of-spec : {M : Type 1} → statement M
 box-of-spec =
     tie.close
@@ -98,7 +81,21 @@ box-of-spec =
     let h = c .before .before .before in
     let s = h .before .before .before .before in
     record { answer = box-empty _ _ _ _ _ _ (filled h) (bound-yes (h .before .before)) _ (second-no c); size = s .pre .1 })
-    asked
+    (λ c κs.
+    let b2 = c .before .before .before in
+    let h = b2 .before .before in
+    let s = h .before .before .before .before in
+    let q = s .pre .0 in
+    let w = bound-within (q .near) (q .difference) in (
+      record {
+        order = q .near .order;
+        centre-length = q .centre-length;
+        centre = q .centre;
+        halves = halves-within (q .near) w (filled h);
+        bound = rw (clean-result (b2 .second-bound), b2 .second-bound .ensures, clean (s .fits .d)) (second-within (half-terms (q .near) w (filled h)) (q .difference));
+      },
+      s .pre .1,
+    ))
     -- return true
     (λ c.
     let b2 = c .before .before .before .before in

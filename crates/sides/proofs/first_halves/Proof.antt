@@ -23,11 +23,6 @@ Inv-loop n t g b y₀ s k₀ y k = (k ≤ n) × Filled greatestOrder k (λ i. ce
 abbrev μ-loop : tie.MeasureT-loop
 μ-loop n t g b y₀ s k₀ y k = n - k
 
-asked : tie.Need-ceil-div-requires Inv-loop μ-loop
-asked c κs =
-    let s = c .before .before .before .before in
-    rw (clean (s .fits .t), clean-element _ (c .ceil-div-arg .given)) (gradient-numerator (s .pre .0) (c .before .loop-test .taken), s .pre .0 .step)
-
 quotient : (c : tie.After-ceil-div Inv-loop μ-loop) →
     let s = c .before .before .before .before .before .args in
     toZ w64 (ofZ w64 (c .ceil-div .result)) ≡ ceilDiv (nth (s .g .now) (c .before .before .before .loop .k)) (s .t)
@@ -44,16 +39,6 @@ add-y c =
     let s = b .before .before .before in
     rw (quotient c, root (b .before .before)) (half-fits (s .pre .0) (s .pre .1) (b .loop-test .taken))
 
-loop-again : tie.Need-loop-again Inv-loop μ-loop
-loop-again c =
-    let l = c .before .before .before in
-    let s = l .before .before in
-    let order = s .pre .0 .order in (
-      omega arith,
-      rw (add-one, clean (s .fits .t), clean (s .fits .b))
-          (filled-more (omega arith) (clean (add-y c) ∙ rw (quotient c, root (l .before))) (rw (clean (s .fits .t), clean (s .fits .b)) at (l .loop .inv .1))),
-    )
-
 pub first-halves-spec : {M : Type 1} → statement M
 first-halves-spec =
     tie.close
@@ -62,13 +47,22 @@ first-halves-spec =
     (λ c. (omega arith, filled-none (c .before .pre .2)))
     (λ c. let order = c .before .before .before .pre .0 .order in omega arith)
     (λ c. let order = c .before .before .before .pre .0 .order in omega arith)
-    asked
+    (λ c κs.
+    let s = c .before .before .before .before in
+    rw (clean (s .fits .t), clean-element _ (c .ceil-div-arg .given)) (gradient-numerator (s .pre .0) (c .before .loop-test .taken), s .pre .0 .step))
     add-y
     (λ c. let order = c .before .before .before .before .before .pre .0 .order in omega arith)
     (λ c. let order = c .before .before .before .before .before .pre .0 .order in omega arith)
     (λ c. let order = c .before .before .before .before .before .pre .0 .order in omega arith)
     (λ c. omega arith)
-    loop-again
+    (λ c.
+    let l = c .before .before .before in
+    let s = l .before .before in
+    let order = s .pre .0 .order in (
+      omega arith,
+      rw (add-one, clean (s .fits .t), clean (s .fits .b))
+          (filled-more (omega arith) (clean (add-y c) ∙ rw (quotient c, root (l .before))) (rw (clean (s .fits .t), clean (s .fits .b)) at (l .loop .inv .1))),
+    ))
     (λ c.
     let s = c .before .before .before in
     let e : c .before .loop .k ≡ s .args .n = omega arith in

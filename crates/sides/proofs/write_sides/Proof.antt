@@ -64,16 +64,6 @@ high c =
     rw (half (c .before)) (fits-within {m = sideRange} (within-in (order (x c ∷ h c ∷ []) (sizes c) (search solver depth 40 fits 20000) (omega arith))
     (order (x c ∷ h c ∷ []) (sizes c) (search solver depth 40 fits 20000) (omega arith))) (omega arith))
 
-loop-again : tie.Need-loop-again Inv-loop μ-loop
-loop-again c =
-    let l = c .before .before .before .before .before in
-    let s = l .before in
-    let order = s .pre .0 .order in (
-      omega arith,
-      rw (clean (s .fits .b), clean (low c), clean (high c), half (c .before), clean-element _ (c .x .given), add-one (l .loop .k))
-          (sides-more (omega arith) (rw (clean (s .fits .b)) at (l .loop .inv .1))),
-    )
-
 pub write-sides-spec : {M : Type 1} → statement M
 write-sides-spec =
     tie.close
@@ -101,7 +91,14 @@ write-sides-spec =
     -- k + 1, the measure, the invariant again
     (λ c. let order = c .before .before .before .before .before .before .pre .0 .order in omega arith)
     (λ c. omega arith)
-    loop-again
+    (λ c.
+    let l = c .before .before .before .before .before in
+    let s = l .before in
+    let order = s .pre .0 .order in (
+      omega arith,
+      rw (clean (s .fits .b), clean (low c), clean (high c), half (c .before), clean-element _ (c .x .given), add-one (l .loop .k))
+          (sides-more (omega arith) (rw (clean (s .fits .b)) at (l .loop .inv .1))),
+    ))
     (λ c.
     let s = c .before .before in
     let e : c .before .loop .k ≡ s .args .n = omega arith in

@@ -23,10 +23,6 @@ divisor : tie.Need-mul-floor-div-2
 unfolding upper
 divisor c = rw (clean-element _ (c .diagonal .given)) (divisor-fits (c .before .before .pre))
 
-divides : tie.Need-floor-div-requires
-unfolding upper
-divides c κs = rw (clean (divisor c), clean-element _ (c .diagonal .given)) (divisor-positive (c .before .before .pre))
-
 negated : tie.Need-sub-result
 unfolding upper
 negated c =
@@ -35,15 +31,8 @@ negated c =
     rw (clean-result (c .floor-div), c .floor-div .ensures, clean (numerator d), clean (divisor d), clean (twice d), clean-result s, s .ensures, clean-element _ (d .diagonal .given))
     (quotient-fits (d .before .before .pre))
 
-returns : tie.Need-returns
-unfolding upper entryOf
-returns c =
-    let d = c .before in
-    let s = d .before .row-sum in
-    clean (negated c)
-    ∙ rw (+ℤ-idl, clean-result (c .floor-div), c .floor-div .ensures, clean (numerator d), clean (divisor d), clean (twice d), clean-result s, s .ensures, clean-element _ (d .diagonal .given))
-
 pub entry-spec : {M : Type 1} → statement M
+unfolding upper entryOf
 entry-spec =
     tie.close
     (tie.spec
@@ -55,6 +44,10 @@ entry-spec =
     twice
     numerator
     divisor
-    divides
+    (λ c κs. rw (clean (divisor c), clean-element _ (c .diagonal .given)) (divisor-positive (c .before .before .pre)))
     negated
-    returns)
+    (λ c.
+    let d = c .before in
+    let s = d .before .row-sum in
+    clean (negated c)
+    ∙ rw (+ℤ-idl, clean-result (c .floor-div), c .floor-div .ensures, clean (numerator d), clean (divisor d), clean (twice d), clean-result s, s .ensures, clean-element _ (d .diagonal .given))))

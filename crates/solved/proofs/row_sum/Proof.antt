@@ -33,14 +33,8 @@ added c =
     rw (clean (product c), clean-element (upper (a .t .now) (a .i) (l .k)) (c .before .s .given), clean-element _ (c .s2 .given), l .inv .2)
     (next-fits (c .before .before .before .before .pre) (l .k) (l .inv .0) (omega arith))
 
-loop-again : tie.Need-loop-again Inv-loop μ-loop
-unfolding upper
-loop-again c =
-    let l = c .before .before .before .loop in
-    let a = c .before .before .before .before .args in
-    (omega arith, omega arith, clean (added c) ∙ rw (clean (product c), clean-element (upper (a .t .now) (a .i) (l .k)) (c .before .s .given), clean-element _ (c .s2 .given), l .inv .2, add-one) (row-sum-suc (a .t .now) (a .x .now) (a .i) (l .k) (l .inv .0)))
-
 pub row-sum-spec : {M : Type 1} → statement M
+unfolding upper
 row-sum-spec =
     tie.close
     (tie.spec Inv-loop μ-loop
@@ -56,7 +50,10 @@ row-sum-spec =
     added
     (λ c. let q = c .before .before .before .before .pre .inside in omega arith)
     (λ c. omega arith)
-    loop-again
+    (λ c.
+    let l = c .before .before .before .loop in
+    let a = c .before .before .before .before .args in
+    (omega arith, omega arith, clean (added c) ∙ rw (clean (product c), clean-element (upper (a .t .now) (a .i) (l .k)) (c .before .s .given), clean-element _ (c .s2 .given), l .inv .2, add-one) (row-sum-suc (a .t .now) (a .x .now) (a .i) (l .k) (l .inv .0))))
     (λ c.
     let l = c .before .loop in
     let e : l .k ≡ suc (c .before .before .args .j) = omega arith in

@@ -54,27 +54,6 @@ failed c =
     let e = c .before .before .entry in
     rw (clean-result e, e .ensures) at (call-false (c .before .within .ensures) (c .if1 .taken))
 
-returns : tie.Need-returns Inv-loop μ-loop
-returns c =
-    let p = c .before .before .before .before in
-    let s = p .before .before .before .before in
-    record { answer = rw (clean (s .fits .s)) at (solving-none (s .pre .0) (inside p) (walked p) (failed c) (p .before .loop .x)); size = p .before .loop .inv .1 .size }
-
-loop-again : tie.Need-loop-again Inv-loop μ-loop
-loop-again c =
-    let p = c .before .before .before .before in
-    let s = p .before .before .before .before in
-    let e = c .before .before .entry in
-    let h = inside p in
-    (omega arith, rw (clean-result e, e .ensures) (solving-row (s .pre .0) h (walked p) (passed c)))
-
-returns-2 : tie.Need-returns-2 Inv-loop μ-loop
-returns-2 c =
-    let l = c .before .loop in
-    let s = c .before .before .before .before in
-    let e : l .left ≡ 0 = omega arith in
-    record { answer = rw (clean (s .fits .s)) at (solving-end (s .pre .0) (rw e at (l .inv .1))); size = l .inv .1 .size }
-
 pub solve-spec : {M : Type 1} → statement M
 solve-spec =
     tie.close
@@ -84,10 +63,22 @@ solve-spec =
     (λ c. omega arith)
     (λ c κs. solving-ready (c .before .before .before .before .before .pre .0) (inside (c .before)) (walked (c .before)))
     (λ c κs. pos-nonneg vectorRange)
-    returns
+    (λ c.
+    let p = c .before .before .before .before in
+    let s = p .before .before .before .before in
+    record { answer = rw (clean (s .fits .s)) at (solving-none (s .pre .0) (inside p) (walked p) (failed c) (p .before .loop .x)); size = p .before .loop .inv .1 .size })
     (λ c. let h = in-array (c .before .before .before .before) in omega arith)
     (λ c. in-array (c .before .before .before .before))
     (λ c. omega arith)
     (λ c. omega arith)
-    loop-again
-    returns-2)
+    (λ c.
+    let p = c .before .before .before .before in
+    let s = p .before .before .before .before in
+    let e = c .before .before .entry in
+    let h = inside p in
+    (omega arith, rw (clean-result e, e .ensures) (solving-row (s .pre .0) h (walked p) (passed c))))
+    (λ c.
+    let l = c .before .loop in
+    let s = c .before .before .before .before in
+    let e : l .left ≡ 0 = omega arith in
+    record { answer = rw (clean (s .fits .s)) at (solving-end (s .pre .0) (rw e at (l .inv .1))); size = l .inv .1 .size }))

@@ -32,22 +32,8 @@ most-is : (c : tie.After-floor-div) → c .floor-div .result ≡ floorDiv (rest 
 unfolding upper
 most-is c = rw (clean (sub-floor-div (c .before)), clean (fits-rest (c .before .before))) at (c .floor-div .ensures)
 
-returns : tie.Need-returns
-unfolding upper
-returns c = last-none _ _ (lt-yes (fits-rest (c .before)) (fits-literal {z = pos 1} tt) (c .if1 .taken))
-
-returns-2 : tie.Need-returns-2
-returns-2 c =
-    let f = c .before in
-    let e = clean-result (f .floor-div) ∙ most-is f in
-    e ∙ last-most _ _ (one (f .before)) (lt-holds (rw e at (c .if2 .taken)))
-
-returns-3 : tie.Need-returns-3
-returns-3 c =
-    let f = c .before in
-    last-all _ _ (one (f .before)) (lt-fails (rw (clean-result (f .floor-div) ∙ most-is f) at (c .if2 .left)))
-
 pub last-step-spec : {M : Type 1} → statement M
+unfolding upper
 last-step-spec =
     tie.close
     (tie.spec
@@ -55,8 +41,13 @@ last-step-spec =
     (λ c. search needs)
     (λ c. search needs)
     (λ c. search needs)
-    returns
+    (λ c. last-none _ _ (lt-yes (fits-rest (c .before)) (fits-literal {z = pos 1} tt) (c .if1 .taken)))
     sub-floor-div
     (λ c κs. search needs)
-    returns-2
-    returns-3)
+    (λ c.
+    let f = c .before in
+    let e = clean-result (f .floor-div) ∙ most-is f in
+    e ∙ last-most _ _ (one (f .before)) (lt-holds (rw e at (c .if2 .taken))))
+    (λ c.
+    let f = c .before in
+    last-all _ _ (one (f .before)) (lt-fails (rw (clean-result (f .floor-div) ∙ most-is f) at (c .if2 .left)))))

@@ -32,18 +32,8 @@ sub-s c =
     rw (clean (s .fits .e), clean-element _ (c .s .given), lower-reads (inside i) (l .inv .2))
     (fits-within (within-- (s .pre .0 .on (l .i) (l .inv .0) (i .loop-test .taken)) (s .pre .2)) (omega arith))
 
-loop-again : tie.Need-loop-again Inv-loop μ-loop
-unfolding upper
-loop-again c =
-    let i = c .before in
-    let l = i .before .loop in
-    let e = clean (i .before .before .fits .e) in (
-      omega (arith, l .inv .0),
-      omega (arith, i .loop-test .taken),
-      rw (clean (sub-s c), e, clean-element _ (c .s .given), add-one) (lower-more (l .inv .0) (inside i) (rw e at (l .inv .2))),
-    )
-
 pub lower-spec : {M : Type 1} → statement M
+unfolding upper
 lower-spec =
     tie.close
     (tie.spec
@@ -58,7 +48,14 @@ lower-spec =
     (λ c. omega (arith, inside (c .before)))
     (λ c. omega (arith, inside (c .before)))
     (λ c. omega (arith, c .before .loop-test .taken))
-    loop-again
+    (λ c.
+    let i = c .before in
+    let l = i .before .loop in
+    let e = clean (i .before .before .fits .e) in (
+      omega (arith, l .inv .0),
+      omega (arith, i .loop-test .taken),
+      rw (clean (sub-s c), e, clean-element _ (c .s .given), add-one) (lower-more (l .inv .0) (inside i) (rw e at (l .inv .2))),
+    ))
     (λ c.
     let l = c .before .loop in
     let s = c .before .before in

@@ -33,34 +33,6 @@ add-next c = rw (bit c) (fits-within (tried-within (search-tried (searching c)))
 mul-trial : tie.Need-mul-trial Inv-loop μ-loop
 mul-trial c = rw (clean (add-next c), bit c) (fits-within (scaled-within (search-tried (searching c))) (omega arith))
 
-trial-requires : tie.Need-trial-requires Inv-loop μ-loop
-trial-requires c κs =
-    let h = search-tried (searching c) in
-    rw (clean (mul-trial c), clean (add-next c), bit c) (c .before .before .before .pre, scaled-nonneg h, scaled-within h)
-
-loop-again : tie.Need-loop-again Inv-loop μ-loop
-loop-again c =
-    let i = c .before .before in
-    let r = rw (clean (mul-trial i), clean (add-next i), bit i) at (c .before .trial .ensures) in
-    rw (clean (add-next i), bit i) (search-more (searching i) (rw r at (c .if2 .taken)))
-
-loop-again-2 : tie.Need-loop-again-2 Inv-loop μ-loop
-loop-again-2 c =
-    let i = c .before .before in
-    let r = rw (clean (mul-trial i), clean (add-next i), bit i) at (c .before .trial .ensures) in
-    search-left (searching i) (rw r at (c .if2 .left))
-
-returns : tie.Need-returns Inv-loop μ-loop
-returns c =
-    let d = c .before in
-    clean-result (c .last-step) ∙ c .last-step .ensures ∙ triable-last (d .before .pre) (sym (add-one (d .before .args .first)) ∙ d .if1 .taken)
-
-returns-2 : tie.Need-returns-2 Inv-loop μ-loop
-returns-2 c =
-    let l = c .before .loop in
-    let e : l .b ≡ 0 = omega (arith, c .loop-test .left) in
-    search-end (rw e at (l .inv))
-
 pub search-spec : {M : Type 1} → statement M
 search-spec =
     tie.close
@@ -69,16 +41,29 @@ search-spec =
     μ-loop
     (λ c. let t = c .pre in omega (arith, t .left .order, t .inside, t .ordered))
     (λ c κs. let t = c .before .pre in omega (arith, t .left .order, c .if1 .taken))
-    returns
+    (λ c.
+    let d = c .before in
+    clean-result (c .last-step) ∙ c .last-step .ensures ∙ triable-last (d .before .pre) (sym (add-one (d .before .args .first)) ∙ d .if1 .taken))
     (λ c. search-start)
     (λ c. omega (arith, c .loop-test .taken))
     (λ c. let b = c .before .loop .inv .least in fits (omega arith))
     (λ c. omega (arith, c .before .loop .inv .least))
     add-next
     mul-trial
-    trial-requires
+    (λ c κs.
+    let h = search-tried (searching c) in
+    rw (clean (mul-trial c), clean (add-next c), bit c) (c .before .before .before .pre, scaled-nonneg h, scaled-within h))
     (λ c. omega (arith, c .before .before .loop-test .taken))
-    loop-again
+    (λ c.
+    let i = c .before .before in
+    let r = rw (clean (mul-trial i), clean (add-next i), bit i) at (c .before .trial .ensures) in
+    rw (clean (add-next i), bit i) (search-more (searching i) (rw r at (c .if2 .taken))))
     (λ c. omega (arith, c .before .before .loop-test .taken))
-    loop-again-2
-    returns-2)
+    (λ c.
+    let i = c .before .before in
+    let r = rw (clean (mul-trial i), clean (add-next i), bit i) at (c .before .trial .ensures) in
+    search-left (searching i) (rw r at (c .if2 .left)))
+    (λ c.
+    let l = c .before .loop in
+    let e : l .b ≡ 0 = omega (arith, c .loop-test .left) in
+    search-end (rw e at (l .inv))))

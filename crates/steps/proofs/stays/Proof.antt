@@ -40,27 +40,8 @@ sub-if1 c =
 abbrev left : tie.In-loop Inv-loop μ-loop → ℤ
 left i = upper (i .before .before .args .s .now) (i .before .loop .i) (i .before .loop .i) -ℤ i .before .before .args .e
 
-returns : tie.Need-returns Inv-loop μ-loop
-unfolding upper
-returns c =
-    let i = c .before .before in
-    let l = i .before .loop in
-    let q = rw (clean (sub-if1 (c .before)), clean (i .before .before .fits .e), clean-element _ (c .before .if12 .given)) at (c .if1 .taken) in
-    sym (all-false _ _ (l .i) (i .loop-test .taken) (stays-is _ _ _ (l .i) (l .inv .0) ∙ leZ-false {x = pos 1} {y = left i} (lt-holds q)))
-
-loop-again : tie.Need-loop-again Inv-loop μ-loop
-unfolding upper
-loop-again c =
-    let i = c .before .before in
-    let l = i .before .loop in
-    let e = clean (i .before .before .fits .e) in
-    let q = rw (clean (sub-if1 (c .before)), e, clean-element _ (c .before .if12 .given)) at (c .if1 .left) in (
-      omega (arith, l .inv .0),
-      omega (arith, i .loop-test .taken),
-      rw e (all-more _ (l .i) (rw e at (l .inv .2)) (stays-is _ _ _ (l .i) (l .inv .0) ∙ leZ-true {x = pos 1} {y = left i} (lt-fails q))),
-    )
-
 pub stays-spec : {M : Type 1} → statement M
+unfolding upper
 stays-spec =
     tie.close
     (tie.spec
@@ -72,10 +53,22 @@ stays-spec =
     (λ c. omega (arith, inside c))
     (λ c. omega (arith, inside c))
     sub-if1
-    returns
+    (λ c.
+    let i = c .before .before in
+    let l = i .before .loop in
+    let q = rw (clean (sub-if1 (c .before)), clean (i .before .before .fits .e), clean-element _ (c .before .if12 .given)) at (c .if1 .taken) in
+    sym (all-false _ _ (l .i) (i .loop-test .taken) (stays-is _ _ _ (l .i) (l .inv .0) ∙ leZ-false {x = pos 1} {y = left i} (lt-holds q))))
     (λ c. omega (arith, inside (c .before .before)))
     (λ c. omega (arith, c .before .before .loop-test .taken))
-    loop-again
+    (λ c.
+    let i = c .before .before in
+    let l = i .before .loop in
+    let e = clean (i .before .before .fits .e) in
+    let q = rw (clean (sub-if1 (c .before)), e, clean-element _ (c .before .if12 .given)) at (c .if1 .left) in (
+      omega (arith, l .inv .0),
+      omega (arith, i .loop-test .taken),
+      rw e (all-more _ (l .i) (rw e at (l .inv .2)) (stays-is _ _ _ (l .i) (l .inv .0) ∙ leZ-true {x = pos 1} {y = left i} (lt-fails q))),
+    ))
     (λ c.
     let l = c .before .loop in
     let s = c .before .before in

@@ -33,14 +33,6 @@ Inv-loop n low high t₀ h₀ goes-on₀ next₀ t h goes-on next =
 abbrev μ-loop : tie.MeasureT-loop
 μ-loop n low high t₀ h₀ goes-on₀ next₀ t h goes-on next = n - next
 
-loop-holds : tie.Need-loop-holds Inv-loop μ-loop
-unfolding upper
-loop-holds c =
-    let s = c .before .before .before in
-    let p = s .pre .0 in
-    let w = c .before .scale .ensures in
-    rw (clean-element _ (c .goes-on .given)) (omega arith, filled-none (s .pre .1), λ e. (walked-start (p .bounds) (p .order) w, λ k. le-of (pos 1) _ e), λ e. first-stops w e)
-
 -- an index of t
 index : (c : tie.In-loop Inv-loop μ-loop) → c .before .loop .next < greatestOrder
 index c = let p = c .before .before .before .before .before .pre .0 in omega (arith, p .order, c .loop-test .taken)
@@ -52,8 +44,27 @@ going : (c : tie.Then1 Inv-loop μ-loop) →
     Walked (scaled (s .n) (at (s .n) (s .low .now)) (at (s .n) (s .high .now))) (l .h) (l .next) (s .n) × (pos 1 ≤ℤ upper (l .h) (l .next) (l .next)))
 going c = let g = c .before .before .loop .inv .2 (c .if1 .taken) in (g .0, g .1 (c .before .loop-test .taken))
 
-loop-again : tie.Need-loop-again Inv-loop μ-loop
-loop-again c =
+pub steps-at-spec : {M : Type 1} → statement M
+unfolding upper
+steps-at-spec =
+    tie.close
+    (tie.spec
+    Inv-loop
+    μ-loop
+    (λ c κs. (checked-lent (c .before .pre .0), refl))
+    (λ c. omega (arith, c .scale .ensures .size))
+    (λ c.
+    let s = c .before .before .before in
+    let p = s .pre .0 in
+    let w = c .before .scale .ensures in
+    rw (clean-element _ (c .goes-on .given)) (omega arith, filled-none (s .pre .1), λ e. (walked-start (p .bounds) (p .order) w, λ k. le-of (pos 1) _ e), λ e. first-stops w e))
+    (λ c. omega (arith, index c))
+    (λ c κs. let d = c .before in rw add-one (walked-triable (going d .0) (d .before .loop-test .taken)))
+    (λ c. omega (arith, index (c .before .before .before)))
+    (λ c. index (c .before .before .before))
+    (λ c κs. let d = c .before .before .before in (going d .0 .left, d .before .loop-test .taken, going d .1))
+    (λ c. omega (arith, c .before .before .before .before .before .loop-test .taken))
+    (λ c.
     let f = c .before .before in
     let d = f .before .before in
     let i = d .before in
@@ -67,10 +78,11 @@ loop-again c =
       rw add-one (filled-more (index i) (clean-result (f .search) ∙ r ∙ step-at-is (p .bounds) k (g .0)) (l .inv .1)),
       λ e. let q = leb-true _ _ e in rw add-one (walked-on (g .0) k x (g .1) q, row-next x q),
       λ e. rw add-one (walked-off (g .0) k x (leb-false _ _ e)),
-    )
-
-loop-again-2 : tie.Need-loop-again-2 Inv-loop μ-loop
-loop-again-2 c =
+    ))
+    (λ c. omega (arith, index (c .before)))
+    (λ c. index (c .before))
+    (λ c. omega (arith, c .before .loop-test .taken))
+    (λ c.
     let i = c .before in
     let l = i .before .loop in
     let p = i .before .before .before .before .before .pre .0 in
@@ -79,28 +91,7 @@ loop-again-2 c =
       rw add-one (filled-more (index i) (step-at-none (p .bounds) (i .loop-test .taken) s) (l .inv .1)),
       λ e. absurd (subst T (sym e ∙ c .if1 .left) tt),
       λ e. rw add-one (stopped-more s),
-    )
-
-pub steps-at-spec : {M : Type 1} → statement M
-steps-at-spec =
-    tie.close
-    (tie.spec
-    Inv-loop
-    μ-loop
-    (λ c κs. (checked-lent (c .before .pre .0), refl))
-    (λ c. omega (arith, c .scale .ensures .size))
-    loop-holds
-    (λ c. omega (arith, index c))
-    (λ c κs. let d = c .before in rw add-one (walked-triable (going d .0) (d .before .loop-test .taken)))
-    (λ c. omega (arith, index (c .before .before .before)))
-    (λ c. index (c .before .before .before))
-    (λ c κs. let d = c .before .before .before in (going d .0 .left, d .before .loop-test .taken, going d .1))
-    (λ c. omega (arith, c .before .before .before .before .before .loop-test .taken))
-    loop-again
-    (λ c. omega (arith, index (c .before)))
-    (λ c. index (c .before))
-    (λ c. omega (arith, c .before .loop-test .taken))
-    loop-again-2
+    ))
     (λ c.
     let l = c .before .loop in
     let s = c .before .before .before .before .before in

@@ -16,13 +16,6 @@ use Rattle.steps.proofs.trial.Tie as tie
 kept : (c : tie.Else1) → (let a = c .before .before .args in all (a .last) (stays (upper (a .h .now)) (a .first) (a .e)) ≡ true)
 kept c = rw (clean (c .before .before .fits .e)) at (call-true (c .before .stays .ensures) (c .if1 .left))
 
-returns-3 : tie.Need-returns-3
-returns-3 c =
-    let e = c .before .before .before .before .before .before in
-    let s = e .before .before in
-    let w = rw (clean (s .fits .e)) at (c .before .before .lower .ensures) in
-    c .ends-from .ensures ∙ trial-ends (s .pre .0) _ (kept e) w (s .pre .1)
-
 pub trial-spec : {M : Type 1} → statement M
 trial-spec =
     tie.close
@@ -42,4 +35,8 @@ trial-spec =
     let w = rw (clean (s .fits .e)) at (c .before .lower .ensures) in
     let h : s .args .first < s .args .n = omega (arith, c .before .before .before .before .if2 .left) in
     (trial-factorable (s .pre .0) _ (kept e) w (s .pre .1), h, trial-one (s .pre .0) _ (kept e) w (s .pre .1) h))
-    returns-3)
+    (λ c.
+    let e = c .before .before .before .before .before .before in
+    let s = e .before .before in
+    let w = rw (clean (s .fits .e)) at (c .before .before .lower .ensures) in
+    c .ends-from .ensures ∙ trial-ends (s .pre .0) _ (kept e) w (s .pre .1)))

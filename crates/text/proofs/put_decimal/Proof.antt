@@ -28,12 +28,6 @@ room c = let s = c .before .before in omega (arith, length-decimal-sign (s .args
 size : (c : tie.After-magnitude) → c .magnitude .result ≡ natAbs (c .before .before .before .before .args .v)
 size c = c .magnitude .ensures ∙ ap natAbs (clean (c .before .before .before .before .fits .v))
 
-returns : tie.Need-returns
-returns c =
-    let j = c .before .before .before .before .before in
-    let v = j .before .before .args .v in
-    rw (decimal-sign v) (put-within (put-then (behind-sign j) (omega arith) (rw (size (c .before .before .before)) at (c .before .before .put-natural .ensures))) (omega (arith, length-decimal-sign v, length-decimal (j .before .before .fits .v))))
-
 pub put-decimal-spec : {M : Type 1} → statement M
 put-decimal-spec =
     tie.close
@@ -42,4 +36,7 @@ put-decimal-spec =
     (λ c κs. search needs)
     (λ c κs. rw (size c) (put-room (behind-sign (c .before .before)) _ (room (c .before .before))))
     (λ c. c .before .before .put-natural .kept .0 ∙ (let j = c .before .before .before .before .before in put-length (behind-sign j) (omega (arith, room j))))
-    returns)
+    (λ c.
+    let j = c .before .before .before .before .before in
+    let v = j .before .before .args .v in
+    rw (decimal-sign v) (put-within (put-then (behind-sign j) (omega arith) (rw (size (c .before .before .before)) at (c .before .before .put-natural .ensures))) (omega (arith, length-decimal-sign v, length-decimal (j .before .before .fits .v))))))

@@ -7,15 +7,8 @@ use Rattle.text.proofs.Puts.{put-then}
 use Rattle.text.proofs.put_line.Statement.{statement}
 use Rattle.text.proofs.put_line.Tie as tie
 
-returns : tie.Need-returns
-unfolding line
-returns c =
-    let n = c .before .before .before .before .before .before in
-    let w = n .before .before .before .before in
-    let h : w .before .before .before .before .args .at ≤ length (w .before .before .before .before .args .out .now) = omega (arith, w .before .before .before .before .pre .0) in
-    put-then (put-then (w .put-text .ensures) h (n .put-numbers .ensures)) h (c .before .before .put .ensures)
-
 pub put-line-spec : {M : Type 1} → statement M
+unfolding line
 put-line-spec =
     tie.close
     (tie.spec
@@ -23,4 +16,8 @@ put-line-spec =
     (λ c κs. search needs)
     (λ c κs. search needs)
     (λ c. search needs)
-    returns)
+    (λ c.
+    let n = c .before .before .before .before .before .before in
+    let w = n .before .before .before .before in
+    let h : w .before .before .before .before .args .at ≤ length (w .before .before .before .before .args .out .now) = omega (arith, w .before .before .before .before .pre .0) in
+    put-then (put-then (w .put-text .ensures) h (n .put-numbers .ensures)) h (c .before .before .put .ensures)))

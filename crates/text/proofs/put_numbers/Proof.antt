@@ -18,32 +18,14 @@ Inv-loop out₀ at x first count next₀ k₀ out next k =
 abbrev μ-loop : tie.MeasureT-loop
 μ-loop out₀ at x first count next₀ k₀ out next k = count - k
 
-loop-holds : tie.Need-loop-holds Inv-loop μ-loop
-unfolding numbers
-loop-holds c = (omega arith, refl, put-nothing)
-
-loop-again : tie.Need-loop-again Inv-loop μ-loop
-unfolding numbers
-loop-again c =
-    let n = c .before .before .put-decimal in
-    let e = c .before .before .before .put-decimal-arg2 .given in
-    let s = c .before .before .before .before .before .before .before .put in
-    let l = c .before .before .before .before .before .before .before .before .before .before .loop in
-    (omega arith, n .kept .0 ∙ s .kept .0 ∙ l .inv .1, rw (add-one (l .k)) (put-within (put-then (l .inv .2) (omega arith) (put-then (s .ensures) (omega arith) (rw (clean-element _ e) at (n .ensures)))) (omega arith)))
-
-returns : tie.Need-returns Inv-loop μ-loop
-returns c =
-    let l = c .before .loop in
-    let e : l .k ≡ c .before .before .before .args .count = omega arith in
-    rw e at (l .inv .2)
-
 pub put-numbers-spec : {M : Type 1} → statement M
+unfolding numbers
 put-numbers-spec =
     tie.close
     (tie.spec
     Inv-loop
     μ-loop
-    loop-holds
+    (λ c. (omega arith, refl, put-nothing))
     (λ c κs. omega arith)
     (λ c. omega arith)
     (λ c. omega arith)
@@ -51,6 +33,14 @@ put-numbers-spec =
     (λ c κs. omega arith)
     (λ c. omega arith)
     (λ c. omega arith)
-    loop-again
+    (λ c.
+    let n = c .before .before .put-decimal in
+    let e = c .before .before .before .put-decimal-arg2 .given in
+    let s = c .before .before .before .before .before .before .before .put in
+    let l = c .before .before .before .before .before .before .before .before .before .before .loop in
+    (omega arith, n .kept .0 ∙ s .kept .0 ∙ l .inv .1, rw (add-one (l .k)) (put-within (put-then (l .inv .2) (omega arith) (put-then (s .ensures) (omega arith) (rw (clean-element _ e) at (n .ensures)))) (omega arith))))
     (λ c. c .before .loop .inv .1)
-    returns)
+    (λ c.
+    let l = c .before .loop in
+    let e : l .k ≡ c .before .before .before .args .count = omega arith in
+    rw e at (l .inv .2)))

@@ -14,37 +14,28 @@ Inv-loop out₀ at text k₀ out k = (k ≤ length text) × (length out ≡ leng
 abbrev μ-loop : tie.MeasureT-loop
 μ-loop out₀ at text k₀ out k = length text - k
 
-loop-holds : tie.Need-loop-holds Inv-loop μ-loop
-loop-holds c =
-    let a = c .args in
-    (omega arith, refl, paste-zero (a .out .now) (a .at) (a .text .now))
-
-loop-again : tie.Need-loop-again Inv-loop μ-loop
-loop-again c =
-    let l = c .before .before .loop in
-    let a = c .before .before .before .args in
-    (omega arith, simp length-set (l .inv .1), rw (add-one (l .k), l .inv .2) (paste-suc (a .out .now) (a .at) (a .text .now) (l .k) 0 (omega arith) (omega arith)))
-
-returns : tie.Need-returns Inv-loop μ-loop
-unfolding withText
-returns c =
-    let l = c .before .loop in
-    let e : l .k ≡ length (c .before .before .args .text .now) = omega arith in
-    record { behind = omega arith; bytes = l .inv .2 ∙ rw (e, take-length); room = omega arith }
-
 pub put-text-spec : {M : Type 1} → statement M
+unfolding withText
 put-text-spec =
     tie.close
     (tie.spec
     Inv-loop
     μ-loop
-    loop-holds
+    (λ c.
+    let a = c .args in
+    (omega arith, refl, paste-zero (a .out .now) (a .at) (a .text .now)))
     (λ c. omega arith)
     (λ c. omega arith)
     (λ c. omega arith)
     (λ c. omega arith)
     (λ c. omega arith)
-    loop-again
+    (λ c.
+    let l = c .before .before .loop in
+    let a = c .before .before .before .args in
+    (omega arith, simp length-set (l .inv .1), rw (add-one (l .k), l .inv .2) (paste-suc (a .out .now) (a .at) (a .text .now) (l .k) 0 (omega arith) (omega arith))))
     (λ c. omega arith)
     (λ c. c .before .loop .inv .1)
-    returns)
+    (λ c.
+    let l = c .before .loop in
+    let e : l .k ≡ length (c .before .before .args .text .now) = omega arith in
+    record { behind = omega arith; bytes = l .inv .2 ∙ rw (e, take-length); room = omega arith }))

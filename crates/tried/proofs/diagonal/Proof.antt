@@ -16,11 +16,6 @@ Inv-loop n low p₀ k₀ p k = (k ≤ n) × Diagonal n low p k
 abbrev μ-loop : tie.MeasureT-loop
 μ-loop n low p₀ k₀ p k = n - k
 
-loop-again : tie.Need-loop-again Inv-loop μ-loop
-loop-again c =
-    let p = c .before .before .before .pre in
-    (omega arith, rw (clean-result (c .entry), c .entry .ensures, add-one) (diagonal-more (p .0) (p .2) (c .before .loop-test .taken) (c .before .before .loop .inv .1)))
-
 pub diagonal-spec : {M : Type 1} → statement M
 diagonal-spec =
     tie.close
@@ -31,5 +26,7 @@ diagonal-spec =
     (λ c. let order = c .before .before .before .pre .0 in omega arith)
     (λ c. let order = c .before .before .before .pre .0 in omega arith)
     (λ c. omega arith)
-    loop-again
+    (λ c.
+    let p = c .before .before .before .pre in
+    (omega arith, rw (clean-result (c .entry), c .entry .ensures, add-one) (diagonal-more (p .0) (p .2) (c .before .loop-test .taken) (c .before .before .loop .inv .1))))
     (λ c. let e : c .before .loop .k ≡ c .before .before .args .n = omega arith in rw e at (c .before .loop .inv .1)))

@@ -28,14 +28,6 @@ mul-pairs-5 c =
     let s = c .before .before .before .before in
     rw (clean-element _ (c .pairs2 .given)) (twice-fits _ (s .pre .0 .bounds .high-range) {c = negsuc 1} (record { size = omega arith }) (c .before .before .loop-test .taken))
 
-loop-again : tie.Need-loop-again Inv-loop μ-loop
-loop-again c =
-    let s = c .before .before .before .before in (
-      omega arith,
-      rw (clean (mul-pairs-2 (c .before)), clean-element (nth (s .args .low .now) (c .before .before .before .loop .k)) (c .before .pairs .given), clean (mul-pairs-5 c), clean-element _ (c .pairs2 .given), add-one)
-          (filled-more (s .pre .0) (c .before .before .loop-test .taken) (c .before .before .before .loop .inv .1)),
-    )
-
 pub fill-pairs-spec : {M : Type 1} → statement M
 fill-pairs-spec =
     tie.close
@@ -55,5 +47,10 @@ fill-pairs-spec =
     (λ c. omega (arith, table-fits (c .before .before .before .before .pre .0 .order)))
     (λ c. omega (arith, table-fits (c .before .before .before .before .pre .0 .order)))
     (λ c. omega arith)
-    loop-again
+    (λ c.
+    let s = c .before .before .before .before in (
+      omega arith,
+      rw (clean (mul-pairs-2 (c .before)), clean-element (nth (s .args .low .now) (c .before .before .before .loop .k)) (c .before .pairs .given), clean (mul-pairs-5 c), clean-element _ (c .pairs2 .given), add-one)
+          (filled-more (s .pre .0) (c .before .before .loop-test .taken) (c .before .before .before .loop .inv .1)),
+    ))
     (λ c. let e : c .before .loop .k ≡ c .before .before .args .n * c .before .before .args .n = omega arith in rw e at (c .before .loop .inv .1)))

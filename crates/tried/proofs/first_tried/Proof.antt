@@ -8,8 +8,16 @@ use Rattle.tried.proofs.Agreement.{tried-half}
 use Rattle.tried.proofs.first_tried.Statement.{statement}
 use Rattle.tried.proofs.first_tried.Tie as tie
 
-returns : tie.Need-returns
-returns c =
+pub first-tried-spec : {M : Type 1} → statement M
+first-tried-spec =
+    tie.close
+    (tie.spec
+    (λ c κs. let p = c .before .pre in (p .0, pairs-zeros (p .0 .order)))
+    (λ c κs. let g = c .before .before .before .pre .0 in (g .order, g .low-length, g .bounds .low-range, open-zeros))
+    (λ c κs.
+    let b = c .before .before .before in
+    (start-half (b .before .before .fill-pairs .ensures .tables) (b .diagonal .ensures .start), b .before .before .before .before .pre .1))
+    (λ c.
     let b = c .before .before .before .before in
     let s = b .before .before .before .before in
     let n = s .args .n in
@@ -22,15 +30,4 @@ returns c =
           ∙ sym (half-ext _ _ _ _ (same-at pairs) (other-at pairs) n 0 _ (omega arith))
           ∙ r .answer;
       size = r .size;
-    }
-
-pub first-tried-spec : {M : Type 1} → statement M
-first-tried-spec =
-    tie.close
-    (tie.spec
-    (λ c κs. let p = c .before .pre in (p .0, pairs-zeros (p .0 .order)))
-    (λ c κs. let g = c .before .before .before .pre .0 in (g .order, g .low-length, g .bounds .low-range, open-zeros))
-    (λ c κs.
-    let b = c .before .before .before in
-    (start-half (b .before .before .fill-pairs .ensures .tables) (b .diagonal .ensures .start), b .before .before .before .before .pre .1))
-    returns)
+    }))

@@ -15,18 +15,6 @@ Inv-loop n s₀ end₀ rows₀ i₀ s end rows i = (i ≤ end) × (end ≤ n) ×
 abbrev μ-loop : tie.MeasureT-loop
 μ-loop n s₀ end₀ rows₀ i₀ s end rows i = end - i
 
-loop-holds : tie.Need-loop-holds Inv-loop μ-loop
-loop-holds c =
-    let z = c .before .before .pre in
-    let s = c .start .ensures in
-    (omega arith, s .bound, omega arith, rows-start z s, stop-start z s)
-
-take-row-requires : tie.Need-take-row-requires Inv-loop μ-loop
-take-row-requires c κs =
-    let h = c .before .loop-test .taken in
-    let s = c .before .before .loop .inv .3 in
-    (s .walked .left, h, rows-some s h)
-
 -- a column stopped
 loop-again : tie.Need-loop-again Inv-loop μ-loop
 loop-again c =
@@ -47,29 +35,29 @@ loop-again-2 c =
     let e : c .before .take-row .result ≡ l .end = omega (arith, x .columns .bound) in
     rw add-one (omega arith, v .1, omega (arith, v .2), rw e at (rows-more (v .3) h x), λ a. stop-kept (v .3) h x (v .2) (v .4 a))
 
-returns : tie.Need-returns Inv-loop μ-loop
-returns c =
-    let l = c .before .before .loop in
-    let e : l .i ≡ l .end = omega arith in
-    sweep-stop (rw e at (l .inv .3)) (l .inv .1) (c .if2 .taken) (l .inv .4 (c .if2 .taken))
-
-returns-2 : tie.Need-returns-2 Inv-loop μ-loop
-returns-2 c =
-    let l = c .before .before .loop in
-    let e : l .i ≡ l .end = omega arith in
-    sweep-end (rw e at (l .inv .3)) (l .inv .1) (c .if2 .left)
-
 pub factor-spec : {M : Type 1} → statement M
 factor-spec =
     tie.close
     (tie.spec Inv-loop μ-loop
     (λ c κs. c .before .pre)
-    loop-holds
-    take-row-requires
+    (λ c.
+    let z = c .before .before .pre in
+    let s = c .start .ensures in
+    (omega arith, s .bound, omega arith, rows-start z s, stop-start z s))
+    (λ c κs.
+    let h = c .before .loop-test .taken in
+    let s = c .before .before .loop .inv .3 in
+    (s .walked .left, h, rows-some s h))
     (λ c. let b = c .before .before .before in let order = b .before .before .before .pre .order in omega arith)
     (λ c. let x = c .before .take-row .ensures in let past = x .columns .past in omega arith)
     loop-again
     (λ c. omega arith)
     loop-again-2
-    returns
-    returns-2)
+    (λ c.
+    let l = c .before .before .loop in
+    let e : l .i ≡ l .end = omega arith in
+    sweep-stop (rw e at (l .inv .3)) (l .inv .1) (c .if2 .taken) (l .inv .4 (c .if2 .taken)))
+    (λ c.
+    let l = c .before .before .loop in
+    let e : l .i ≡ l .end = omega arith in
+    sweep-end (rw e at (l .inv .3)) (l .inv .1) (c .if2 .left)))

@@ -20,12 +20,6 @@ abbrev μ-loop : tie.MeasureT-loop
 abbrev diagonal : tie.At-loop Inv-loop μ-loop → ℤ
 diagonal c = upper (c .before .args .s .now) (c .loop .j) (c .loop .j)
 
-returns : tie.Need-returns Inv-loop μ-loop
-unfolding upper
-returns c =
-    let l = c .before .before .before in
-    record { bound = l .loop .inv .0; some = l .loop .inv .1; none = λ h. read-less (diagonal l) (pos 1) (c .before .if12 .given) (omega arith) (c .if1 .taken) }
-
 some : (c : tie.Else1 Inv-loop μ-loop) → pos 1 ≤ℤ diagonal (c .before .before .before)
 unfolding upper
 some c = le-of (pos 1) _ (read-not-less (diagonal (c .before .before .before)) (pos 1) (c .before .if12 .given) (omega arith) (c .if1 .left))
@@ -37,13 +31,8 @@ loop-again c = (omega arith, λ l h. go l h (decLt l (c .before .before .before 
     go l h (yes d) = c .before .before .before .loop .inv .1 l d
     go l h (no d) = let q : l ≡ c .before .before .before .loop .j = omega arith in rw q (some c)
 
-returns-2 : tie.Need-returns-2 Inv-loop μ-loop
-returns-2 c =
-    let l = c .before .loop in
-    let e : l .j ≡ c .before .before .args .n = omega arith in
-    record { bound = omega arith; some = rw e at (l .inv .1); none = λ h. absurd (omega arith) }
-
 pub start-spec : {M : Type 1} → statement M
+unfolding upper
 start-spec =
     tie.close
     (tie.spec Inv-loop μ-loop
@@ -52,8 +41,13 @@ start-spec =
     (λ c. let o = c .before .before .pre .order in omega arith)
     (λ c. let o = c .before .before .pre .order in omega arith)
     (λ c. let o = c .before .before .pre in omega (arith, o .order, o .size))
-    returns
+    (λ c.
+    let l = c .before .before .before in
+    record { bound = l .loop .inv .0; some = l .loop .inv .1; none = λ h. read-less (diagonal l) (pos 1) (c .before .if12 .given) (omega arith) (c .if1 .taken) })
     (λ c. omega arith)
     (λ c. omega arith)
     loop-again
-    returns-2)
+    (λ c.
+    let l = c .before .loop in
+    let e : l .j ≡ c .before .before .args .n = omega arith in
+    record { bound = omega arith; some = rw e at (l .inv .1); none = λ h. absurd (omega arith) }))

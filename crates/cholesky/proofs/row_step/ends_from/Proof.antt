@@ -21,28 +21,6 @@ Inv-loop s₀ n first i₀ s i =
 abbrev μ-loop : tie.MeasureT-loop
 μ-loop s₀ n first i₀ s i = n - i
 
-returns : tie.Need-returns Inv-loop μ-loop
-returns c =
-    let t = c .before in
-    let v = t .before .before .before .loop .inv in
-    sym (v .3 ∙ ends-stop (t .take-row .ensures .columns) (v .0) (v .2) (c .if1 .taken))
-
-loop-again : tie.Need-loop-again Inv-loop μ-loop
-loop-again c =
-    let i = c .before .before .before in
-    let v = i .before .loop .inv in
-    let h = i .loop-test .taken in
-    let k = c .if1 .left in
-    let t = c .before .take-row .ensures .columns in
-    rw add-one (omega (arith, h), left-factorable (v .1) (omega arith) (row-done t k), row-next t k (omega (arith, h)), v .3 ∙ ends-row t (v .0) (v .2) k)
-
-returns-2 : tie.Need-returns-2 Inv-loop μ-loop
-returns-2 c =
-    let l = c .before in
-    let v = l .loop .inv in
-    let e : l .before .args .n - l .loop .i ≡ 1 = omega (arith, c .loop-test .left, v .0) in
-    sym (v .3 ∙ rw e (ends-last (upper (l .loop .s)) (l .loop .i) ∙ leZ-true (v .2)))
-
 pub ends-from-spec : {M : Type 1} → statement M
 ends-from-spec =
     tie.close
@@ -52,8 +30,21 @@ ends-from-spec =
     (λ c. (c .pre .1, c .pre .0, c .pre .2, refl))
     (λ c. omega (arith, c .loop .inv .0, c .loop .inv .1 .order))
     (λ c κs. let v = c .before .before .loop .inv in (v .1, v .0, v .2))
-    returns
+    (λ c.
+    let t = c .before in
+    let v = t .before .before .before .loop .inv in
+    sym (v .3 ∙ ends-stop (t .take-row .ensures .columns) (v .0) (v .2) (c .if1 .taken)))
     (λ c. let v = c .before .before .before .before .loop .inv in omega (arith, v .0, v .1 .order))
     (λ c. omega (arith, c .before .before .before .loop-test .taken))
-    loop-again
-    returns-2)
+    (λ c.
+    let i = c .before .before .before in
+    let v = i .before .loop .inv in
+    let h = i .loop-test .taken in
+    let k = c .if1 .left in
+    let t = c .before .take-row .ensures .columns in
+    rw add-one (omega (arith, h), left-factorable (v .1) (omega arith) (row-done t k), row-next t k (omega (arith, h)), v .3 ∙ ends-row t (v .0) (v .2) k))
+    (λ c.
+    let l = c .before in
+    let v = l .loop .inv in
+    let e : l .before .args .n - l .loop .i ≡ 1 = omega (arith, c .loop-test .left, v .0) in
+    sym (v .3 ∙ rw e (ends-last (upper (l .loop .s)) (l .loop .i) ∙ leZ-true (v .2)))))

@@ -43,20 +43,8 @@ sub-s c =
     rw (clean (mul-s-3 (c .before)), e, clean-element (upper (b .loop .s) (b .loop .a) (b .before .args .j)) (c .s2 .given), clean-element _ (c .before .s .given))
     (difference-fits (rw e at (b .loop .inv .2)) (p .0) (p .1) (index (c .before .before) .0) (index (c .before .before) .1))
 
-loop-again : tie.Need-loop-again Inv-loop μ-loop
-unfolding upper
-loop-again c =
-    let b = c .before .before .before in
-    let x = index (c .before .before) in
-    let e = clean (b .before .fits .r) in
-    let w = rw e at (b .loop .inv .2) in (
-      omega (arith, x .0),
-      omega (arith, x .1),
-      rw (clean (sub-s c), clean (mul-s-3 (c .before)), e, clean-element (upper (b .loop .s) (b .loop .a) (b .before .args .j)) (c .s2 .given), clean-element _ (c .before .s .given), add-one)
-          (taken-more w (x .0) (x .1) (x .2) (taken-reads w (x .0) (omega (arith, x .1, x .2)))),
-    )
-
 pub subtract-products-spec : {M : Type 1} → statement M
+unfolding upper
 subtract-products-spec =
     tie.close
     (tie.spec
@@ -77,7 +65,16 @@ subtract-products-spec =
     (λ c. let x = index (c .before .before) in omega (arith, x .1, x .2))
     (λ c. let x = index (c .before .before) in omega (arith, x .1, x .2))
     (λ c. let x = index (c .before .before) in omega (arith, x .1, x .2))
-    loop-again
+    (λ c.
+    let b = c .before .before .before in
+    let x = index (c .before .before) in
+    let e = clean (b .before .fits .r) in
+    let w = rw e at (b .loop .inv .2) in (
+      omega (arith, x .0),
+      omega (arith, x .1),
+      rw (clean (sub-s c), clean (mul-s-3 (c .before)), e, clean-element (upper (b .loop .s) (b .loop .a) (b .before .args .j)) (c .s2 .given), clean-element _ (c .before .s .given), add-one)
+          (taken-more w (x .0) (x .1) (x .2) (taken-reads w (x .0) (omega (arith, x .1, x .2)))),
+    ))
     (λ c.
     let l = c .before .loop in
     let e : l .a ≡ suc (c .before .before .args .j) = omega (arith, l .inv .1, c .loop-test .left) in

@@ -17,30 +17,11 @@ entry-is : (c : tie.After-floor-div) →
 unfolding upper
 entry-is c = rw (clean (c .before .before .fits .d), clean-element _ (c .before .floor-div-arg .given)) at (c .floor-div .ensures)
 
-returns : tie.Need-returns
-returns c =
-    let f = c .before .before in
-    let e = clean-result (f .floor-div) in
-    rw (e, ← entry-is f) (column-out (f .before .before .pre .0) _ (rw e at (call-false (c .before .within .ensures) (c .if1 .taken))))
-
 passed : (c : tie.Else1) → within factorRange (c .before .before .floor-div .result) ≡ true
 passed c = rw (clean-result (c .before .before .floor-div)) at (call-true (c .before .within .ensures) (c .if1 .left))
 
-subtract-products-requires : tie.Need-subtract-products-requires
-subtract-products-requires c κs =
-    let f = c .before .before .before in
-    let w = within-of factorRange _ (passed (c .before)) in
-    rw (clean-result (f .floor-div)) (column-rowed (f .before .before .pre .0) _ w, w)
-
-returns-2 : tie.Need-returns-2
-unfolding upper
-returns-2 c =
-    let e = c .before .before .before in
-    let f = e .before .before in
-    rw (clean-element _ (c .result .given), ← entry-is f)
-    (column-in (f .before .before .pre .0) _ (passed e) (rw (clean-result (f .floor-div)) at (c .before .subtract-products .ensures)))
-
 pub take-column-spec : {M : Type 1} → statement M
+unfolding upper
 take-column-spec =
     tie.close
     (tie.spec
@@ -54,10 +35,20 @@ take-column-spec =
     (λ c. search needs)
     (λ c. search needs)
     (λ c κs. search needs)
-    returns
-    subtract-products-requires
+    (λ c.
+    let f = c .before .before in
+    let e = clean-result (f .floor-div) in
+    rw (e, ← entry-is f) (column-out (f .before .before .pre .0) _ (rw e at (call-false (c .before .within .ensures) (c .if1 .taken)))))
+    (λ c κs.
+    let f = c .before .before .before in
+    let w = within-of factorRange _ (passed (c .before)) in
+    rw (clean-result (f .floor-div)) (column-rowed (f .before .before .pre .0) _ w, w))
     (λ c. search needs)
     (λ c. search needs)
     (λ c. search needs)
     (λ c. search needs)
-    returns-2)
+    (λ c.
+    let e = c .before .before .before in
+    let f = e .before .before in
+    rw (clean-element _ (c .result .given), ← entry-is f)
+    (column-in (f .before .before .pre .0) _ (passed e) (rw (clean-result (f .floor-div)) at (c .before .subtract-products .ensures)))))

@@ -21,18 +21,6 @@ root-is : (c : tie.After-whole-root) →
 unfolding upper
 root-is c = clean-result (c .whole-root) ∙ (rw (clean-element _ (c .before .whole-root-arg .given)) at (c .whole-root .ensures))
 
-take-columns-requires : tie.Need-take-columns-requires
-take-columns-requires c κs =
-    let w = c .before in
-    let p = w .before .before .pre in
-    (p .0, p .1, rw (root-is w) (root-one (p .2) (root-law _ (≤ℤ-trans (pos-nonneg 1) (p .2)))), root-is w)
-
-returns : tie.Need-returns
-returns c =
-    let w = c .before .before in
-    let p = w .before .before .pre in
-    row-taken (p .0) (p .1) (root-is w) (c .take-columns .ensures)
-
 pub take-row-spec : {M : Type 1} → statement M
 unfolding upper
 take-row-spec =
@@ -43,9 +31,15 @@ take-row-spec =
     (λ c. omega (arith, place c))
     (λ c. place c)
     (λ c κs. rw (clean-element _ (c .whole-root-arg .given)) (≤ℤ-trans (pos-nonneg 1) (c .before .pre .2)))
-    take-columns-requires
+    (λ c κs.
+    let w = c .before in
+    let p = w .before .before .pre in
+    (p .0, p .1, rw (root-is w) (root-one (p .2) (root-law _ (≤ℤ-trans (pos-nonneg 1) (p .2)))), root-is w))
     (λ c. omega (arith, place (c .before .before .before .before)))
     (λ c. omega (arith, place (c .before .before .before .before)))
     (λ c. omega (arith, place (c .before .before .before .before)))
     (λ c. place (c .before .before .before .before))
-    returns)
+    (λ c.
+    let w = c .before .before in
+    let p = w .before .before .pre in
+    row-taken (p .0) (p .1) (root-is w) (c .take-columns .ensures)))

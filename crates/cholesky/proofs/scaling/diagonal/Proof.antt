@@ -26,15 +26,6 @@ sub-result c =
     rw (clean-result m, m .ensures, clean (add-result c), clean-result a, a .ensures, clean (mul-result c), clean-result (c .row-width), c .row-width .ensures)
     (on-fits (p .0 .order) (p .0 .ranged) (p .1) (p .1))
 
-returns : tie.Need-returns
-returns c =
-    let s = c .before .before .before in
-    let a = c .before .diagonal-allowance in
-    let m = c .before .before .middle in
-    clean (sub-result c)
-    ∙ rw (clean-result m, m .ensures, clean (add-result c), clean-result a, a .ensures, clean (mul-result c), clean-result (c .row-width), c .row-width .ensures)
-    (sym (scaled-on (takeOff (s .args .n)) (s .args .n) _ _ (s .args .j)))
-
 pub diagonal-spec : {M : Type 1} → statement M
 diagonal-spec =
     tie.close
@@ -45,4 +36,10 @@ diagonal-spec =
     mul-result
     add-result
     sub-result
-    returns)
+    (λ c.
+    let s = c .before .before .before in
+    let a = c .before .diagonal-allowance in
+    let m = c .before .before .middle in
+    clean (sub-result c)
+    ∙ rw (clean-result m, m .ensures, clean (add-result c), clean-result a, a .ensures, clean (mul-result c), clean-result (c .row-width), c .row-width .ensures)
+    (sym (scaled-on (takeOff (s .args .n)) (s .args .n) _ _ (s .args .j)))))

@@ -21,11 +21,8 @@ mul-result-3 c =
     let p = c .before .before .pre in
     rw (clean (add-result c), clean-sum _ _ (c .before .result .given) (c .result2 .given)) (doubled-fits (p .0 .order) (p .0 .ranged) (p .1) (p .2))
 
-returns : tie.Need-returns
-unfolding at
-returns c = clean (mul-result-3 c) ∙ rw (clean (add-result c), clean-sum _ _ (c .before .result .given) (c .result2 .given))
-
 pub middle-spec : {M : Type 1} → statement M
+unfolding at
 middle-spec =
     tie.close
     (tie.spec
@@ -37,4 +34,4 @@ middle-spec =
     (λ c. place (c .before) .high)
     add-result
     mul-result-3
-    returns)
+    (λ c. clean (mul-result-3 c) ∙ rw (clean (add-result c), clean-sum _ _ (c .before .result .given) (c .result2 .given))))

@@ -40,14 +40,8 @@ add-w-3 c =
     rw (clean (sub-w c), clean-element (high c) (c .before .w .given), clean-element _ (c .w2 .given), c .before .before .before .loop .inv .1)
     (width-fits (p .0 .order) (p .0 .ranged) (p .1) _ (omega arith))
 
-loop-again : tie.Need-loop-again Inv-loop μ-loop
-unfolding at rowWidth
-loop-again c =
-    let l = c .before .before .before .loop in
-    (omega arith, clean (add-w-3 c) ∙ rw (clean (sub-w c), clean-element (high c) (c .before .w .given), clean-element _ (c .w2 .given), l .inv .1, add-one) (sym (sum-suc (l .k) _)))
-
 pub row-width-spec : {M : Type 1} → statement M
-unfolding rowWidth
+unfolding rowWidth at
 row-width-spec =
     tie.close
     (tie.spec Inv-loop μ-loop
@@ -63,5 +57,7 @@ row-width-spec =
     add-w-3
     (λ c. omega arith)
     (λ c. omega arith)
-    loop-again
+    (λ c.
+    let l = c .before .before .before .loop in
+    (omega arith, clean (add-w-3 c) ∙ rw (clean (sub-w c), clean-element (high c) (c .before .w .given), clean-element _ (c .w2 .given), l .inv .1, add-one) (sym (sum-suc (l .k) _))))
     (λ c. let e : c .before .loop .k ≡ c .before .before .args .n = omega arith in rw e at (c .before .loop .inv .1)))

@@ -18,25 +18,6 @@ Inv-loop n low high j h₀ i₀ h i = (i ≤ j) × Filling n (at n low) (at n hi
 abbrev μ-loop : tie.MeasureT-loop
 μ-loop n low high j h₀ i₀ h i = j - i
 
-loop-again : tie.Need-loop-again Inv-loop μ-loop
-loop-again c =
-    let s = c .before .before .before in
-    let order = s .pre .0 .order in
-    let l = c .before .before .loop in
-    let n = s .args .n in (
-      omega arith,
-      rw (clean-result (c .middle), add-one)
-          (filling-row (omega arith) (omega arith) (rw (scaled-off (takeOff n) n _ _ (l .i) (s .args .j) (omega arith)) (c .middle .ensures)) (l .inv .1)),
-    )
-
-returns : tie.Need-returns Inv-loop μ-loop
-returns c =
-    let s = c .before .before .before in
-    let l = c .before .before .loop in
-    let order = s .pre .0 .order in
-    let e : l .i ≡ s .args .j = omega arith in
-    rw (clean-result (c .diagonal)) (filling-end (filling-row (omega arith) (omega arith) (c .diagonal .ensures) (rw e at (l .inv .1))))
-
 pub scale-column-spec : {M : Type 1} → statement M
 scale-column-spec =
     tie.close
@@ -49,10 +30,23 @@ scale-column-spec =
     (λ c. search needs)
     (λ c. search needs)
     (λ c. omega arith)
-    loop-again
+    (λ c.
+    let s = c .before .before .before in
+    let order = s .pre .0 .order in
+    let l = c .before .before .loop in
+    let n = s .args .n in (
+      omega arith,
+      rw (clean-result (c .middle), add-one)
+          (filling-row (omega arith) (omega arith) (rw (scaled-off (takeOff n) n _ _ (l .i) (s .args .j) (omega arith)) (c .middle .ensures)) (l .inv .1)),
+    ))
     (λ c κs. search needs)
     (λ c. search needs)
     (λ c. search needs)
     (λ c. search needs)
     (λ c. search needs)
-    returns)
+    (λ c.
+    let s = c .before .before .before in
+    let l = c .before .before .loop in
+    let order = s .pre .0 .order in
+    let e : l .i ≡ s .args .j = omega arith in
+    rw (clean-result (c .diagonal)) (filling-end (filling-row (omega arith) (omega arith) (c .diagonal .ensures) (rw e at (l .inv .1))))))

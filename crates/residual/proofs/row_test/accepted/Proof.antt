@@ -13,17 +13,6 @@ Inv-loop n low high f over₀ j₀ over j = (j ≤ n) × Rows n f low high over 
 abbrev μ-loop : tie.MeasureT-loop
 μ-loop n low high f over₀ j₀ over j = n - j
 
-loop-again : tie.Need-loop-again Inv-loop μ-loop
-loop-again c =
-    let b = c .before .before in
-    (omega arith, rw add-one (rows-step (b .before .before .pre) (b .loop-test .taken) (b .before .loop .inv .1) (c .subtract-radii .ensures)))
-
-returns : tie.Need-returns Inv-loop μ-loop
-returns c =
-    let b = c .before .before .before in
-    let e : b .loop .j ≡ b .before .args .n = omega arith in
-    c .nonnegative .ensures ∙ rows-test (b .before .pre) (rw e at (b .loop .inv .1))
-
 pub accepted-spec : {M : Type 1} → statement M
 accepted-spec =
     tie.close
@@ -32,6 +21,11 @@ accepted-spec =
     (λ c κs. (c .before .before .before .pre, c .before .loop-test .taken, c .before .before .loop .inv .1 .within))
     (λ c. omega arith)
     (λ c. omega arith)
-    loop-again
+    (λ c.
+    let b = c .before .before in
+    (omega arith, rw add-one (rows-step (b .before .before .pre) (b .loop-test .taken) (b .before .loop .inv .1) (c .subtract-radii .ensures))))
     (λ c κs. c .before .before .before .pre .factor .order)
-    returns)
+    (λ c.
+    let b = c .before .before .before in
+    let e : b .loop .j ≡ b .before .args .n = omega arith in
+    c .nonnegative .ensures ∙ rows-test (b .before .pre) (rw e at (b .loop .inv .1))))

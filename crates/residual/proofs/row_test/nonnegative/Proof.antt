@@ -28,17 +28,6 @@ negative c = lt-holds (rw (clean-element _ (c .before .if12 .given)) at (c .if1 
 nonneg : (c : tie.Else1 Inv-loop μ-loop) → pos 0 ≤ℤ Element (c .before .before)
 nonneg c = lt-fails (rw (clean-element _ (c .before .if12 .given)) at (c .if1 .left))
 
-returns : tie.Need-returns Inv-loop μ-loop
-returns c = sym (all-false _ _ (c .before .before .before .loop .i) (c .before .before .loop-test .taken) (leZ-false (negative c)))
-
-loop-again : tie.Need-loop-again Inv-loop μ-loop
-loop-again c = (omega arith, all-more _ _ (c .before .before .before .loop .inv .1) (leZ-true (nonneg c)))
-
-returns-2 : tie.Need-returns-2 Inv-loop μ-loop
-returns-2 c =
-    let e : c .before .loop .i ≡ c .before .before .args .n = omega arith in
-    sym (rw e at (c .before .loop .inv .1))
-
 pub nonnegative-spec : {M : Type 1} → statement M
 nonnegative-spec =
     tie.close
@@ -46,8 +35,10 @@ nonnegative-spec =
     (λ c. (omega arith, all-none _))
     (λ c. omega arith)
     (λ c. omega arith)
-    returns
+    (λ c. sym (all-false _ _ (c .before .before .before .loop .i) (c .before .before .loop-test .taken) (leZ-false (negative c))))
     (λ c. omega arith)
     (λ c. omega arith)
-    loop-again
-    returns-2)
+    (λ c. (omega arith, all-more _ _ (c .before .before .before .loop .inv .1) (leZ-true (nonneg c))))
+    (λ c.
+    let e : c .before .loop .i ≡ c .before .before .args .n = omega arith in
+    sym (rw e at (c .before .loop .inv .1))))

@@ -33,12 +33,6 @@ add-s c =
     let p = b .before .before .before .pre in
     rw (clean (mul-s c), clean-result (b .entry), b .entry .ensures, clean-result (c .entry2), c .entry2 .ensures, b .before .before .loop .inv .1) (products-fit (p .0) _ (p .1) (p .2) (omega arith))
 
-loop-again : tie.Need-loop-again Inv-loop μ-loop
-loop-again c =
-    let b = c .before in
-    let l = b .before .before .loop in
-    (omega arith, clean (add-s c) ∙ rw (clean (mul-s c), clean-result (b .entry), b .entry .ensures, clean-result (c .entry2), c .entry2 .ensures, l .inv .1, add-one) (sym (sum-suc (l .k) _)))
-
 pub product-spec : {M : Type 1} → statement M
 unfolding gramAt
 product-spec =
@@ -51,5 +45,8 @@ product-spec =
     add-s
     (λ c. omega arith)
     (λ c. omega arith)
-    loop-again
+    (λ c.
+    let b = c .before in
+    let l = b .before .before .loop in
+    (omega arith, clean (add-s c) ∙ rw (clean (mul-s c), clean-result (b .entry), b .entry .ensures, clean-result (c .entry2), c .entry2 .ensures, l .inv .1, add-one) (sym (sum-suc (l .k) _))))
     (λ c. let e : c .before .loop .k ≡ suc (c .before .before .args .i) = omega arith in rw e at (c .before .loop .inv .1)))

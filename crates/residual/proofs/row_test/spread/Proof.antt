@@ -17,17 +17,15 @@ mul-below c = rw (clean (c .fits .low)) (scaled-fits (c .pre .1))
 sub-below : tie.Need-sub-below
 sub-below c = rw (clean (mul-below c), clean (c .fits .low), clean (c .fits .p)) (excess-fits (c .pre .1) (c .pre .3))
 
-returns : tie.Need-returns
-returns c =
+pub spread-spec : {M : Type 1} → statement M
+spread-spec =
+    tie.close
+    (tie.spec mul-above sub-above mul-below sub-below
+    (λ c.
     let s = c .before in
     clean (sub-above s) ∙ rw (clean (mul-above s), clean (s .fits .high), clean (s .fits .p))
-    (spread-above (s .args .p) (s .pre .0) (rw (clean (mul-above s), clean (mul-below s), clean (s .fits .high), clean (s .fits .low), clean (s .fits .p)) at (le-yes (sub-below s) (sub-above s) (c .if1 .taken))))
-
-returns-2 : tie.Need-returns-2
-returns-2 c =
+    (spread-above (s .args .p) (s .pre .0) (rw (clean (mul-above s), clean (mul-below s), clean (s .fits .high), clean (s .fits .low), clean (s .fits .p)) at (le-yes (sub-below s) (sub-above s) (c .if1 .taken)))))
+    (λ c.
     let s = c .before in
     clean (sub-below s) ∙ rw (clean (mul-below s), clean (s .fits .low), clean (s .fits .p))
-    (spread-below (s .args .p) (s .pre .0) (<-≤ (rw (clean (mul-above s), clean (mul-below s), clean (s .fits .high), clean (s .fits .low), clean (s .fits .p)) at (le-no (sub-below s) (sub-above s) (c .if1 .left)))))
-
-pub spread-spec : {M : Type 1} → statement M
-spread-spec = tie.close (tie.spec mul-above sub-above mul-below sub-below returns returns-2)
+    (spread-below (s .args .p) (s .pre .0) (<-≤ (rw (clean (mul-above s), clean (mul-below s), clean (s .fits .high), clean (s .fits .low), clean (s .fits .p)) at (le-no (sub-below s) (sub-above s) (c .if1 .left)))))))

@@ -17,11 +17,6 @@ Inv-loop n low high f j over₀ own₀ i₀ over own i = (i ≤ j) × Subtractin
 abbrev μ-loop : tie.MeasureT-loop
 μ-loop n low high f j over₀ own₀ i₀ over own i = j - i
 
-loop-holds : tie.Need-loop-holds Inv-loop μ-loop
-loop-holds c =
-    let p = c .before .pre in
-    (omega arith, rw (clean-result (c .diagonal)) (subtracting-start (p .0) (p .1) (p .2) (c .diagonal .ensures)))
-
 sub-over : tie.Need-sub-over Inv-loop μ-loop
 sub-over c =
     let b = c .before .before in
@@ -34,25 +29,14 @@ sub-own c =
     let p = b .before .before .before .pre in
     rw (clean-result (c .before .radius), c .before .radius .ensures) (subtracting-own-fits (p .0) (p .1) (p .2) (b .loop-test .taken) (b .before .loop .inv .1))
 
-loop-again : tie.Need-loop-again Inv-loop μ-loop
-loop-again c =
-    let b = c .before .before in
-    let p = b .before .before .before .pre in
-    (omega arith, rw (clean (sub-over c), clean (sub-own c), clean-result (c .before .radius), clean-element _ (c .over .given), c .before .radius .ensures, add-one) (subtracting-next (p .0) (p .1) (p .2) (b .loop-test .taken) (b .before .loop .inv .1)))
-
-returns : tie.Need-returns Inv-loop μ-loop
-returns c =
-    let p = c .before .before .before .pre in
-    let l = c .before .loop in
-    let e : l .i ≡ c .before .before .before .args .j = omega arith in
-    subtracting-end (p .0) (p .1) (p .2) (rw e at (l .inv .1))
-
 pub subtract-radii-spec : {M : Type 1} → statement M
 subtract-radii-spec =
     tie.close
     (tie.spec Inv-loop μ-loop
     (λ c κs. let p = c .pre in (p .0 .factor, p .1, p .0 .tables .low-length, low-within (p .0 .tables) (p .1) (p .1)))
-    loop-holds
+    (λ c.
+    let p = c .before .pre in
+    (omega arith, rw (clean-result (c .diagonal)) (subtracting-start (p .0) (p .1) (p .2) (c .diagonal .ensures))))
     (λ c κs. let p = c .before .before .before .pre in (p .0, c .loop-test .taken, p .1))
     (λ c. let small = c .before .before .before .before .pre .0 .factor .order in omega arith)
     (λ c. let small = c .before .before .before .before .pre .0 .factor .order in omega arith)
@@ -61,7 +45,14 @@ subtract-radii-spec =
     sub-own
     (λ c. omega arith)
     (λ c. omega arith)
-    loop-again
+    (λ c.
+    let b = c .before .before in
+    let p = b .before .before .before .pre in
+    (omega arith, rw (clean (sub-over c), clean (sub-own c), clean-result (c .before .radius), clean-element _ (c .over .given), c .before .radius .ensures, add-one) (subtracting-next (p .0) (p .1) (p .2) (b .loop-test .taken) (b .before .loop .inv .1))))
     (λ c. let small = c .before .before .before .pre .0 .factor .order in omega arith)
     (λ c. let small = c .before .before .before .pre .0 .factor .order in omega arith)
-    returns)
+    (λ c.
+    let p = c .before .before .before .pre in
+    let l = c .before .loop in
+    let e : l .i ≡ c .before .before .before .args .j = omega arith in
+    subtracting-end (p .0) (p .1) (p .2) (rw e at (l .inv .1))))

@@ -24,12 +24,6 @@ add-s c =
     let p = b .before .before .pre in
     rw (clean-result (c .least-pair), c .least-pair .ensures, b .before .loop .inv .1) (row-fits (p .0) (p .1) (omega arith))
 
-loop-again : tie.Need-loop-again Inv-loop μ-loop
-unfolding leastRow
-loop-again c =
-    let l = c .before .before .loop in
-    (omega arith, clean (add-s c) ∙ rw (clean-result (c .least-pair), c .least-pair .ensures, l .inv .1, add-one) (sym (sum-suc (l .k) _)))
-
 pub least-row-spec : {M : Type 1} → statement M
 unfolding leastRow
 least-row-spec =
@@ -40,5 +34,7 @@ least-row-spec =
     add-s
     (λ c. omega arith)
     (λ c. omega arith)
-    loop-again
+    (λ c.
+    let l = c .before .before .loop in
+    (omega arith, clean (add-s c) ∙ rw (clean-result (c .least-pair), c .least-pair .ensures, l .inv .1, add-one) (sym (sum-suc (l .k) _))))
     (λ c. let e : c .before .loop .k ≡ c .before .before .args .i = omega arith in rw e at (c .before .loop .inv .1)))

@@ -36,15 +36,8 @@ added c =
     rw (clean (twice e), clean (own c), clean-result (e .entry), e .entry .ensures, clean (square c), clean-result (r .least-row), r .least-row .ensures, clean-element _ (c .before .result .given))
     (share-adds (p .0) (p .1))
 
-returns-2 : tie.Need-returns-2
-unfolding leastShare
-returns-2 c =
-    let e = c .before .before in
-    let r = e .before in
-    clean (added c)
-    ∙ rw (clean (twice e), clean (own c), clean-result (e .entry), e .entry .ensures, clean (square c), clean-result (r .least-row), r .least-row .ensures, clean-element _ (c .before .result .given))
-
 pub least-share-spec : {M : Type 1} → statement M
+unfolding leastShare
 least-share-spec =
     tie.close
     (tie.spec
@@ -61,4 +54,8 @@ least-share-spec =
     square
     own
     added
-    returns-2)
+    (λ c.
+    let e = c .before .before in
+    let r = e .before in
+    clean (added c)
+    ∙ rw (clean (twice e), clean (own c), clean-result (e .entry), e .entry .ensures, clean (square c), clean-result (r .least-row), r .least-row .ensures, clean-element _ (c .before .result .given))))

@@ -10,15 +10,13 @@ mul-result c = let s = c .before in rw (clean (s .fits .low), clean (s .fits .p)
 mul-result-2 : tie.Need-mul-result-2
 mul-result-2 c = let s = c .before in rw (clean (s .fits .high), clean (s .fits .p)) (share-fits (s .pre .1) (s .pre .2))
 
-returns : tie.Need-returns
-returns c =
-    let s = c .before in
-    clean (mul-result c) ∙ rw (clean (s .fits .low), clean (s .fits .p)) (term-low _ _ _ (rw (clean (s .fits .p)) at (c .if1 .taken)))
-
-returns-2 : tie.Need-returns-2
-returns-2 c =
-    let s = c .before in
-    clean (mul-result-2 c) ∙ rw (clean (s .fits .high), clean (s .fits .p)) (term-high _ _ _ (rw (clean (s .fits .p)) at (c .if1 .left)))
-
 pub least-term-spec : {M : Type 1} → statement M
-least-term-spec = tie.close (tie.spec mul-result mul-result-2 returns returns-2)
+least-term-spec =
+    tie.close
+    (tie.spec mul-result mul-result-2
+    (λ c.
+    let s = c .before in
+    clean (mul-result c) ∙ rw (clean (s .fits .low), clean (s .fits .p)) (term-low _ _ _ (rw (clean (s .fits .p)) at (c .if1 .taken))))
+    (λ c.
+    let s = c .before in
+    clean (mul-result-2 c) ∙ rw (clean (s .fits .high), clean (s .fits .p)) (term-high _ _ _ (rw (clean (s .fits .p)) at (c .if1 .left)))))

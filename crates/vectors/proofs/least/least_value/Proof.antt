@@ -24,11 +24,6 @@ add-s c =
     let b = c .before in
     rw (clean-result (c .least-share), c .least-share .ensures, b .before .loop .inv .1) (sum-fits (b .before .before .pre) (b .loop-test .taken))
 
-loop-again : tie.Need-loop-again Inv-loop μ-loop
-loop-again c =
-    let l = c .before .before .loop in
-    (omega arith, clean (add-s c) ∙ rw (clean-result (c .least-share), c .least-share .ensures, l .inv .1, add-one) (sym (sum-suc (l .i) _)))
-
 pub least-value-spec : {M : Type 1} → statement M
 least-value-spec =
     tie.close
@@ -38,7 +33,9 @@ least-value-spec =
     add-s
     (λ c. omega arith)
     (λ c. omega arith)
-    loop-again
+    (λ c.
+    let l = c .before .before .loop in
+    (omega arith, clean (add-s c) ∙ rw (clean-result (c .least-share), c .least-share .ensures, l .inv .1, add-one) (sym (sum-suc (l .i) _))))
     (λ c.
     let e : c .before .loop .i ≡ c .before .before .args .n = omega arith in
     (rw e at (c .before .loop .inv .1)) ∙ shares-add _ _ _ _ (c .before .before .pre .tables .bounds)))

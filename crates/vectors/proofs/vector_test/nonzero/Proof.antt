@@ -17,28 +17,20 @@ Inv-loop n x i₀ i = (i ≤ n) × (all i (λ k. same (nth x k) (pos 0)) ≡ tru
 abbrev μ-loop : tie.MeasureT-loop
 μ-loop n x i₀ i = n - i
 
-returns : tie.Need-returns Inv-loop μ-loop
-unfolding nonzero
-returns c = sym (ap not (all-false _ _ (c .before .before .before .loop .i) (c .before .before .loop-test .taken) (read-differs _ (pos 0) (c .before .if12 .given) (omega arith) (c .if1 .taken))))
-
-loop-again : tie.Need-loop-again Inv-loop μ-loop
-loop-again c = (omega arith, all-more _ _ (c .before .before .before .loop .inv .1) (read-same _ (pos 0) (c .before .if12 .given) (omega arith) (c .if1 .left)))
-
-returns-2 : tie.Need-returns-2 Inv-loop μ-loop
-unfolding nonzero
-returns-2 c =
-    let e : c .before .loop .i ≡ c .before .before .args .n = omega arith in
-    sym (ap not (rw e at (c .before .loop .inv .1)))
-
 pub nonzero-spec : {M : Type 1} → statement M
+unfolding nonzero
 nonzero-spec =
     tie.close
     (tie.spec Inv-loop μ-loop
     (λ c. (omega arith, all-none _))
     (λ c. omega arith)
     (λ c. omega arith)
-    returns
+    (λ c.
+    sym (ap not (all-false _ _ (c .before .before .before .loop .i) (c .before .before .loop-test .taken) (read-differs _ (pos 0) (c .before .if12 .given) (omega arith) (c .if1 .taken)))))
     (λ c. omega arith)
     (λ c. omega arith)
-    loop-again
-    returns-2)
+    (λ c.
+    (omega arith, all-more _ _ (c .before .before .before .loop .inv .1) (read-same _ (pos 0) (c .before .if12 .given) (omega arith) (c .if1 .left))))
+    (λ c.
+    let e : c .before .loop .i ≡ c .before .before .args .n = omega arith in
+    sym (ap not (rw e at (c .before .loop .inv .1)))))

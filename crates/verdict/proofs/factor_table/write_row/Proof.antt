@@ -17,18 +17,6 @@ Inv-loop n t i factor₀ start j₀ factor j = (j ≤ n) × (length factor ≡ l
 abbrev μ-loop : tie.MeasureT-loop
 μ-loop n t i factor₀ start j₀ factor j = n - j
 
-loop-again : tie.Need-loop-again Inv-loop μ-loop
-loop-again c =
-    let s = c .before .before .before in
-    let l = c .before .before .loop in
-    let h = c .before .loop-test .taken in
-    let e : suc (s .args .i * s .args .n + l .j) ≡ s .args .i * s .args .n + (l .j + 1) = omega arith in (
-      omega arith,
-      length-set (l .factor) _ _ ∙ l .inv .1,
-      rw (clean-result (c .factor-entry), c .factor-entry .ensures, ← e)
-          (written-more (s .args .i) (l .j) h (omega (arith, inside (s .pre .1) h, s .pre .2, l .inv .1)) (l .inv .2)),
-    )
-
 pub write-row-spec : {M : Type 1} → statement M
 write-row-spec =
     tie.close
@@ -41,7 +29,16 @@ write-row-spec =
     (λ c. let p = c .before .before .before .pre in omega (arith, inside (p .1) (c .before .loop-test .taken), p .2, c .before .before .loop .inv .1))
     (λ c. let p = c .before .before .before .pre in omega (arith, p .0))
     (λ c. omega arith)
-    loop-again
+    (λ c.
+    let s = c .before .before .before in
+    let l = c .before .before .loop in
+    let h = c .before .loop-test .taken in
+    let e : suc (s .args .i * s .args .n + l .j) ≡ s .args .i * s .args .n + (l .j + 1) = omega arith in (
+      omega arith,
+      length-set (l .factor) _ _ ∙ l .inv .1,
+      rw (clean-result (c .factor-entry), c .factor-entry .ensures, ← e)
+          (written-more (s .args .i) (l .j) h (omega (arith, inside (s .pre .1) h, s .pre .2, l .inv .1)) (l .inv .2)),
+    ))
     (λ c. c .before .loop .inv .1)
     (λ c.
     let s = c .before .before in
