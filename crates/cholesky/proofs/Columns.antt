@@ -1,9 +1,10 @@
 -- What factoring keeps through its loops: where it ends, its columns are as Factored.antt says.
 use mathlib.Core.Path.{_≡_, refl, sym, ap, ap₂, _∙_, subst}
+use mathlib.Core.Logic.{by-cases}
 use mathlib.Core.List.{List, [], _∷_, _++_}
 use Prim.Native.Nat.{ℕ, zero, suc, _+_, _≤_, _<_}
 use native.Mathlib.Omega.{arith}
-use native.Mathlib.Decide.{decLt}
+use native.Mathlib.Decide.{decLt, ℕ-discrete}
 use lib.Dec.{T}
 use lib.IntN.{ℤ, pos, natAbs, _+ℤ_, _-ℤ_, _*ℤ_}
 use lib.Signed.{_≤ℤ_}
@@ -109,15 +110,13 @@ module _ (H : Matrix) (cs : List (List ℤ)) (d : Done H cs) where
   row-step rest c h m p =
       let r = nextEntry H cs j c in
       record {
-        now = λ a k. go a (omega (arith, length-snoc c r)) (decLt a (length c));
+        now = λ a k.
+            by-cases (ℕ-discrete a (length c)) (λ e. rw e (new-off c h (p .small)))
+            (λ e. let l : a < length c = omega (arith, length-snoc c r) in keep-now c _ (omega arith) a l (m .now a l));
         rest-is = order (rest ∷ r ∷ H j j ∷ sum (length c) (λ k. nth c k *ℤ nth c k) ∷ sum (length (c ++ (r ∷ []))) (λ k. nth (c ++ (r ∷ [])) k *ℤ nth (c ++ (r ∷ [])) k) ∷ [])
             (m .rest-is & squares-more c r) (search solver depth 40 fits 20000) (omega arith);
         some = p .some;
       }
-    where
-      go : (a : ℕ) → a < suc (length c) → Dec (a < length c) → OffDiagonal H (with (c ++ (nextEntry H cs j c ∷ []))) a j
-      go a h′ (yes k) = keep-now c _ (omega arith) a k (m .now a k)
-      go a h′ (no k) = let e : a ≡ length c = omega arith in rw e (new-off c h (p .small))
 
   -- ---- the column's end
   module _ (top : H j j ≤ℤ (ρ *ℤ ρ)) where
@@ -145,24 +144,19 @@ module _ (H : Matrix) (cs : List (List ℤ)) (d : Done H cs) where
     column-end : (rest : ℤ) (c : List ℤ) → length c ≡ j → Making H cs rest c → Done H (cs ++ ((c ++ (wholeRoot rest ∷ [])) ∷ []))
     column-end rest c h m =
         let s = wholeRoot rest in
-        let c′ = c ++ (s ∷ []) in
+        let more = length-snoc cs (c ++ (s ∷ [])) in
         record {
-          lengths = λ l k. lengths-at l (omega (arith, length-snoc cs c′)) (decLt l j);
-          off = λ a b k l. off-at a b k (omega (arith, length-snoc cs c′)) (decLt b j);
-          on = λ b k. on-at b (omega (arith, length-snoc cs c′)) (decLt b j);
+          lengths = λ l k.
+              by-cases (decLt l j) (λ e. ap length (List·getD-append cs _ [] l e) ∙ d .lengths l e)
+              (λ e. let q : l ≡ j = omega (arith, more) in rw q (ap length (getD-append-seam cs _ [] []) ∙ length-snoc c s ∙ ap suc h));
+          off = λ a b k l.
+              by-cases (decLt b j)
+              (λ e. keep-off H (entries cs) _ a b (λ i m. sym (entries-before cs _ i a (omega arith))) (λ i m. sym (entries-before cs _ i b e)) (d .off a b k e))
+              (λ e. let q : b ≡ j = omega (arith, more) in rw q (keep-now c _ (omega arith) a (omega arith) (m .now a (omega arith))));
+          on = λ b k.
+              by-cases (decLt b j) (λ e. keep-on H (entries cs) _ b (λ i m. sym (entries-before cs _ i b e)) (d .on b e))
+              (λ e. let q : b ≡ j = omega (arith, more) in rw q (new-on rest c h m));
         }
-      where
-        lengths-at : (l : ℕ) → l < suc j → Dec (l < j) → length (getD (cs ++ ((c ++ (wholeRoot rest ∷ [])) ∷ [])) l []) ≡ suc l
-        lengths-at l k (yes e) = ap length (List·getD-append cs _ [] l e) ∙ d .lengths l e
-        lengths-at l k (no e) = let q : l ≡ j = omega arith in rw q (ap length (getD-append-seam cs _ [] []) ∙ length-snoc c (wholeRoot rest) ∙ ap suc h)
-
-        off-at : (a b : ℕ) → a < b → b < suc j → Dec (b < j) → OffDiagonal H (with (c ++ (wholeRoot rest ∷ []))) a b
-        off-at a b k l (yes e) = keep-off H (entries cs) _ a b (λ i m. sym (entries-before cs _ i a (omega arith))) (λ i m. sym (entries-before cs _ i b e)) (d .off a b k e)
-        off-at a b k l (no e) = let q : b ≡ j = omega arith in rw q (keep-now c _ (omega arith) a (omega arith) (m .now a (omega arith)))
-
-        on-at : (b : ℕ) → b < suc j → Dec (b < j) → OnDiagonal H (with (c ++ (wholeRoot rest ∷ []))) b
-        on-at b k (yes e) = keep-on H (entries cs) _ b (λ i m. sym (entries-before cs _ i b e)) (d .on b e)
-        on-at b k (no e) = let q : b ≡ j = omega arith in rw q (new-on rest c h m)
 
   -- before its first row
   pub started : pos 1 ≤ℤ H j j → Making H cs (H j j) []

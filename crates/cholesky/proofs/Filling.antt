@@ -1,9 +1,10 @@
 -- The matrix H in its table: how large its entries get, and the walk of the code through a column.
 use mathlib.Core.Path.{_≡_, _∙_}
+use mathlib.Core.Logic.{by-cases}
 use mathlib.Core.List.{List}
 use Prim.Native.Nat.{ℕ, suc, _+_, _*_, _^_, _≤_, _<_}
 use native.Mathlib.Omega.{arith}
-use native.Mathlib.Decide.{decLt}
+use native.Mathlib.Decide.{ℕ-discrete}
 use lib.IntN.{ℤ, pos, _+ℤ_, _-ℤ_, _*ℤ_}
 use lib.Signed.{_≤ℤ_, mag}
 use lib.ListN.{length, set, length-set}
@@ -131,19 +132,13 @@ module _ {n : ℕ} {L U : Matrix} {h : List ℤ} {j : ℕ} where
           size = length-set h (stride * j + i) v ∙ f .before .size;
           entries = λ k c p q. upper-other h i j v k c (omega arith) ∙ f .before .entries k c p q;
         };
-        here = λ k p. at k p (decLt k i);
+        here = λ k p.
+            by-cases (ℕ-discrete k i) (λ q. rw (q, upper-same h i j v (omega (arith, f .before .size))) e)
+            (λ q. upper-other h i j v k j (omega arith) ∙ f .here k (omega arith));
       }
-    where
-      at : (k : ℕ) → k < suc i → Dec (k < i) → upper (set h (stride * j + i) v) k j ≡ scaled n L U k j
-      at k p (yes q) = upper-other h i j v k j (omega arith) ∙ f .here k q
-      at k p (no q) =
-          let s = f .before .size in
-          let w : k ≡ i = omega arith in
-          rw (w, upper-same h i j v (omega arith)) e
 
   pub filling-end : Filling n L U h j (suc j) → Scaled n L U h (suc j)
-  filling-end f = record { size = f .before .size; entries = λ k c p q. at k c p q (decLt c j) }
-    where
-      at : (k c : ℕ) → k ≤ c → c < suc j → Dec (c < j) → upper h k c ≡ scaled n L U k c
-      at k c p q (yes m) = f .before .entries k c p m
-      at k c p q (no m) = let w : c ≡ j = omega arith in rw w (f .here k (omega arith))
+  filling-end f = record {
+    size = f .before .size;
+    entries = λ k c p q. by-cases (ℕ-discrete c j) (λ m. rw m (f .here k (omega arith))) (λ m. f .before .entries k c p (omega arith));
+  }

@@ -1,10 +1,11 @@
 -- Factoring ends exactly where the walk by Schur complements does.
 use mathlib.Core.Path.{_≡_, refl, ap, ap₂, _∙_, subst}
 use mathlib.Core.Bool.{Bool, true, false, not, _&&_}
+use mathlib.Core.Logic.{by-cases}
 use mathlib.Core.List.{List, [], _∷_, _++_}
-use Prim.Native.Nat.{ℕ, zero, suc, _+_, _-_, _≤_, _<_}
+use Prim.Native.Nat.{ℕ, zero, suc, _+_, _≤_, _<_}
 use native.Mathlib.Omega.{arith}
-use native.Mathlib.Decide.{decLt}
+use native.Mathlib.Decide.{decLt, ℕ-discrete}
 use lib.Dec.{T}
 use lib.IntN.{ℤ, pos, _-ℤ_, _*ℤ_}
 use lib.Signed.{_≤ℤ_, leZ, ≤ℤ-refl}
@@ -41,13 +42,9 @@ module _ (S : Matrix) (i : ℕ) where
   pub row-passes : (m j l : ℕ) → rowFrom S i j m ≡ true → j ≤ l → l < j + m → Passes (rowEntry S i l) (reduced S i l l)
   unfolding rowFrom
   row-passes zero j l e h k = absurd (omega arith)
-  row-passes (suc m) j l e h k = go (decLt j l) (λ q. row-passes m (suc j) l (and-right (goesOn (rowEntry S i j) (reduced S i j j)) _ e) q (omega arith))
-    where
-      go : Dec (j < l) → (j < l → Passes (rowEntry S i l) (reduced S i l l)) → Passes (rowEntry S i l) (reduced S i l l)
-      go (yes q) f = f q
-      go (no q) f =
-          let f : l ≡ j = omega arith in
-          rw f (passes _ _ (of-true (and-left (goesOn (rowEntry S i j) (reduced S i j j)) (rowFrom S i (suc j) m) e)))
+  row-passes (suc m) j l e h k =
+      by-cases (ℕ-discrete l j) (λ q. rw q (passes _ _ (of-true (and-left (goesOn (rowEntry S i j) (reduced S i j j)) (rowFrom S i (suc j) m) e))))
+      (λ q. row-passes m (suc j) l (and-right (goesOn (rowEntry S i j) (reduced S i j j)) _ e) (omega arith) (omega arith))
 
   pub row-of : (m j : ℕ) → ((l : ℕ) → j ≤ l → l < j + m → Passes (rowEntry S i l) (reduced S i l l)) → rowFrom S i j m ≡ true
   unfolding rowFrom
@@ -62,16 +59,12 @@ module _ (H : Matrix) (n : ℕ) where
   unfolding endsFrom leftOf
   ends-passes zero i l s e h k = absurd (omega arith)
   ends-passes (suc m) i l s e h k =
-      go (decLt i l) (ends-passes m (suc i) l (omega arith) (and-right (rowFrom (leftOf H i) i (suc i) m) _ (and-right (leZ (pos 1) (leftOf H i i i)) _ e)))
-    where
-      go : Dec (i < l) → (suc i ≤ l → l < n → RowPasses (leftOf H l) l n) → RowPasses (leftOf H l) l n
-      go (yes q) f = f q k
-      go (no q) f =
-          let f : l ≡ i = omega arith in
-          rw f (record {
-            first = le-of (pos 1) (leftOf H i i i) (and-left _ _ e);
-            later = λ j p r. row-passes (leftOf H i) i m (suc i) j (and-left _ _ (and-right (leZ (pos 1) (leftOf H i i i)) _ e)) p (omega arith);
-          })
+      by-cases (ℕ-discrete l i)
+      (λ q. rw q (record {
+        first = le-of (pos 1) (leftOf H i i i) (and-left _ _ e);
+        later = λ j p r. row-passes (leftOf H i) i m (suc i) j (and-left _ _ (and-right (leZ (pos 1) (leftOf H i i i)) _ e)) p (omega arith);
+      }))
+      (λ q. ends-passes m (suc i) l (omega arith) (and-right (rowFrom (leftOf H i) i (suc i) m) _ (and-right (leZ (pos 1) (leftOf H i i i)) _ e)) (omega arith) k)
 
   pub ends-of : (m i : ℕ) → i + m ≡ n → ((l : ℕ) → i ≤ l → l < n → RowPasses (leftOf H l) l n) → endsFrom m (leftOf H i) i ≡ true
   unfolding endsFrom leftOf
@@ -118,22 +111,16 @@ reduced-≤ S i j = order (S j j ∷ rowEntry S i j ∷ []) (square-nonneg (rowE
 pub left-falls : (H : Matrix) (j i m : ℕ) → i ≤ m → leftOf H m j j ≤ℤ leftOf H i j j
 unfolding leftOf
 left-falls H j i zero h = let e : i ≡ 0 = omega arith in rw e (≤ℤ-refl _)
-left-falls H j i (suc m) h = go (decLt m i) (left-falls H j i m)
-  where
-    go : Dec (m < i) → (i ≤ m → leftOf H m j j ≤ℤ leftOf H i j j) → reduced (leftOf H m) m j j ≤ℤ leftOf H i j j
-    go (yes q) f = let e : i ≡ suc m = omega arith in rw e (≤ℤ-refl _)
-    go (no q) f = ≤ℤ-trans (reduced-≤ (leftOf H m) m j) (f (omega arith))
+left-falls H j i (suc m) h =
+    by-cases (ℕ-discrete i (suc m)) (λ e. rw e (≤ℤ-refl _)) (λ q. ≤ℤ-trans (reduced-≤ (leftOf H m) m j) (left-falls H j i m (omega arith)))
 
 -- where it ends, each diagonal entry is at least 1
 pub ends-diagonal : (S : Matrix) (m i j : ℕ) → endsFrom m S i ≡ true → i ≤ j → j < i + m → pos 1 ≤ℤ S j j
 unfolding endsFrom
 ends-diagonal S zero i j e h k = absurd (omega arith)
-ends-diagonal S (suc m) i j e h k = go (decLt i j)
-  where
-    go : Dec (i < j) → pos 1 ≤ℤ S j j
-    go (yes q) =
-        ≤ℤ-trans (row-passes S i m (suc i) j (and-left _ _ (and-right (leZ (pos 1) (S i i)) _ e)) q (omega arith) .some) (reduced-≤ S i j)
-    go (no q) = let f : j ≡ i = omega arith in rw f (le-of (pos 1) (S i i) (and-left _ _ e))
+ends-diagonal S (suc m) i j e h k =
+    by-cases (ℕ-discrete j i) (λ f. rw f (le-of (pos 1) (S i i) (and-left _ _ e)))
+    (λ q. ≤ℤ-trans (row-passes S i m (suc i) j (and-left _ _ (and-right (leZ (pos 1) (S i i)) _ e)) (omega arith) (omega arith) .some) (reduced-≤ S i j))
 
 -- ---- factoring by columns works out the same entries
 module _ (H : Matrix) where
@@ -187,18 +174,14 @@ module _ (H : Matrix) where
         let x = nextEntry H cs j c in
         let e = length-snoc c x in
         record {
-          now = λ k l. now-at k (omega (arith, e)) (decLt k (length c));
+          now = λ k l.
+              by-cases (decLt k (length c)) (λ q. nth-before c x k q ∙ g .now k q)
+              (λ q. let f : k ≡ length c = omega (arith, e) in rw f (nth-last c x ∙ next-is rest c h g));
           rest-is = rw e (left-more rest c h g);
-          above = λ k l. above-at k (omega (arith, e)) (decLt k (length c));
+          above = λ k l.
+              by-cases (decLt k (length c)) (g .above k)
+              (λ q. let f : k ≡ length c = omega (arith, e) in rw (f, ← next-is rest c h g, ← left-more rest c h g) p);
         }
-      where
-        now-at : (k : ℕ) → k < suc (length c) → Dec (k < length c) → nth (c ++ (nextEntry H cs j c ∷ [])) k ≡ r k j
-        now-at k l (yes q) = nth-before c (nextEntry H cs j c) k q ∙ g .now k q
-        now-at k l (no q) = let f : k ≡ length c = omega arith in rw f (nth-last c (nextEntry H cs j c) ∙ next-is rest c h g)
-
-        above-at : (k : ℕ) → k < suc (length c) → Dec (k < length c) → Passes (r k j) (leftOf H (suc k) j j)
-        above-at k l (yes q) = g .above k q
-        above-at k l (no q) = let f : k ≡ length c = omega arith in rw (f, ← next-is rest c h g, ← left-more rest c h g) p
 
     start : Growing cs (H j j) []
     unfolding leftOf
@@ -208,27 +191,18 @@ module _ (H : Matrix) where
     finish top rest c h g =
         let e = length-snoc cs (c ++ (wholeRoot rest ∷ [])) in
         record {
-          off = λ k l m p. off-at k l m (omega (arith, e)) (decLt l j);
-          on = λ l m. on-at l (omega (arith, e)) (decLt l j);
-          tests = λ l m. tests-at l (omega (arith, e)) (decLt l j);
+          off = λ k l m p.
+              by-cases (decLt l j) (λ q. entries-before cs _ k l q ∙ d .off k l m q)
+              (λ q. let f : l ≡ j = omega (arith, e) in rw f (entries-last cs _ k ∙ nth-before c (wholeRoot rest) k (omega arith) ∙ g .now k (omega arith)));
+          on = λ l m.
+              by-cases (decLt l j) (λ q. entries-before cs _ l l q ∙ d .on l q)
+              (λ q. let f : l ≡ j = omega (arith, e) in
+              rw f (entries-last cs _ j ∙ subst (λ (k : ℕ). nth (c ++ (wholeRoot rest ∷ [])) k ≡ wholeRoot rest) h (nth-last c (wholeRoot rest))
+              ∙ ap wholeRoot (g .rest-is ∙ ap (λ (k : ℕ). leftOf H k j j) h)));
+          tests = λ l m.
+              by-cases (decLt l j) (d .tests l)
+              (λ q. let f : l ≡ j = omega (arith, e) in rw f (record { top = top; above = λ k p. g .above k (omega arith) }));
         }
-      where
-        off-at : (k l : ℕ) → k < l → l < suc j → Dec (l < j) → entries (cs ++ ((c ++ (wholeRoot rest ∷ [])) ∷ [])) k l ≡ r k l
-        off-at k l m p (yes q) = entries-before cs _ k l q ∙ d .off k l m q
-        off-at k l m p (no q) =
-            let f : l ≡ j = omega arith in
-            rw f (entries-last cs _ k ∙ nth-before c (wholeRoot rest) k (omega arith) ∙ g .now k (omega arith))
-
-        on-at : (l : ℕ) → l < suc j → Dec (l < j) → entries (cs ++ ((c ++ (wholeRoot rest ∷ [])) ∷ [])) l l ≡ wholeRoot (leftOf H l l l)
-        on-at l m (yes q) = entries-before cs _ l l q ∙ d .on l q
-        on-at l m (no q) =
-            let f : l ≡ j = omega arith in
-            rw f (entries-last cs _ j ∙ subst (λ (k : ℕ). nth (c ++ (wholeRoot rest ∷ [])) k ≡ wholeRoot rest) h (nth-last c (wholeRoot rest))
-            ∙ ap wholeRoot (g .rest-is ∙ ap (λ (k : ℕ). leftOf H k j j) h))
-
-        tests-at : (l : ℕ) → l < suc j → Dec (l < j) → ColumnPasses l
-        tests-at l m (yes q) = d .tests l q
-        tests-at l m (no q) = let f : l ≡ j = omega arith in rw f (record { top = top; above = λ k p. g .above k (omega arith) })
 
     column-held : T (nextColumn H cs .done) → Held (cs ++ (nextColumn H cs .column ∷ []))
     column-held =
@@ -269,11 +243,11 @@ module _ (H : Matrix) where
 
     column-of-rows : ((i : ℕ) → i < n → RowPasses (leftOf H i) i n) → (j : ℕ) → j < n → ColumnPasses j
     unfolding leftOf
-    column-of-rows f j h = record { top = top (decLt 0 j); above = λ k l. f k (omega arith) .later j l h }
-      where
-        top : Dec (0 < j) → pos 1 ≤ℤ H j j
-        top (yes q) = ≤ℤ-trans (f 0 (omega arith) .later j q h .some) (reduced-≤ H 0 j)
-        top (no q) = let e : j ≡ 0 = omega arith in rw e (f 0 (omega arith) .first)
+    column-of-rows f j h = record {
+      top = by-cases (decLt 0 j) (λ q. ≤ℤ-trans (f 0 (omega arith) .later j q h .some) (reduced-≤ H 0 j))
+          (λ q. let e : j ≡ 0 = omega arith in rw e (f 0 (omega arith) .first));
+      above = λ k l. f k (omega arith) .later j l h;
+    }
 
     -- where factoring ends, each row passes
     pub ends-rows : factoring n H .ends ≡ true → (i : ℕ) → i < n → RowPasses (leftOf H i) i n

@@ -1,6 +1,7 @@
 -- A row step, column by column and entry by entry.
 use mathlib.Core.Path.{_≡_, refl, sym, ap, ap₂, _∙_, subst}
 use mathlib.Core.Bool.{Bool, true, false}
+use mathlib.Core.Logic.{by-cases}
 use mathlib.Core.List.{List, [], _∷_}
 use Prim.Native.Nat.{ℕ, suc, _+_, _*_, _≤_, _<_}
 use native.Mathlib.Omega.{arith}
@@ -24,7 +25,7 @@ use Rattle.tables.proofs.Checks.{of-true, and-first-false}
 use Rattle.cholesky.specs.Factoring.{goesOn}
 use Rattle.cholesky.specs.Store.{upper, stride}
 use Rattle.cholesky.specs.Reduced.{rowEntry, reduced}
-use Rattle.cholesky.specs.Rows.{productRange, restRange, Factorable, Rowed, Subtracted, ColumnTaken, RowDone, ColumnsTaken, RowTaken}
+use Rattle.cholesky.specs.Rows.{productRange, Factorable, Rowed, Subtracted, ColumnTaken, RowDone, ColumnsTaken, RowTaken}
 use Rattle.cholesky.proofs.Loops.{passes}
 use Rattle.cholesky.proofs.Store.{upper-same, upper-other}
 use Rattle.cholesky.proofs.Reduced.{reduced-≤}
@@ -44,13 +45,11 @@ module _ {s : List ℤ} {i j : ℕ} {r : ℤ} where
     taken-more h k l {v} e =
         record {
           size = length-set s′ (stride * j + m) v ∙ w .size;
-          taken = λ a p q. go a p q (ℕ-discrete a m);
+          taken = λ a p q.
+              by-cases (ℕ-discrete a m) (λ u. rw u (upper-same s′ m j v (omega (arith, w .size)) ∙ e))
+              (λ u. upper-other s′ m j v a j (omega arith) ∙ w .taken a p (omega arith));
           kept = λ a b p f. upper-other s′ m j v a b (λ q. f (omega arith) (omega arith) (omega arith)) ∙ w .kept a b p (λ q g u. f q g (omega arith));
         }
-      where
-        go : (a : ℕ) → i < a → a < suc m → Dec (a ≡ m) → upper (set s′ (stride * j + m) v) a j ≡ upper s a j -ℤ upper s i a *ℤ r
-        go a p q (yes u) = rw u (upper-same s′ m j v (omega (arith, w .size)) ∙ e)
-        go a p q (no u) = upper-other s′ m j v a j (omega arith) ∙ w .taken a p (omega arith)
 
   -- 64 bits hold the product that comes next, and what it leaves
   module _ {m : ℕ} {s′ : List ℤ} (w : Subtracted s i j r m s′) (d : Rowed s i j (suc j)) (h : Within factorRange r) (p : i < m) (q : m ≤ j) where
@@ -83,13 +82,9 @@ module _ {s : List ℤ} {i j : ℕ} (d : Rowed s i j j) (r : ℤ) where
         size = length-set s (stride * j + i) r ∙ d .size;
         inside = d .inside;
         before = d .before;
-        row = λ k p q. go k p q (ℕ-discrete k j);
+        row = λ k p q. by-cases (ℕ-discrete k j) (λ e. rw (e, same) h) (λ e. rw (upper-other s i j r i k (omega arith)) (d .row k p (omega arith)));
         heights = λ k p q. let inside = d .inside in rw (upper-other s i j r k j (omega arith)) (d .heights k p q);
       }
-    where
-      go : (k : ℕ) → i < k → k < suc j → Dec (k ≡ j) → Within factorRange (upper stored i k)
-      go k p q (yes e) = rw (e, same) h
-      go k p q (no e) = rw (upper-other s i j r i k (omega arith)) (d .row k p (omega arith))
 
   -- the entry is out of a factor's range
   pub column-out : within factorRange r ≡ false → ColumnTaken s i j r false stored
@@ -163,12 +158,11 @@ module _ {s : List ℤ} {e i : ℕ} (z : Factorable s e i) where
           inside = omega arith;
           before = p;
           row = λ k u v. rw (w .done .row k u v) (small (w .done) u v);
-          heights = λ k u v. rw (w .todo k j (omega arith) v (omega arith) q) (go k u v (ℕ-discrete k j));
+          heights = λ k u v.
+              rw (w .todo k j (omega arith) v (omega arith) q)
+              (by-cases (ℕ-discrete k j) (λ x. rw x (within-more (omega arith) (z .on j (omega arith) q)))
+              (λ x. within-more (omega (arith, z .order)) (z .off k j (omega arith) (omega arith) q)));
         }
-      where
-        go : (k : ℕ) → i < k → k ≤ j → Dec (k ≡ j) → Within restRange (upper s k j)
-        go k u v (yes x) = rw x (within-more (omega arith) (z .on j (omega arith) q))
-        go k u v (no x) = within-more (omega (arith, z .order)) (z .off k j (omega arith) (omega arith) q)
 
     entry-is : floorDiv (upper s′ i j) (wholeRoot (S i i)) ≡ rowEntry S i j
     unfolding rowEntry
@@ -196,20 +190,15 @@ module _ {s : List ℤ} {e i : ℕ} (z : Factorable s e i) where
       going-stops f = record { past = p; bound = omega arith; done = before-is; stop = λ h. (c .stored ∙ entry-is, sym test-is ∙ f) }
 
       module _ (goes : answer ≡ true) where
-        row-at : (k : ℕ) → i < k → k < suc j → Dec (k ≡ j) → upper s″ i k ≡ rowEntry S i k
-        row-at k u v (yes x) = rw x (c .stored ∙ entry-is)
-        row-at k u v (no x) = before-is .row k u (omega arith)
+        row-at : (k : ℕ) → i < k → k < suc j → upper s″ i k ≡ rowEntry S i k
+        row-at k u v = by-cases (ℕ-discrete k j) (λ x. rw x (c .stored ∙ entry-is)) (λ x. before-is .row k u (omega arith))
 
-        tests-at : (k : ℕ) → i < k → k < suc j → Dec (k ≡ j) → goesOn (rowEntry S i k) (reduced S i k k) ≡ true
-        tests-at k u v (yes x) = rw x (sym test-is ∙ goes)
-        tests-at k u v (no x) = before-is .tests k u (omega arith)
-
-        left-at : (a b : ℕ) → i < a → a ≤ b → b < suc j → Dec (b ≡ j) → upper s″ a b ≡ reduced S i a b
+        left-at : (a b : ℕ) → i < a → a ≤ b → b < suc j → upper s″ a b ≡ reduced S i a b
         unfolding reduced
-        left-at a b t u v (yes x) =
-            rw x (c .taken goes a t (omega arith)
-            ∙ rw (w .todo a j (omega arith) (omega arith) (omega arith) q, row-at a t (omega arith) (ℕ-discrete a j), entry-is) refl)
-        left-at a b t u v (no x) = before-is .left a b t u (omega arith)
+        left-at a b t u v =
+            by-cases (ℕ-discrete b j)
+            (λ x. rw x (c .taken goes a t (omega arith) ∙ rw (w .todo a j (omega arith) (omega arith) (omega arith) q, row-at a t (omega arith), entry-is) refl))
+            (λ x. before-is .left a b t u (omega arith))
 
         pub going-on : RowGoing s i e (suc j) s″
         going-on =
@@ -217,9 +206,9 @@ module _ {s : List ℤ} {e i : ℕ} (z : Factorable s e i) where
             record {
               done = record {
                 size = c .size;
-                row = λ k u v. row-at k u v (ℕ-discrete k j);
-                tests = λ k u v. tests-at k u v (ℕ-discrete k j);
-                left = λ a b t u v. left-at a b t u v (ℕ-discrete b j);
+                row = row-at;
+                tests = λ k u v. by-cases (ℕ-discrete k j) (λ x. rw x (sym test-is ∙ goes)) (λ x. before-is .tests k u (omega arith));
+                left = left-at;
                 above = before-is .above;
               };
               todo = λ a b t u v l. c .kept a b (omega arith) (λ x m. absurd (omega arith)) ∙ w .todo a b t u (omega arith) l;

@@ -1,6 +1,6 @@
 -- The matrix H that is factored: its entries, its symmetry, and how large its diagonal gets, for any order n and any take-off τ that suffices for it.
 use mathlib.Core.Path.{_≡_, sym, _∙_}
-use mathlib.Core.Logic.{_≢_}
+use mathlib.Core.Logic.{_≢_, by-cases}
 use mathlib.Core.List.{[], _∷_}
 use Prim.Native.Nat.{ℕ, _≤_, _<_}
 use native.Mathlib.Omega.{arith}
@@ -41,12 +41,9 @@ module _ (τ : ℤ) (n : ℕ) (L U : Matrix) (b : Bounds n L U) where
   H = scaledBy τ n L U
 
   pub scaled-symmetric : (i j : ℕ) → i < n → j < n → H i j ≡ H j i
-  scaled-symmetric i j h k = go (ℕ-discrete i j)
-    where
-      go : Dec (i ≡ j) → H i j ≡ H j i
-      go (yes e) = rw e
-      go (no d) =
-          scaled-off τ n L U i j d ∙ rw (b .low-symmetric i j h k, b .high-symmetric i j h k) (sym (scaled-off τ n L U j i (omega arith)))
+  scaled-symmetric i j h k =
+      by-cases (ℕ-discrete i j) (λ e. rw e)
+      (λ d. scaled-off τ n L U i j d ∙ rw (b .low-symmetric i j h k, b .high-symmetric i j h k) (sym (scaled-off τ n L U j i (omega arith))))
 
   width-nonneg : (i : ℕ) → i < n → pos 0 ≤ℤ rowWidth n L U i
   unfolding rowWidth

@@ -1,6 +1,7 @@
 -- Row after row: what stands in the table, and where a column stopped.
 use mathlib.Core.Path.{_≡_, refl, sym, ap, _∙_, subst}
 use mathlib.Core.Bool.{true, false}
+use mathlib.Core.Logic.{by-cases}
 use mathlib.Core.List.{List}
 use Prim.Native.Nat.{ℕ, zero, suc, _≤_, _<_}
 use native.Mathlib.Omega.{arith}
@@ -37,16 +38,14 @@ module _ {H : Matrix} {t : List ℤ} {i e : ℕ} (w : Walked H t i e) (h : i < e
       record {
         left = left-factorable (w .left) o x;
         agree = record { entries = λ a b p q l. x .left a b p q l ∙ reduced-ext e (w .agree) .entries a b p q (omega arith) };
-        passed = λ k q. go k q (ℕ-discrete k i);
+        passed = λ k q.
+            by-cases (ℕ-discrete k i)
+            (λ u. rw u (record {
+              first = rw (← w .agree .entries i i (omega arith) (omega arith) h) one;
+              later = λ j p l. passes _ _ (of-true (sym (test-is j p (omega arith)) ∙ x .tests j p l));
+            }))
+            (λ u. let f = w .passed k (omega arith) in record { first = f .first; later = λ j p l. f .later j p (omega arith) });
       }
-    where
-      go : (k : ℕ) → k < suc i → Dec (k ≡ i) → RowPasses (leftOf H k) k r
-      go k q (yes u) =
-          rw u (record {
-            first = rw (← w .agree .entries i i (omega arith) (omega arith) h) one;
-            later = λ j p l. passes _ _ (of-true (sym (test-is j p (omega arith)) ∙ x .tests j p l));
-          })
-      go k q (no u) = let f = w .passed k (omega arith) in record { first = f .first; later = λ j p l. f .later j p (omega arith) }
 
   -- a row that a column stops does not pass
   pub walked-stop : {t′ : List ℤ} {r : ℕ} → ColumnsTaken t i e r t′ → r < e → RowPasses (leftOf H i) i e → ⊥
@@ -115,17 +114,13 @@ module _ {H : Matrix} {t : List ℤ} {i e : ℕ} (s : Rows H t i e) (h : i < e) 
         record {
           walked = walked-row (s .walked) h rows-some (x .bound) (x .done);
           top = λ l p. s .top l (omega arith);
-          off = λ k l p q o. off-at k l p q o (ℕ-discrete k i);
-          on = λ k p q. on-at k p q (ℕ-discrete k i);
+          off = λ k l p q o.
+              by-cases (ℕ-discrete k i) (λ u. rw u (x .done .row l (omega arith) o ∙ row-is l (omega arith) (omega (arith, x .bound))))
+              (λ u. x .done .above k l (omega arith) ∙ s .off k l (omega arith) q (omega (arith, x .bound)));
+          on = λ k p q.
+              by-cases (ℕ-discrete k i) (λ u. rw u (y .root ∙ ap wholeRoot (s .walked .agree .entries i i (omega arith) (omega arith) h)))
+              (λ u. x .done .above k k (omega arith) ∙ s .on k (omega arith) (omega arith));
         }
-      where
-        off-at : (k l : ℕ) → k < suc i → k < l → l < r → Dec (k ≡ i) → upper t′ k l ≡ rowEntry (leftOf H k) k l
-        off-at k l p q o (yes u) = rw u (x .done .row l (omega arith) o ∙ row-is l (omega arith) (omega (arith, x .bound)))
-        off-at k l p q o (no u) = x .done .above k l (omega arith) ∙ s .off k l (omega arith) q (omega (arith, x .bound))
-
-        on-at : (k : ℕ) → k < suc i → k < r → Dec (k ≡ i) → upper t′ k k ≡ wholeRoot (leftOf H k k k)
-        on-at k p q (yes u) = rw u (y .root ∙ ap wholeRoot (s .walked .agree .entries i i (omega arith) (omega arith) h))
-        on-at k p q (no u) = x .done .above k k (omega arith) ∙ s .on k (omega arith) (omega arith)
 
     -- column r stopped
     pub stop-now : r < e → Stop H t′ r (suc i)
@@ -134,16 +129,14 @@ module _ {H : Matrix} {t : List ℤ} {i e : ℕ} (s : Rows H t i e) (h : i < e) 
         let past = x .past in
         record {
           rows = x .past;
-          here = λ k p. here-at k p (ℕ-discrete k i);
+          here = λ k p.
+              by-cases (ℕ-discrete k i) (λ u. rw u (x .stop o .0 ∙ row-is r (omega (arith, x .past)) o))
+              (λ u. x .done .above k r (omega arith) ∙ s .off k r (omega arith) (omega (arith, x .past)) o);
           tests = λ k p. true-of _ (goes-on _ _ (s .walked .passed k (omega arith) .later r (omega arith) o));
           top = λ p. s .top r o;
           none = λ p. absurd (omega arith);
           last = λ k p. let q : k ≡ i = omega arith in rw q (sym (test-is (s .walked) h r (x .past) o) ∙ x .stop o .1);
         }
-      where
-        here-at : (k : ℕ) → k < suc i → Dec (k ≡ i) → upper t′ k r ≡ rowEntry (leftOf H k) k r
-        here-at k p (yes u) = rw u (x .stop o .0 ∙ row-is r (omega (arith, x .past)) o)
-        here-at k p (no u) = x .done .above k r (omega arith) ∙ s .off k r (omega arith) (omega (arith, x .past)) o
 
     -- a stop seen before stays
     pub stop-kept : {j m : ℕ} → m ≤ i → Stop H t j m → Stop H t′ j m

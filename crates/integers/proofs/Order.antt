@@ -1,9 +1,9 @@
 -- Orders of products, squares, absolute values, and of the smaller and the greater of two integers.
 use mathlib.Core.Path.{_≡_, refl}
 use mathlib.Core.Bool.{Bool, true, false}
-use mathlib.Core.Logic.{_⊎_, inl, inr}
+use mathlib.Core.Logic.{_⊎_, inl, inr, ⊎-elim}
 use mathlib.Core.List.{[], _∷_}
-use Prim.Native.Nat.{zero, suc, _*_}
+use Prim.Native.Nat.{zero, suc}
 use native.Mathlib.Omega.{arith}
 use lib.Dec.{T}
 use lib.IntN.{ℤ, pos, negsuc, negℤ, _+ℤ_, _*ℤ_}
@@ -22,22 +22,14 @@ pub <-≤ : {x y : ℤ} → x <ℤ y → x ≤ℤ y
 <-≤ {x} {y} h = order (x ∷ y ∷ []) h (search solver depth 40 fits 20000) (omega arith)
 
 pub ≤ℤ-total : (x y : ℤ) → (x ≤ℤ y) ⊎ (y ≤ℤ x)
-≤ℤ-total x y = go (≤ℤ-or-<ℤ x y)
-  where
-    go : (x ≤ℤ y) ⊎ (y <ℤ x) → (x ≤ℤ y) ⊎ (y ≤ℤ x)
-    go (inl h) = inl h
-    go (inr h) = inr (<-≤ h)
+≤ℤ-total x y = ⊎-elim (λ h. inl h) (λ h. inr (<-≤ h)) (≤ℤ-or-<ℤ x y)
 
 pub <-suc : {x y : ℤ} → x <ℤ y → (x +ℤ pos 1) ≤ℤ y
 <-suc {x} {y} h = order (x ∷ y ∷ []) h (search solver depth 40 fits 20000) (omega arith)
 
 -- by contradiction: y < x is absurd
 pub ≤-unless : {x y : ℤ} → (y <ℤ x → x ≤ℤ y) → x ≤ℤ y
-≤-unless {x} {y} f = go (≤ℤ-or-<ℤ x y)
-  where
-    go : (x ≤ℤ y) ⊎ (y <ℤ x) → x ≤ℤ y
-    go (inl h) = h
-    go (inr h) = f h
+≤-unless {x} {y} f = ⊎-elim (λ h. h) f (≤ℤ-or-<ℤ x y)
 
 -- ---- products
 pub *ℤ-mono : {c x y : ℤ} → pos 0 ≤ℤ c → x ≤ℤ y → (c *ℤ x) ≤ℤ (c *ℤ y)
@@ -87,11 +79,6 @@ pub abs-square : (x : ℤ) → absℤ x *ℤ absℤ x ≡ x *ℤ x
 unfolding absℤ
 abs-square (pos a) = refl
 abs-square (negsuc a) = refl
-
-pub abs-+ : (x y : ℤ) → absℤ (x +ℤ y) ≤ℤ (absℤ x +ℤ absℤ y)
-abs-+ x y =
-    abs-≤ (order (x ∷ y ∷ absℤ x ∷ absℤ y ∷ []) (≤-abs x & ≤-abs y) (search solver depth 40 fits 20000) (omega arith))
-    (order (x ∷ y ∷ absℤ x ∷ absℤ y ∷ []) (neg-≤-abs x & neg-≤-abs y) (search solver depth 40 fits 20000) (omega arith))
 
 -- ---- the smaller and the greater of two
 leZ-by : (x y : ℤ) (P : Bool → Type 0) → (x ≤ℤ y → P true) → (y ≤ℤ x → P false) → P (leZ x y)

@@ -2,7 +2,7 @@
 -- Nothing outside this file takes an integer apart by `pos` and `negsuc` but for a definition's own cases.
 use mathlib.Core.Path.{_≡_, refl, ap, subst}
 use mathlib.Core.Bool.{Bool, true, false, not, cond}
-use mathlib.Core.Logic.{_⊎_, inl, inr}
+use mathlib.Core.Logic.{_⊎_, inl, inr, by-cases}
 use Prim.Native.Nat.{ℕ, zero, suc, _+_, _*_, _-_, _<_, _≤_}
 use native.Mathlib.Omega.{arith}
 use native.Mathlib.Decide.{decLe}
@@ -129,11 +129,7 @@ pub ≤ℤ-antisym : {x y : ℤ} → x ≤ℤ y → y ≤ℤ x → x ≡ y
 ≤ℤ-antisym h k = ≡-in (omega (arith, ≤-out h, ≤-out k))
 
 pub ≤ℤ-or-<ℤ : (x y : ℤ) → (x ≤ℤ y) ⊎ (y <ℤ x)
-≤ℤ-or-<ℤ x y = go (decLe (plus x + minus y) (plus y + minus x))
-  where
-    go : Dec (plus x + minus y ≤ plus y + minus x) → (x ≤ℤ y) ⊎ (y <ℤ x)
-    go (yes h) = inl (≤-in h)
-    go (no h) = inr (<-in (omega arith))
+≤ℤ-or-<ℤ x y = by-cases (decLe (plus x + minus y) (plus y + minus x)) (λ h. inl (≤-in h)) (λ h. inr (<-in (omega arith)))
 
 -- the test of an order
 pub leZ-true : {x y : ℤ} → x ≤ℤ y → leZ x y ≡ true

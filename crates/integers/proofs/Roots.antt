@@ -1,6 +1,7 @@
 -- Laws of whole roots.
 use mathlib.Core.Path.{_≡_}
 use mathlib.Core.Bool.{Bool, true, false, not}
+use mathlib.Core.Logic.{by-cases}
 use mathlib.Core.List.{[], _∷_}
 use Prim.Native.Nat.{ℕ, zero, suc, _+_, _*_, _-_, _/_, _≤_, _<_}
 use native.Mathlib.Nat.{mul-le-mul, mul-le-mul-left, mul-div-le, lt-mul-div-succ}
@@ -120,14 +121,12 @@ leastRoot-least t b s h k l = rootAbove-least (ceilDiv b t) s k (ceil-least b t 
 
 -- ---- Newton's step s = (r + x / r) / 2
 means : (a b : ℕ) → 4 * (a * b) ≤ (a + b) * (a + b)
-means a b = go (decLe a b)
+means a b =
+    by-cases (decLe a b) (λ h. let e : a + (b - a) ≡ b = omega arith in rw e at (gap a (b - a) .0))
+    (λ h. let e : b + (a - b) ≡ a = omega arith in rw e at (gap b (a - b) .1))
   where
     gap : (a d : ℕ) → (4 * (a * (a + d)) ≤ (a + (a + d)) * (a + (a + d))) × (4 * ((a + d) * a) ≤ (a + d + a) * (a + d + a))
     gap a d = omega arith
-
-    go : Dec (a ≤ b) → 4 * (a * b) ≤ (a + b) * (a + b)
-    go (yes h) = let e : a + (b - a) ≡ b = omega arith in rw e at (gap a (b - a) .0)
-    go (no h) = let e : b + (a - b) ≡ a = omega arith in rw e at (gap b (a - b) .1)
 
 -- it is not below the root, whatever r was
 pub newton-above : (x r : ℕ) → 0 < r → x < ((r + x / r) / 2 + 1) * ((r + x / r) / 2 + 1)
@@ -138,8 +137,5 @@ newton-above x r h = within (x / r) ((r + x / r) / 2) (lt-mul-div-succ x h) (ome
 
 -- and from an r above the root it falls
 pub newton-falls : (x r : ℕ) → x < r * r → (r + x / r) / 2 < r
-newton-falls x r h = go (decLt (x / r) r)
-  where
-    go : Dec (x / r < r) → (r + x / r) / 2 < r
-    go (yes k) = omega arith
-    go (no k) = let l : r ≤ x / r = omega arith in omega (arith, mul-div-le x r, mul-le-mul-left r l)
+newton-falls x r h =
+    by-cases (decLt (x / r) r) (λ k. omega arith) (λ k. let l : r ≤ x / r = omega arith in omega (arith, mul-div-le x r, mul-le-mul-left r l))

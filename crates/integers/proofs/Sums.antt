@@ -1,9 +1,9 @@
 -- Laws of finite sums, for any length.
 use mathlib.Core.Path.{_≡_, refl, sym, ap, ap₂, _∙_, subst}
 use mathlib.Core.Bool.{Bool, true, false}
-use mathlib.Core.Logic.{_≢_}
+use mathlib.Core.Logic.{_≢_, by-cases}
 use mathlib.Core.List.{[], _∷_}
-use Prim.Native.Nat.{ℕ, zero, suc, _+_, _≤_, _<_}
+use Prim.Native.Nat.{ℕ, zero, suc, _≤_, _<_}
 use native.Mathlib.Omega.{arith}
 use native.Mathlib.Decide.{ℕ-discrete}
 use lib.Dec.{T, eqb, eqb→eq, eqb-refl}
@@ -78,13 +78,10 @@ sum-nonneg (suc n) f h = +ℤ-mono (sum-nonneg n f (λ i k. h i (omega arith))) 
 -- ---- a prefix of which the rest is 0
 pub sum-prefix : (n m : ℕ) (f : ℕ → ℤ) → m ≤ n → ((k : ℕ) → m ≤ k → k < n → f k ≡ pos 0) → sum n f ≡ sum m f
 sum-prefix zero m f h z = let e : m ≡ 0 = omega arith in rw e refl
-sum-prefix (suc n) m f h z = go (ℕ-discrete m (suc n)) (λ k. sum-prefix n m f k (λ k a b. z k a (omega arith)))
-  where
-    go : Dec (m ≡ suc n) → (m ≤ n → sum n f ≡ sum m f) → sum (suc n) f ≡ sum m f
-    go (yes e) ih = rw e refl
-    go (no e) ih =
-        order (sum (suc n) f ∷ sum n f ∷ sum m f ∷ f n ∷ [])
-        (sum-suc n f & ih (omega arith) & z n (omega arith) (omega arith)) (search solver depth 40 fits 20000) (omega arith)
+sum-prefix (suc n) m f h z =
+    by-cases (ℕ-discrete m (suc n)) (λ e. rw e refl)
+    (λ e. order (sum (suc n) f ∷ sum n f ∷ sum m f ∷ f n ∷ [])
+    (sum-suc n f & sum-prefix n m f (omega arith) (λ k a b. z k a (omega arith)) & z n (omega arith) (omega arith)) (search solver depth 40 fits 20000) (omega arith))
 
 -- ---- one index, and all but one: by cases on i = j
 pub eqb-by : (i j : ℕ) (P : Bool → Type 0) → (i ≡ j → P true) → (i ≢ j → P false) → P (eqb i j)
@@ -116,11 +113,7 @@ pub except-other : (i j : ℕ) (x : ℤ) → i ≢ j → except i j x ≡ x
 except-other i j x h = except-by i j x x (λ z w. z ≡ x) (λ e. absurd (h e)) (λ k. refl)
 
 pub except-sym : (i j : ℕ) (x : ℤ) → except i j x ≡ except j i x
-except-sym i j x = go (ℕ-discrete i j)
-  where
-    go : Dec (i ≡ j) → except i j x ≡ except j i x
-    go (yes e) = rw e
-    go (no h) = except-other i j x h ∙ sym (except-other j i x (omega arith))
+except-sym i j x = by-cases (ℕ-discrete i j) (λ e. rw e) (λ h. except-other i j x h ∙ sym (except-other j i x (omega arith)))
 
 pub except-mono : (i j : ℕ) {x y : ℤ} → (i ≢ j → x ≤ℤ y) → except i j x ≤ℤ except i j y
 except-mono i j {x} {y} h = except-by i j x y (λ z w. z ≤ℤ w) (λ e. ≤ℤ-refl (pos 0)) h
@@ -138,15 +131,11 @@ sumExcept-* n i c f = sum-ext n _ _ (λ j k. except-* i j c (f j)) ∙ sum-* n c
 pub sum-at : (n i : ℕ) (f : ℕ → ℤ) → i < n → sum n f ≡ f i +ℤ sumExcept n i f
 unfolding sum
 sum-at zero i f h = absurd (omega arith)
-sum-at (suc n) i f h = go (ℕ-discrete i n) (sum-at n i f)
-  where
-    below : sumExcept n n f ≡ sum n f
-    below = sum-ext n (λ j. except n j (f j)) f (λ j k. except-other n j (f j) (omega arith))
-
-    go : Dec (i ≡ n) → (i < n → sum n f ≡ f i +ℤ sumExcept n i f) → sum n f +ℤ f n ≡ f i +ℤ (sumExcept n i f +ℤ except i n (f n))
-    go (yes e) ih = rw (e, except-same n (f n), below) (ring (sum n f ∷ f n ∷ []) (search solver depth 40 fits 20000) refl)
-    go (no k) ih =
-        rw (ih (omega arith), except-other i n (f n) k) (ring (sumExcept n i f ∷ f i ∷ f n ∷ []) (search solver depth 40 fits 20000) refl)
+sum-at (suc n) i f h =
+    let below : sumExcept n n f ≡ sum n f = sum-ext n (λ j. except n j (f j)) f (λ j k. except-other n j (f j) (omega arith)) in
+    by-cases (ℕ-discrete i n)
+    (λ e. rw (e, except-same n (f n), below) (ring (sum n f ∷ f n ∷ []) (search solver depth 40 fits 20000) refl))
+    (λ k. rw (sum-at n i f (omega arith), except-other i n (f n) k) (ring (sumExcept n i f ∷ f i ∷ f n ∷ []) (search solver depth 40 fits 20000) refl))
 
 -- a sum of which one term is not 0
 pub sum-single : (n m : ℕ) (f : ℕ → ℤ) → m < n → ((i : ℕ) → i < n → m ≢ i → f i ≡ pos 0) → sum n f ≡ f m
