@@ -2,7 +2,7 @@
 use mathlib.Core.Path.{_≡_, refl, sym, ap, ap₂, _∙_}
 use mathlib.Core.Bool.{Bool, true, false, _&&_}
 use mathlib.Core.List.{List, [], _∷_}
-use Prim.Native.Nat.{ℕ, zero, suc, _+_, _*_, _-_, _≤_, _<_}
+use Prim.Native.Nat.{ℕ, zero, suc, _+_, _*_, _≤_, _<_}
 use native.Mathlib.Omega.{arith}
 use lib.Dec.{leb}
 use lib.IntN.{ℤ, pos, _+ℤ_}
@@ -19,22 +19,7 @@ use Rattle.tables.specs.Ranges.{greatestOrder, tableRoom}
 use Rattle.tables.specs.Matrix.{Matrix, at, nth}
 use Rattle.lookahead.specs.declared.least.Share.{Share}
 use Rattle.lookahead.specs.Pairs.{sameSign, otherSign, more, openRange, sumRange, raisedRange, leastRange, PairTables, OpenShares}
-use Rattle.lookahead.specs.LeastSums.{
-  leastOf,
-  least,
-  lookAhead,
-  passedOver,
-  leastChoice,
-  raised,
-  leastOne,
-  shareAfter,
-  sharesAfter,
-  leastShares,
-  shareAt,
-  ShareWithin,
-  AllWithin,
-  LastShares,
-}
+use Rattle.lookahead.specs.LeastSums.{leastOf, least, lookAhead, passedOver, leastChoice, raised, leastOne, shareAfter, sharesAfter, leastShares, shareAt, ShareWithin, AllWithin, LastShares}
 use Rattle.lookahead.proofs.Sizes.{row-small}
 
 -- ---- sums of numbers as the machine reads them

@@ -1,6 +1,7 @@
 -- Laws of check 6, of an offered factor.
 use mathlib.Core.Path.{_≡_, refl, sym, _∙_}
 use mathlib.Core.Bool.{true, false, _&&_}
+use mathlib.Core.Logic.{by-cases}
 use Prim.Native.Nat.{ℕ, _≤_, _<_, compare, Ordering, Ordering·lt, Ordering·eq, Ordering·gt}
 use native.Mathlib.Decide.{ℕ-discrete, decLt}
 use native.Mathlib.Omega.{arith}
@@ -80,9 +81,7 @@ module _ (n : ℕ) (R : Matrix) (e : factorShape n R ≡ true) where
   factor-diagonal-range j h = le-of (R j j) (pos factorRange) (and-right (leZ (pos 1) (R j j)) _ (on-diagonal j h))
 
   pub factor-within : (i j : ℕ) → i < n → j < n → Within factorRange (R i j)
-  factor-within i j h k = go (decLt i j) (ℕ-discrete i j)
-    where
-      go : Dec (i < j) → Dec (i ≡ j) → Within factorRange (R i j)
-      go (yes l) d = within-of factorRange (R i j) (sym (factor-entry-above i j (R i j) l) ∙ entry-ok i j h k)
-      go (no l) (yes d) = rw d (within-in (≤ℤ-trans (record { le = tt }) (factor-diagonal j k)) (factor-diagonal-range j k))
-      go (no l) (no d) = rw (factor-below i j (omega arith) h) (record { size = omega arith })
+  factor-within i j h k =
+      by-cases (decLt i j) (λ l. within-of factorRange (R i j) (sym (factor-entry-above i j (R i j) l) ∙ entry-ok i j h k))
+      (λ l. by-cases (ℕ-discrete i j) (λ d. rw d (within-in (≤ℤ-trans (record { le = tt }) (factor-diagonal j k)) (factor-diagonal-range j k)))
+      (λ d. rw (factor-below i j (omega arith) h) (record { size = omega arith })))

@@ -1,13 +1,13 @@
 -- What the rows have over, and the residual test.
 use mathlib.Core.Path.{_≡_, sym, ap, _∙_}
+use mathlib.Core.Logic.{by-cases}
 use mathlib.Core.List.{List, [], _∷_}
-use Prim.Native.Nat.{ℕ, suc, _+_, _*_, _≤_, _<_}
+use Prim.Native.Nat.{ℕ, suc, _≤_, _<_}
 use native.Mathlib.Omega.{arith}
-use native.Mathlib.Decide.{decLt}
+use native.Mathlib.Decide.{decLt, ℕ-discrete}
 use lib.IntN.{ℤ, pos, _+ℤ_, _-ℤ_, _*ℤ_, *ℤ-comm, zero-*ℤ}
 use lib.Signed.{leZ}
 use lib.ListN.{length}
-use Rattle.integers.specs.Numbers.{Within}
 use Rattle.integers.specs.Sum.{sum, sumExcept}
 use Rattle.integers.proofs.Parts.{leZ-true}
 use Rattle.integers.proofs.Solver.{_&_, order, solver}
@@ -78,19 +78,15 @@ module _ {n : ℕ} {f l u : List ℤ} (s : Offer n l u f) where
     pub rows-step : Rows n f l u o′ (suc j)
     rows-step =
         record {
-          within = record { size = x .size; rows = λ i h. within-at i h (decLt i j) };
-          rows = λ i h. row-at i h (decLt i j);
+          within = record {
+            size = x .size;
+            rows = λ i h.
+                by-cases (decLt i j) (λ k. rw (x .before i k) (within-more (omega arith) (within-- (w .within .rows i k) (radius-within s k hj))))
+                (λ k. let e : i ≡ j = omega arith in
+                rw (e, x .own) (within-more (omega arith) (within-- (diagonal-within s hj) (within-sum j residualRange _ (λ i h. radius-within s h hj)))));
+          };
+          rows = λ i h. by-cases (ℕ-discrete i j) (λ e. rw e new-row) (λ k. old-row i (omega arith));
         }
-      where
-        row-at : (i : ℕ) → i < suc j → Dec (i < j) → nth o′ i ≡ over n f l u (suc j) i
-        row-at i h (yes k) = old-row i k
-        row-at i h (no k) = let e : i ≡ j = omega arith in rw e new-row
-
-        within-at : (i : ℕ) → i < suc j → Dec (i < j) → Within (suc j * residualRange) (nth o′ i)
-        within-at i h (yes k) = rw (x .before i k) (within-more (omega arith) (within-- (w .within .rows i k) (radius-within s k hj)))
-        within-at i h (no k) =
-            let e : i ≡ j = omega arith in
-            rw (e, x .own) (within-more (omega arith) (within-- (diagonal-within s hj) (within-sum j residualRange _ (λ i h. radius-within s h hj))))
 
   -- the residual test is that no row has less than 0 over
   pub rows-test : {o : List ℤ} → Rows n f l u o n → all n (λ i. leZ (pos 0) (nth o i)) ≡ accepts n R L U

@@ -1,5 +1,6 @@
 -- The residual test as the code works it out.
 use mathlib.Core.Path.{_≡_, refl, ap, _∙_}
+use mathlib.Core.Logic.{by-cases}
 use mathlib.Core.List.{List, [], _∷_}
 use Prim.Native.Nat.{ℕ, suc, _*_, _^_, _≤_, _<_}
 use native.Mathlib.Omega.{arith}
@@ -135,15 +136,15 @@ module _ {n : ℕ} {f l u : List ℤ} {j : ℕ} {o₀ : List ℤ} (s : Offer n l
     subtracting-next =
         record {
           size = length-set o i _ ∙ w .size;
-          done = λ k h. at-done k (omega arith) (ℕ-discrete k i);
+          done = λ k h.
+              by-cases (ℕ-discrete k i)
+              (λ e. let small = s .factor .order in
+              rw e (getD-set-same o i _ (pos 0) (rw (w .size) (omega arith)) ∙ ap (λ (z : ℤ). z -ℤ radiusAt n f l u i j) (w .rest i (omega arith))))
+              (λ e. getD-set-other o i k _ (pos 0) e ∙ w .done k (omega arith));
           rest = λ k h. getD-set-other o i k _ (pos 0) (omega arith) ∙ w .rest k (omega arith);
           own-is = order (own ∷ at n l j j ∷ gramAt (at n f) j j ∷ radiusAt n f l u i j ∷ sum i (λ k. radiusAt n f l u k j) ∷ sum (suc i) (λ k. radiusAt n f l u k j) ∷ [])
               (w .own-is & sum-suc i (λ k. radiusAt n f l u k j)) (search solver depth 40 fits 20000) (omega arith);
         }
-      where
-        at-done : (k : ℕ) → k < suc i → Dec (k ≡ i) → nth (set o i (nth o i -ℤ radiusAt n f l u i j)) k ≡ nth o₀ k -ℤ radiusAt n f l u k j
-        at-done k h (yes e) = let small = s .factor .order in rw e (getD-set-same o i _ (pos 0) (rw (w .size) (omega arith)) ∙ ap (λ (z : ℤ). z -ℤ radiusAt n f l u i j) (w .rest i (omega arith)))
-        at-done k h (no e) = getD-set-other o i k _ (pos 0) e ∙ w .done k (omega arith)
 
   pub subtracting-end : {o : List ℤ} {own : ℤ} → Subtracting n f l u j o₀ o own j → RadiiSubtracted n f l u j o₀ (set o j own)
   subtracting-end {o} {own} w =

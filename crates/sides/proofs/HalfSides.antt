@@ -1,6 +1,7 @@
 -- From the bounds at the centre to the sides: how large each number gets, the sides as they are written, and the cases of the box.
 use mathlib.Core.Path.{_≡_, refl, sym, ap, _∙_}
 use mathlib.Core.Bool.{Bool, true, false}
+use mathlib.Core.Logic.{by-cases}
 use mathlib.Core.List.{List, [], _∷_, append-assoc}
 use Prim.Native.Nat.{ℕ, zero, suc, _+_, _*_, _<_}
 use native.Mathlib.Omega.{arith}
@@ -100,24 +101,16 @@ module _ {c h : ℕ → ℤ} {x : List ℤ} where
   pub sides-more : {m : ℕ} → m < greatestOrder → SidesIn m c h x → SidesIn (suc m) c h (set (set x (2 * m) (c m -ℤ h m)) (2 * m + 1) (c m +ℤ h m))
   sides-more {m} l w = record {
     size = length-set (set x (2 * m) (c m -ℤ h m)) (2 * m + 1) (c m +ℤ h m) ∙ length-set x (2 * m) (c m -ℤ h m) ∙ w .size;
-    low = λ k p. below k p (ℕ-discrete k m);
-    high = λ k p. above k p (ℕ-discrete k m);
+    low = λ k p.
+        getD-set-other (set x (2 * m) (c m -ℤ h m)) (2 * m + 1) (2 * k) (c m +ℤ h m) (pos 0) (omega arith)
+        ∙ by-cases (ℕ-discrete k m) (λ e. rw e (getD-set-same x (2 * m) (c m -ℤ h m) (pos 0) (omega (arith, w .size))))
+        (λ d. getD-set-other x (2 * m) (2 * k) (c m -ℤ h m) (pos 0) (omega arith) ∙ w .low k (omega arith));
+    high = λ k p.
+        by-cases (ℕ-discrete k m)
+        (λ e. rw e (getD-set-same (set x (2 * m) (c m -ℤ h m)) (2 * m + 1) (c m +ℤ h m) (pos 0) (omega (arith, w .size, length-set x (2 * m) (c m -ℤ h m)))))
+        (λ d. getD-set-other (set x (2 * m) (c m -ℤ h m)) (2 * m + 1) (2 * k + 1) (c m +ℤ h m) (pos 0) (omega arith)
+        ∙ getD-set-other x (2 * m) (2 * k + 1) (c m -ℤ h m) (pos 0) (omega arith) ∙ w .high k (omega arith));
   }
-    where
-      below : (k : ℕ) → k < suc m → Dec (k ≡ m) → nth (set (set x (2 * m) (c m -ℤ h m)) (2 * m + 1) (c m +ℤ h m)) (2 * k) ≡ c k -ℤ h k
-      below k p (yes e) =
-          rw e (getD-set-other (set x (2 * m) (c m -ℤ h m)) (2 * m + 1) (2 * m) (c m +ℤ h m) (pos 0) (omega arith)
-          ∙ getD-set-same x (2 * m) (c m -ℤ h m) (pos 0) (omega (arith, w .size)))
-      below k p (no d) =
-          getD-set-other (set x (2 * m) (c m -ℤ h m)) (2 * m + 1) (2 * k) (c m +ℤ h m) (pos 0) (omega arith)
-          ∙ getD-set-other x (2 * m) (2 * k) (c m -ℤ h m) (pos 0) (omega arith) ∙ w .low k (omega arith)
-
-      above : (k : ℕ) → k < suc m → Dec (k ≡ m) → nth (set (set x (2 * m) (c m -ℤ h m)) (2 * m + 1) (c m +ℤ h m)) (2 * k + 1) ≡ c k +ℤ h k
-      above k p (yes e) =
-          rw e (getD-set-same (set x (2 * m) (c m -ℤ h m)) (2 * m + 1) (c m +ℤ h m) (pos 0) (omega (arith, w .size, length-set x (2 * m) (c m -ℤ h m))))
-      above k p (no d) =
-          getD-set-other (set x (2 * m) (c m -ℤ h m)) (2 * m + 1) (2 * k + 1) (c m +ℤ h m) (pos 0) (omega arith)
-          ∙ getD-set-other x (2 * m) (2 * k + 1) (c m -ℤ h m) (pos 0) (omega arith) ∙ w .high k (omega arith)
 
   sides-fewer : {m : ℕ} → SidesIn (suc m) c h x → SidesIn m c h x
   sides-fewer w = record { size = w .size; low = λ k l. w .low k (omega arith); high = λ k l. w .high k (omega arith) }

@@ -1,5 +1,6 @@
 -- How large the numbers of a solved vector get: 64 bits hold them.
 use mathlib.Core.Path.{_≡_, sym, ap, _∙_}
+use mathlib.Core.Logic.{by-cases}
 use mathlib.Core.List.{List, [], _∷_}
 use Prim.Native.Nat.{ℕ, suc, _+_, _*_, _-_, _≤_, _<_}
 use native.Mathlib.Omega.{arith}
@@ -46,11 +47,9 @@ module _ {t x : List ℤ} {i j : ℕ} (r : Ready t x i j) where
   small-product k h l = within-* (r .row k (omega arith) l) (r .entries k h l)
 
   product-within : (k : ℕ) → i < k → k ≤ j → Within (stopRange * startRange) (upper t i k *ℤ nth x k)
-  product-within k h l = go (decLt k j)
-    where
-      go : Dec (k < j) → Within (stopRange * startRange) (upper t i k *ℤ nth x k)
-      go (yes m) = within-more (omega arith) (small-product k h m)
-      go (no m) = let e : k ≡ j = omega arith in rw e (within-* (r .last) (r .start))
+  product-within k h l =
+      by-cases (decLt k j) (λ m. within-more (omega arith) (small-product k h m))
+      (λ m. let e : k ≡ j = omega arith in rw e (within-* (r .last) (r .start)))
 
   pub product-fits : (k : ℕ) → i < k → k ≤ j → SFits w64 (upper t i k *ℤ nth x k)
   product-fits k h l = fits-within (product-within k h l) (omega arith)

@@ -1,6 +1,7 @@
 -- What a solved vector is: n entries within a vector's range, with s at the stopping column.
 use mathlib.Core.Path.{_≡_, refl, sym, ap, _∙_}
 use mathlib.Core.Bool.{Bool, true, false, false≢true}
+use mathlib.Core.Logic.{by-cases}
 use mathlib.Core.List.{List, [], _∷_}
 use Prim.Native.Nat.{ℕ, zero, suc, _+_, _-_, _≤_, _<_}
 use native.Mathlib.Omega.{arith}
@@ -42,12 +43,8 @@ prolongs-more {i} {x} {xs} {v} w p =
     record {
       size = let s = p .size in omega arith;
       kept = λ k. let e : suc i + k ≡ i + suc k = omega arith in rw e (p .kept (suc k));
-      small = λ k h. at k h (decLt k i);
+      small = λ k h. by-cases (decLt k i) (p .small k) (λ l. let e : k ≡ i + 0 = omega arith in rw (e, p .kept 0) w);
     }
-  where
-    at : (k : ℕ) → k < suc i → Dec (k < i) → Within vectorRange (nth v k)
-    at k h (yes l) = p .small k l
-    at k h (no l) = let e : k ≡ i + 0 = omega arith in rw (e, p .kept 0) w
 
 prolongs : (R : Matrix) (i : ℕ) (xs v : List ℤ) → solvedRows R i xs ≡ v ∷ [] → Prolongs i xs v
 unfolding solvedRows
@@ -85,14 +82,11 @@ module _ (n : ℕ) (f : Factoring) (s : ℤ) {v : List ℤ} (e : solved n f s �
       let m = length (f .stopped) in
       record {
         size = whole .size ∙ rw (length-tabulate (n - m) (λ k. only (m + k) (length (f .columns)) s)) (omega arith);
-        small = λ k l. at k l (decLt k m);
+        small = λ k l.
+            by-cases (decLt k m) (whole .small k)
+            (λ q. rw (kept-at k (omega arith) l)
+            (only-by k (length (f .columns)) s (Within vectorRange) (λ d. within-more (omega arith) w) (λ d. record { size = omega arith })));
       }
-    where
-      at : (k : ℕ) → k < n → Dec (k < length (f .stopped)) → Within vectorRange (nth v k)
-      at k l (yes q) = whole .small k q
-      at k l (no q) =
-          rw (kept-at k (omega arith) l)
-          (only-by k (length (f .columns)) s (Within vectorRange) (λ d. within-more (omega arith) w) (λ d. record { size = omega arith }))
 
 -- ---- the same, of a factoring's table
 module _ {n : ℕ} {t : List ℤ} {j m : ℕ} (a : Stopped n t j m) (s : ℤ) {v : List ℤ} (e : solved n (stoppedAt t j m) s ≡ v ∷ []) where

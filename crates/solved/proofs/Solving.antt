@@ -1,10 +1,11 @@
 -- The walk of the code through the rows, from the last one back: what holds before each, and how the vector comes out.
 use mathlib.Core.Path.{_≡_, refl, sym, ap, ap₂, _∙_}
 use mathlib.Core.Bool.{Bool, true, false}
+use mathlib.Core.Logic.{by-cases}
 use mathlib.Core.List.{List, [], _∷_, _++_}
 use Prim.Native.Nat.{ℕ, zero, suc, _+_, _-_, _≤_, _<_}
 use native.Mathlib.Omega.{arith}
-use native.Mathlib.Decide.{decLt}
+use native.Mathlib.Decide.{ℕ-discrete}
 use lib.IntN.{ℤ, pos, negℤ, _+ℤ_, _*ℤ_, zero-*ℤ}
 use lib.ListN.{length, set, length-set}
 use lib.Seq.{getD-set-same, getD-set-other}
@@ -15,6 +16,7 @@ use Rattle.integers.proofs.Sums.{sum-ext, sum-prefix, only-by, only-same, only-
 use Rattle.tables.specs.Ranges.{greatestOrder, vectorRange}
 use Rattle.tables.specs.Matrix.{Matrix, nth, tabulate}
 use Rattle.tables.specs.Checks.{within}
+use Rattle.tables.specs.Buffers.{Filled}
 use Rattle.tables.proofs.Matrix.{length-tabulate, nth-tabulate, tabulate-ext}
 use Rattle.tables.proofs.Checks.{within-of}
 use Rattle.cholesky.proofs.Store.{length-columnOf, length-columnsOf}
@@ -22,30 +24,15 @@ use Rattle.solved.specs.Solved.{solvedEntry, solvedRows, solved}
 use Rattle.solved.specs.Stopped.{stoppedAt, Stopped, startRange, Started, Ready, rowSum, entryOf, solvedOf}
 use Rattle.solved.proofs.StoppedFactor.{factor, factor-at, factor-past}
 
--- ---- the start: the entries before k are set to 0
-pub record Cleared (x : List ℤ) (k : ℕ) : Type 0 where
-  pub size : length x ≡ greatestOrder
-  pub zeros : (l : ℕ) → l < k → nth x l ≡ pos 0
-
-pub cleared-start : {x : List ℤ} → length x ≡ greatestOrder → Cleared x 0
-cleared-start h = record { size = h; zeros = λ l k. absurd (omega arith) }
-
-module _ {x : List ℤ} where
-  pub cleared-more : {k : ℕ} → k < greatestOrder → Cleared x k → Cleared (set x k (pos 0)) (suc k)
-  cleared-more {k} h c = record { size = length-set x k (pos 0) ∙ c .size; zeros = λ l m. at l m (decLt l k) }
-    where
-      at : (l : ℕ) → l < suc k → Dec (l < k) → nth (set x k (pos 0)) l ≡ pos 0
-      at l m (yes e) = getD-set-other x k l (pos 0) (pos 0) (omega arith) ∙ c .zeros l e
-      at l m (no e) = let f : l ≡ k = omega arith in rw f (getD-set-same x k (pos 0) (pos 0) (omega (arith, c .size)))
-
-  pub cleared-end : {n j : ℕ} {s : ℤ} → j < greatestOrder → Cleared x n → Started n (set x j s) j s
-  cleared-end {n} {j} {s} h c =
-      record {
-        size = length-set x j s ∙ c .size;
-        entries = λ k m.
-            only-by k j s (λ z. nth (set x j s) k ≡ z) (λ e. rw e (getD-set-same x j s (pos 0) (omega (arith, c .size))))
-            (λ d. getD-set-other x j k s (pos 0) d ∙ c .zeros k m);
-      }
+-- ---- the start: all entries are set to 0, and then entry j to s
+pub cleared-end : {x : List ℤ} {n j : ℕ} {s : ℤ} → j < greatestOrder → Filled greatestOrder n (λ k. pos 0) x → Started n (set x j s) j s
+cleared-end {x} {n} {j} {s} h c =
+    record {
+      size = length-set x j s ∙ c .size;
+      entries = λ k m.
+          only-by k j s (λ z. nth (set x j s) k ≡ z) (λ e. rw e (getD-set-same x j s (pos 0) (omega (arith, c .size))))
+          (λ d. getD-set-other x j k s (pos 0) d ∙ c .entries k m);
+    }
 
 -- ---- one row
 module _ (R : Matrix) (i : ℕ) (xs : List ℤ) where
@@ -147,17 +134,13 @@ module _ {n : ℕ} {t : List ℤ} {j m : ℕ} (a : Stopped n t j m) where
         let z = w .size in
         record {
           size = length-set x i (entryOf t x i j) ∙ w .size;
-          small = λ k u v. at k u v (decLt i k);
+          small = λ k u v.
+              by-cases (ℕ-discrete k i) (λ f. rw (f, getD-set-same x i (entryOf t x i j) (pos 0) (omega arith)) (within-of vectorRange _ e))
+              (λ d. rw (getD-set-other x i k (entryOf t x i j) (pos 0) (omega arith)) (w .small k (omega arith) v));
           start = rw (getD-set-other x i j (entryOf t x i j) (pos 0) (omega arith)) (w .start);
           here = w .here ∙ rows-on (factor t j m) i (from n x (suc i)) (rw (entry-is x i h) e)
               ∙ ap (solvedRows (factor t j m) i) (rw (entry-is x i h) (from-more n x i (entryOf t x i j) (omega arith) (omega arith)));
         }
-      where
-        at : (k : ℕ) → i ≤ k → k < j → Dec (i < k) → Within vectorRange (nth (set x i (entryOf t x i j)) k)
-        at k u v (yes d) = rw (getD-set-other x i k (entryOf t x i j) (pos 0) (omega arith)) (w .small k (omega arith) v)
-        at k u v (no d) =
-            let f : k ≡ i = omega arith in
-            rw (f, getD-set-same x i (entryOf t x i j) (pos 0) (omega (arith, a .inside, a .order, a .rows, w .size))) (within-of vectorRange _ e)
 
     -- it passes the range
     pub solving-none : within vectorRange (entryOf t x i j) ≡ false → (x′ : List ℤ) → solved n (stoppedAt t j m) s ≡ solvedOf n false x′

@@ -1,5 +1,6 @@
 -- The factor at a stop, by the numbers of its table.
 use mathlib.Core.Path.{_≡_, ap, _∙_}
+use mathlib.Core.Logic.{by-cases}
 use mathlib.Core.List.{List, []}
 use Prim.Native.Nat.{ℕ, _≤_, _<_}
 use native.Mathlib.Omega.{arith}
@@ -37,8 +38,4 @@ module _ (t : List ℤ) (j m : ℕ) where
   factor-last i h = (rw (length-columnsOf t j) at (entries-last (columnsOf t j) (columnOf t j m) i)) ∙ nth-columnOf t j m i h
 
   pub factor-at : (i k : ℕ) → i < m → i ≤ k → k ≤ j → factor i k ≡ upper t i k
-  factor-at i k h l p = go (decLt k j)
-    where
-      go : Dec (k < j) → factor i k ≡ upper t i k
-      go (yes q) = factor-before i k l q
-      go (no q) = let e : k ≡ j = omega arith in rw e (factor-last i h)
+  factor-at i k h l p = by-cases (decLt k j) (factor-before i k l) (λ q. let e : k ≡ j = omega arith in rw e (factor-last i h))

@@ -1,6 +1,7 @@
 -- Where factoring stops: the columns that were done are those of a factor, and the entries of the column that it stopped in are within stopRange.
 use mathlib.Core.Path.{_≡_, refl, sym, subst}
 use mathlib.Core.Bool.{Bool, true, false, not}
+use mathlib.Core.Logic.{by-cases}
 use mathlib.Core.List.{List, [], _∷_, _++_}
 use Prim.Native.Nat.{ℕ, zero, suc, _+_, _≤_, _<_}
 use native.Mathlib.Omega.{arith}
@@ -38,11 +39,11 @@ none-within : {b : ℕ} → AllWithin b []
 none-within = record { each = λ k h. absurd (omega arith) }
 
 one-more : {b : ℕ} {c : List ℤ} {x : ℤ} → AllWithin b c → Within b x → AllWithin b (c ++ (x ∷ []))
-one-more {b} {c} {x} a w = record { each = λ k h. at k (omega (arith, length-snoc c x)) (decLt k (length c)) }
-  where
-    at : (k : ℕ) → k < suc (length c) → Dec (k < length c) → Within b (nth (c ++ (x ∷ [])) k)
-    at k h (yes l) = rw (nth-before c x k l) (a .each k l)
-    at k h (no l) = let e : k ≡ length c = omega arith in rw (e, nth-last c x) w
+one-more {b} {c} {x} a w = record {
+  each = λ k h.
+      by-cases (decLt k (length c)) (λ l. rw (nth-before c x k l) (a .each k l))
+      (λ l. let e : k ≡ length c = omega (arith, length-snoc c x) in rw (e, nth-last c x) w);
+}
 
 wider : {b b′ : ℕ} {c : List ℤ} → b ≤ b′ → AllWithin b c → AllWithin b′ c
 wider h a = record { each = λ k l. within-more h (a .each k l) }
@@ -136,14 +137,11 @@ stopped-at {f} {j} {m} {t} a =
 
 -- the entries of the columns that were done
 done-small : {H : Matrix} (t : List ℤ) (j : ℕ) → Done H (columnsOf t j) → (i k : ℕ) → i ≤ k → k < j → Within factorRange (upper t i k)
-done-small t j d i k h l = subst (Within factorRange) (entries-columnsOf t j i k h l) (go (decLt i k))
-  where
-    inside : k < length (columnsOf t j)
-    inside = omega (arith, length-columnsOf t j)
-
-    go : Dec (i < k) → Within factorRange (entries (columnsOf t j) i k)
-    go (yes e) = record { size = d .off i k e inside .small }
-    go (no e) = let f : i ≡ k = omega arith in rw f (within-in (≤ℤ-trans (leZ-yes tt) (d .on k inside .one)) (d .on k inside .top))
+done-small t j d i k h l =
+    let inside : k < length (columnsOf t j) = omega (arith, length-columnsOf t j) in
+    subst (Within factorRange) (entries-columnsOf t j i k h l)
+    (by-cases (decLt i k) (λ e. record { size = d .off i k e inside .small })
+    (λ e. let f : i ≡ k = omega arith in rw f (within-in (≤ℤ-trans (leZ-yes tt) (d .on k inside .one)) (d .on k inside .top))))
 
 table-ready : {n : ℕ} {H : Matrix} {t : List ℤ} {j m : ℕ} → n ≤ greatestOrder → Stop n H (stoppedAt t j m) → Stopped n t j m
 unfolding stoppedAt

@@ -1,7 +1,7 @@
 -- Diagonal entries that are lowered one by one, and the trial on what is left.
 use mathlib.Core.Path.{_≡_, refl, sym, _∙_, subst}
 use mathlib.Core.Bool.{Bool, true, false, _&&_}
-use mathlib.Core.Logic.{_≢_}
+use mathlib.Core.Logic.{_≢_, by-cases}
 use mathlib.Core.List.{List, [], _∷_}
 use Prim.Native.Nat.{ℕ, suc, _+_, _*_, _-_, _≤_, _<_}
 use native.Mathlib.Omega.{arith}
@@ -58,11 +58,7 @@ module _ (d : ℕ → ℤ) (M : Matrix) where
 
   -- where nothing is taken off
   pub lowered-none : (i j : ℕ) → d i ≡ pos 0 → lowered d M i j ≡ M i j
-  lowered-none i j e = go (ℕ-discrete i j)
-    where
-      go : Dec (i ≡ j) → lowered d M i j ≡ M i j
-      go (yes q) = rw (← q) (lowered-on i ∙ rw e (+ℤ-idr (M i i)))
-      go (no q) = lowered-off i j q
+  lowered-none i j e = by-cases (ℕ-discrete i j) (λ q. rw (← q) (lowered-on i ∙ rw e (+ℤ-idr (M i i)))) (lowered-off i j)
 
 -- equal numbers taken off equal entries
 pub lowered-ext : (d e : ℕ → ℤ) (M N : Matrix) (i j : ℕ) → d i ≡ e i → M i j ≡ N i j → lowered d M i j ≡ lowered e N i j

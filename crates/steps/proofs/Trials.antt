@@ -1,6 +1,7 @@
 -- The trials of R12.1 are factorings of H with a lowered diagonal. The test of L's diagonal adds nothing: H(i,i) is below 1 where it fails.
 use mathlib.Core.Path.{_≡_, refl, sym, ap, _∙_, subst}
 use mathlib.Core.Bool.{Bool, true, false}
+use mathlib.Core.Logic.{by-cases}
 use mathlib.Core.List.{[], _∷_}
 use Prim.Native.Nat.{ℕ, _<_}
 use native.Mathlib.Omega.{arith}
@@ -39,16 +40,13 @@ module _ (n : ℕ) (L U : Matrix) (d : ℕ → ℤ) where
       sum-ext n _ _ (λ j h. ring (L i j ∷ U i j ∷ only i j (d i) ∷ []) (search solver depth 40 fits 20000) refl)
 
   pub scaled-lowered : (i j : ℕ) → scaled n (lowered d L) (lowered d U) i j ≡ lowered scaledStep H i j
-  scaled-lowered i j = go (ℕ-discrete i j)
-    where
-      go : Dec (i ≡ j) → scaled n (lowered d L) (lowered d U) i j ≡ lowered scaledStep H i j
-      go (yes e) =
-          rw (← e) (scaled-on (takeOff n) n (lowered d L) (lowered d U) i
-          ∙ rw (width-kept i, lowered-on d L i, lowered-on d U i, lowered-on scaledStep H i, scaled-on (takeOff n) n L U i)
-          (ring (L i i ∷ U i i ∷ d i ∷ rowWidth n L U i ∷ takeOff n ∷ []) (search solver depth 40 fits 20000) refl))
-      go (no e) =
-          scaled-off (takeOff n) n (lowered d L) (lowered d U) i j e
-          ∙ rw (lowered-off d L i j e, lowered-off d U i j e, lowered-off scaledStep H i j e) (sym (scaled-off (takeOff n) n L U i j e))
+  scaled-lowered i j =
+      by-cases (ℕ-discrete i j)
+      (λ e. rw (← e) (scaled-on (takeOff n) n (lowered d L) (lowered d U) i
+      ∙ rw (width-kept i, lowered-on d L i, lowered-on d U i, lowered-on scaledStep H i, scaled-on (takeOff n) n L U i)
+      (ring (L i i ∷ U i i ∷ d i ∷ rowWidth n L U i ∷ takeOff n ∷ []) (search solver depth 40 fits 20000) refl)))
+      (λ e. scaled-off (takeOff n) n (lowered d L) (lowered d U) i j e
+      ∙ rw (lowered-off d L i j e, lowered-off d U i j e, lowered-off scaledStep H i j e) (sym (scaled-off (takeOff n) n L U i j e)))
 
   decided : Bool → Bool
   decided b = elim b [ true ↦ factored n (lowered d L) (lowered d U) .ends | false ↦ false ]

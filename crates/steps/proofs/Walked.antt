@@ -1,6 +1,7 @@
 -- The steps on H, and those of one diagonal entry on what is left of H after the rows before it.
 use mathlib.Core.Path.{_≡_, refl, sym, ap₂, _∙_, subst}
-use mathlib.Core.Bool.{true, false}
+use mathlib.Core.Bool.{false}
+use mathlib.Core.Logic.{by-cases}
 use mathlib.Core.List.{List, [], _∷_}
 use Prim.Native.Nat.{ℕ, zero, suc, _-_, _^_, _≤_, _<_}
 use native.Mathlib.Omega.{arith}
@@ -96,12 +97,12 @@ module _ (n : ℕ) (H : Matrix) (k : ℕ) (d : ℕ → ℤ) (alone : (i : ℕ) �
     pass-before p one =
         record {
           first = rw first-kept (p .first);
-          later = λ j q r. record { small = rw (later-kept j) (p .later j q r .small); some = go j q r (ℕ-discrete j k) };
+          later = λ j q r. record {
+            small = rw (later-kept j) (p .later j q r .small);
+            some = by-cases (ℕ-discrete j k) (λ e. rw e (≤ℤ-trans one (left-falls H′ k (suc i) k h)))
+                (λ e. rw (left-lowered (suc i) h j j, lowered-none d (leftOf H (suc i)) j j (alone j e)) (p .later j q r .some));
+          };
         }
-      where
-        go : (j : ℕ) → i < j → j < n → Dec (j ≡ k) → pos 1 ≤ℤ leftOf H′ (suc i) j j
-        go j q r (yes e) = rw e (≤ℤ-trans one (left-falls H′ k (suc i) k h))
-        go j q r (no e) = rw (left-lowered (suc i) h j j, lowered-none d (leftOf H (suc i)) j j (alone j e)) (p .later j q r .some)
 
     -- and a row that passes with a number taken off passes without
     pass-after : ((j : ℕ) → pos 0 ≤ℤ d j) → RowPasses (leftOf H′ i) i n → RowPasses (leftOf H i) i n
@@ -109,22 +110,20 @@ module _ (n : ℕ) (H : Matrix) (k : ℕ) (d : ℕ → ℤ) (alone : (i : ℕ) �
     pass-after nonneg p =
         record {
           first = rw (← first-kept) (p .first);
-          later = λ j q r. record { small = rw (← later-kept j) (p .later j q r .small); some = go j q r };
+          later = λ j q r. record {
+            small = rw (← later-kept j) (p .later j q r .small);
+            some = order (leftOf H (suc i) j j ∷ leftOf H′ (suc i) j j ∷ d j ∷ [])
+                ((left-lowered (suc i) h j j ∙ lowered-on d (leftOf H (suc i)) j) & nonneg j & p .later j q r .some) (search solver depth 40 fits 20000) (omega arith);
+          };
         }
-      where
-        go : (j : ℕ) → i < j → j < n → pos 1 ≤ℤ leftOf H (suc i) j j
-        go j q r =
-            order (leftOf H (suc i) j j ∷ leftOf H′ (suc i) j j ∷ d j ∷ [])
-            ((left-lowered (suc i) h j j ∙ lowered-on d (leftOf H (suc i)) j) & nonneg j & p .later j q r .some) (search solver depth 40 fits 20000) (omega arith)
 
   -- factoring ends where it does in the rows from k on
   lowered-ends : k < n → ((i : ℕ) → i < k → RowPasses (leftOf H i) i n) → factoring n H′ .ends ≡ endsFrom (n - k) (leftOf H′ k) k
   lowered-ends h passed =
-      bool-ext _ _ (λ e. ends-of H′ n (n - k) k (omega arith) (λ l q r. ends-rows H′ n e l r)) (λ e. rows-end H′ n (λ i q. go e i q (decLt i k)))
-    where
-      go : endsFrom (n - k) (leftOf H′ k) k ≡ true → (i : ℕ) → i < n → Dec (i < k) → RowPasses (leftOf H′ i) i n
-      go e i q (yes r) = pass-before i r (passed i r) (ends-passes H′ n (n - k) k k (omega arith) e (omega arith) h .first)
-      go e i q (no r) = ends-passes H′ n (n - k) k i (omega arith) e (omega arith) q
+      bool-ext _ _ (λ e. ends-of H′ n (n - k) k (omega arith) (λ l q r. ends-rows H′ n e l r))
+      (λ e. rows-end H′ n (λ i q.
+      by-cases (decLt i k) (λ r. pass-before i r (passed i r) (ends-passes H′ n (n - k) k k (omega arith) e (omega arith) h .first))
+      (λ r. ends-passes H′ n (n - k) k i (omega arith) e (omega arith) q)))
 
 -- ---- t(k)
 -- one of the rows before k stops, or less than 1 is left of the first diagonal entry

@@ -1,6 +1,7 @@
 -- Numbers in decimal: the digits of n are those of n / 10 and the last one, and a number of 64 bits takes up at most `widest` bytes.
 use mathlib.Core.Path.{_≡_, refl, sym, ap, subst, _∙_}
 use mathlib.Core.Bool.{Bool, true, false}
+use mathlib.Core.Logic.{by-cases}
 use mathlib.Core.List.{List, [], _∷_, _++_}
 use Prim.Native.Nat.{ℕ, zero, suc, _+_, _-_, _/_, _^_, _≤_, _<_}
 use native.Mathlib.Nat.{pow-succ'}
@@ -29,11 +30,9 @@ digits-more k n h = rw (le-leb 10 n h, digits)
 pub digits-same : (k m n : ℕ) → n ≤ k → n ≤ m → digits k n ≡ digits m n
 digits-same zero m n h l = digits-one zero n (omega arith) ∙ sym (digits-one m n (omega arith))
 digits-same (suc k) zero n h l = digits-one (suc k) n (omega arith) ∙ sym (digits-one zero n (omega arith))
-digits-same (suc k) (suc m) n h l = go (decLt n 10) (digits-same k m (n / 10) (omega arith) (omega arith))
-  where
-    go : Dec (n < 10) → digits k (n / 10) ≡ digits m (n / 10) → digits (suc k) n ≡ digits (suc m) n
-    go (yes u) e = digits-one (suc k) n u ∙ sym (digits-one (suc m) n u)
-    go (no u) e = rw (digits-more k n (omega arith), digits-more m n (omega arith), e)
+digits-same (suc k) (suc m) n h l =
+    by-cases (decLt n 10) (λ u. digits-one (suc k) n u ∙ sym (digits-one (suc m) n u))
+    (λ u. rw (digits-more k n (omega arith), digits-more m n (omega arith), digits-same k m (n / 10) (omega arith) (omega arith)))
 
 -- the digits before the last one
 unfoldable pub front : ℕ → List ℕ
@@ -49,14 +48,11 @@ front-some n h = rw (le-leb 10 n h, front)
 
 pub natural-front : (n : ℕ) → natural n ≡ front n ++ (digit n ∷ [])
 unfolding natural
-natural-front n = go (decLt n 10)
-  where
-    go : Dec (n < 10) → digits n n ≡ front n ++ (digit n ∷ [])
-    go (yes u) = rw (front-none n u) (digits-one n n u)
-    go (no u) =
-        let e : n ≡ suc (n - 1) = omega arith in
-        rw (front-some n (omega arith))
-        (ap (λ (k : ℕ). digits k n) e ∙ digits-more (n - 1) n (omega arith) ∙ ap (λ (x : List ℕ). x ++ (digit n ∷ [])) (digits-same (n - 1) (n / 10) (n / 10) (omega arith) (omega arith)))
+natural-front n =
+    by-cases (decLt n 10) (λ u. rw (front-none n u) (digits-one n n u))
+    (λ u. let e : n ≡ suc (n - 1) = omega arith in
+    rw (front-some n (omega arith))
+    (ap (λ (k : ℕ). digits k n) e ∙ digits-more (n - 1) n (omega arith) ∙ ap (λ (x : List ℕ). x ++ (digit n ∷ [])) (digits-same (n - 1) (n / 10) (n / 10) (omega arith) (omega arith))))
 
 pub length-natural-front : (n : ℕ) → length (natural n) ≡ length (front n) + 1
 length-natural-front n = ap length (natural-front n) ∙ length-append (front n) (digit n ∷ [])
@@ -64,11 +60,10 @@ length-natural-front n = ap length (natural-front n) ∙ length-append (front n)
 -- a number below 10 ^ k, for k from 1 on, has at most k digits
 pub length-natural : (k n : ℕ) → n < 10 ^ suc k → length (natural n) ≤ suc k
 length-natural zero n h = rw (natural-front n, front-none n h) (omega arith)
-length-natural (suc k) n h = go (decLt n 10) (length-natural k (n / 10) (omega (arith, pow-succ' 10 (suc k))))
-  where
-    go : Dec (n < 10) → length (natural (n / 10)) ≤ suc k → length (natural n) ≤ suc (suc k)
-    go (yes u) l = rw (natural-front n, front-none n u) (omega arith)
-    go (no u) l = rw (natural-front n, front-some n (omega arith), length-append) (omega arith)
+length-natural (suc k) n h =
+    let l = length-natural k (n / 10) (omega (arith, pow-succ' 10 (suc k))) in
+    by-cases (decLt n 10) (λ u. rw (natural-front n, front-none n u) (omega arith))
+    (λ u. rw (natural-front n, front-some n (omega arith), length-append) (omega arith))
 
 -- the minus sign of a negative number
 unfoldable pub sign : ℤ → List ℕ

@@ -1,7 +1,7 @@
 -- D3.6 of docs/RULES.md: the residual test accepts the factor that
 -- factoring ends with. For any order n and any take-off τ that suffices for it.
 use mathlib.Core.Path.{_≡_, ap, ap₂, _∙_}
-use mathlib.Core.Logic.{_≢_}
+use mathlib.Core.Logic.{_≢_, by-cases}
 use mathlib.Core.List.{[], _∷_}
 use Prim.Native.Nat.{ℕ, suc, _<_}
 use native.Mathlib.Omega.{arith}
@@ -53,11 +53,8 @@ module _ (τ : ℤ) (n : ℕ) (L U : Matrix) (b : Bounds n L U) where
           })
 
       off-residue : (i j : ℕ) → i < n → j < n → i ≢ j → Between (pos 0) (H i j -ℤ gram n R i j) (ρ -ℤ pos 1)
-      off-residue i j h k d = go (decLt i j)
-        where
-          go : Dec (i < j) → Between (pos 0) (H i j -ℤ gram n R i j) (ρ -ℤ pos 1)
-          go (yes e) = above i j e k
-          go (no e) = rw (scaled-symmetric τ n L U b i j h k, gram-symmetric n R i j) (above j i (omega arith) h)
+      off-residue i j h k d =
+          by-cases (decLt i j) (λ e. above i j e k) (λ e. rw (scaled-symmetric τ n L U b i j h k, gram-symmetric n R i j) (above j i (omega arith) h))
 
       on-residue : (i : ℕ) → i < n → pos 0 ≤ℤ (H i i -ℤ gram n R i i)
       on-residue i h = rw (residue i i h) (f .on i h .gaps .low)

@@ -50,6 +50,9 @@ module _ (xs : List ℤ) (a : ℤ) where
   length-more : length (xs ++ (a ∷ [])) ≡ suc (length xs)
   length-more = length-append xs (a ∷ []) ∙ add-one (length xs)
 
+  longer : {d : ℕ} → length xs ≡ d → length (xs ++ (a ∷ [])) ≡ suc d
+  longer e = length-more ∙ ap suc e
+
   last : nth (xs ++ (a ∷ [])) (length xs) ≡ a
   last = getD-append-seam xs a [] (pos 0)
 
@@ -171,16 +174,11 @@ module _ (n : ℕ) (l u : List ℤ) where
         ∙ ap (λ (t : Bool). elim t as (λ z. Option (List ℤ)) [ true ↦ some [] | false ↦ none ]) (sym (low-sum xs (omega arith)) ∙ ap (λ (z : ℤ). leZ z (pos 0)) (sym (c .sum-is)))
     agrees (suc k) d xs s p q e f c =
         tried-suc k (low xs)
-        ∙ ap₂ orElse (ap (front (pos 0)) (deeper k xs (pos 0) ∙ agrees k (suc d) (xs ++ (pos 0 ∷ [])) s p q (longer (pos 0)) (omega arith) (choose-zero c h)))
+        ∙ (let h : length xs < n = omega arith in
+        ap₂ orElse (ap (front (pos 0)) (deeper k xs (pos 0) ∙ agrees k (suc d) (xs ++ (pos 0 ∷ [])) s p q (longer xs (pos 0) e) (omega arith) (choose-zero c h)))
         (ap₂ orElse
-        (ap (front (pos 1)) (deeper k xs (pos 1) ∙ agrees k (suc d) (xs ++ (pos 1 ∷ [])) _ _ _ (longer (pos 1)) (omega arith) (rw e at (choose-one c h))))
-        (ap (front (negsuc 0)) (deeper k xs (negsuc 0) ∙ agrees k (suc d) (xs ++ (negsuc 0 ∷ [])) _ _ _ (longer (negsuc 0)) (omega arith) (rw e at (choose-minus-one c h)))))
-      where
-        h : length xs < n
-        h = omega arith
-
-        longer : (a : ℤ) → length (xs ++ (a ∷ [])) ≡ suc d
-        longer a = length-more xs a ∙ ap suc e
+        (ap (front (pos 1)) (deeper k xs (pos 1) ∙ agrees k (suc d) (xs ++ (pos 1 ∷ [])) _ _ _ (longer xs (pos 1) e) (omega arith) (rw e at (choose-one c h))))
+        (ap (front (negsuc 0)) (deeper k xs (negsuc 0) ∙ agrees k (suc d) (xs ++ (negsuc 0 ∷ [])) _ _ _ (longer xs (negsuc 0) e) (omega arith) (rw e at (choose-minus-one c h))))))
 
     -- ---- the entries xs are all 0: the zero vector shows nothing, and what x shows -x showed before
     abbrev shown : List ℤ → List ℤ → Bool
@@ -217,17 +215,12 @@ module _ (n : ℕ) (l u : List ℤ) where
     half-agrees zero d xs p e f z c = tried-zero (shown xs) ∙ ap (λ (t : Bool). elim t as (λ z. Option (List ℤ)) [ true ↦ some [] | false ↦ none ]) (shown-none xs z)
     half-agrees (suc k) d xs p e f z c =
         tried-suc k (shown xs)
-        ∙ ap₂ orElse
+        ∙ (let h : length xs < n = omega arith in
+        ap₂ orElse
         (ap (front (pos 0)) (first-ext _ _ (λ y. ap (λ (v : List ℤ). shows n (at n l) (at n u) (nth v)) (sym (append-assoc xs (pos 0 ∷ []) y))) (tried k)
-        ∙ half-agrees k (suc d) (xs ++ (pos 0 ∷ [])) p (longer (pos 0)) (omega arith) (λ i. ap (λ (g : ℕ → ℤ). g i) (nth-padded xs 1) ∙ z i) (choose-zero c h)))
+        ∙ half-agrees k (suc d) (xs ++ (pos 0 ∷ [])) p (longer xs (pos 0) e) (omega arith) (λ i. ap (λ (g : ℕ → ℤ). g i) (nth-padded xs 1) ∙ z i) (choose-zero c h)))
         (half-choices k xs z
-        ∙ ap (front (pos 1)) (with-one k xs h ∙ agrees k (suc d) (xs ++ (pos 1 ∷ [])) _ _ _ (longer (pos 1)) (omega arith) (rw e at (choose-one c h))))
-      where
-        h : length xs < n
-        h = omega arith
-
-        longer : (a : ℤ) → length (xs ++ (a ∷ [])) ≡ suc d
-        longer a = length-more xs a ∙ ap suc e
+        ∙ ap (front (pos 1)) (with-one k xs h ∙ agrees k (suc d) (xs ++ (pos 1 ∷ [])) _ _ _ (longer xs (pos 1) e) (omega arith) (rw e at (choose-one c h)))))
 
     module _ (p : ℕ → ℤ) (g : (i : ℕ) → i < n → p i ≡ at n l i i) where
       start : Prefix [] (pos 0) p p

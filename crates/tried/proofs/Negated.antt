@@ -1,6 +1,7 @@
 -- x and -x show the same, so that x may be passed over where -x stood earlier.
 use mathlib.Core.Path.{_≡_, refl, sym, ap, ap₂, _∙_}
 use mathlib.Core.Bool.{Bool, true, false, not, _&&_, _||_}
+use mathlib.Core.Logic.{by-cases}
 use mathlib.Core.List.{[], _∷_}
 use Prim.Native.Nat.{ℕ, zero, suc}
 use native.Mathlib.Omega.{arith}
@@ -16,11 +17,9 @@ use Rattle.vectors.specs.Least.{leastMember, leastValue, nonzero, shows}
 
 -- -a is 0 where a is
 zero-entry : (a : ℤ) → same (negℤ a) (pos 0) ≡ same a (pos 0)
-zero-entry a = go (ℤ-discrete a (pos 0))
-  where
-    go : Dec (a ≡ pos 0) → same (negℤ a) (pos 0) ≡ same a (pos 0)
-    go (yes e) = rw e refl
-    go (no d) = same-false (λ e. d (order (a ∷ []) e (search solver depth 40 fits 20000) (omega arith))) ∙ sym (same-false d)
+zero-entry a =
+    by-cases (ℤ-discrete a (pos 0)) (λ e. rw e refl)
+    (λ d. same-false (λ e. d (order (a ∷ []) e (search solver depth 40 fits 20000) (omega arith))) ∙ sym (same-false d))
 
 module _ (x y : ℕ → ℤ) (h : (i : ℕ) → y i ≡ negℤ (x i)) where
   product : (i j : ℕ) → y i *ℤ y j ≡ x i *ℤ x j

@@ -1,6 +1,7 @@
 -- What the open entries would add: how a row of a table is added to it, entry by entry, and how large it gets.
 use mathlib.Core.Path.{_≡_, refl, sym, ap, _∙_}
 use mathlib.Core.Bool.{true, false}
+use mathlib.Core.Logic.{by-cases}
 use mathlib.Core.List.{List}
 use Prim.Native.Nat.{ℕ, suc, _+_, _*_, _-_, _/_, _%_, _≤_, _<_}
 use native.Mathlib.Omega.{arith}
@@ -25,11 +26,8 @@ use Rattle.tried.proofs.Signs.{by-sign, sign-above, sign-below}
 
 -- entries of a list that are small, with another put among them
 small-more : (t : List ℤ) (m : ℕ) (v : ℤ) {b : ℕ} (k : ℕ) → m < length t → Within b v → Within b (nth t k) → Within b (nth (set t m v) k)
-small-more t m v {b} k h w f = go (ℕ-discrete k m)
-  where
-    go : Dec (k ≡ m) → Within b (nth (set t m v) k)
-    go (yes q) = rw (q, getD-set-same t m v (pos 0) h) w
-    go (no q) = rw (getD-set-other t m k v (pos 0) q) f
+small-more t m v {b} k h w f =
+    by-cases (ℕ-discrete k m) (λ q. rw (q, getD-set-same t m v (pos 0) h) w) (λ q. rw (getD-set-other t m k v (pos 0) q) f)
 
 zero-within : {m : ℕ} → Within m (pos 0)
 zero-within = record { size = omega arith }

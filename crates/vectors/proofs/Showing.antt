@@ -10,7 +10,7 @@ use lib.Dec.{T}
 use lib.IntN.{ℤ, pos, _*ℤ_, *ℤ-comm, *ℤ-zero, ℤ-discrete}
 use lib.Signed.{_≤ℤ_, _<ℤ_, ltZ, ltZ-yes, ltZ-no, ≤ℤ-refl, clashℤ}
 use Rattle.integers.proofs.Parts.{≤ℤ-trans, *ℤ-nonneg, square-nonneg, gap-nonneg, leZ-true}
-use Rattle.integers.proofs.Solver.{_&_, order, solver}
+use Rattle.integers.proofs.Solver.{order, solver}
 use Rattle.integers.proofs.Order.{<-≤, *ℤ-cancel}
 use Rattle.integers.proofs.Sums.{sum-mono, eqb-by}
 use Rattle.tables.specs.Matrix.{Matrix, form}

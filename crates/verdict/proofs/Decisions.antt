@@ -33,21 +33,19 @@ use Rattle.verdict.proofs.Writing.{factor-table}
 
 -- ---- the two cases of the definition
 module _ (n : ℕ) (L U : Matrix) where
+  by-end : Bool → Judgement
+  by-end b = elim b [
+    | true ↦ definite (table n (entries (factored n L U .columns)))
+    | false ↦ shownBy (first (λ x. shows n L U (nth x)) (listed n L U))
+  ]
+
   pub judged-ends : factored n L U .ends ≡ true → judged n L U ≡ definite (table n (entries (factored n L U .columns)))
-  unfolding judged
-  judged-ends e =
-      ap (λ (b : Bool). elim b as (λ z. Judgement) [
-        | true ↦ definite (table n (entries (factored n L U .columns)))
-        | false ↦ shownBy (first (λ x. shows n L U (nth x)) (listed n L U))
-      ]) e
+  unfolding judged by-end
+  judged-ends e = ap by-end e
 
   pub judged-stops : factored n L U .ends ≡ false → judged n L U ≡ shownBy (first (λ x. shows n L U (nth x)) (listed n L U))
-  unfolding judged
-  judged-stops e =
-      ap (λ (b : Bool). elim b as (λ z. Judgement) [
-        | true ↦ definite (table n (entries (factored n L U .columns)))
-        | false ↦ shownBy (first (λ x. shows n L U (nth x)) (listed n L U))
-      ]) e
+  unfolding judged by-end
+  judged-stops e = ap by-end e
 
 all-columns : (n : ℕ) (H : Matrix) → true ≡ factoring n H .ends → length (factoring n H .columns) ≡ n
 unfolding factoring

@@ -1,6 +1,7 @@
 -- What a verdict hands out has the size that the order calls for, and its numbers are in their ranges.
 use mathlib.Core.Path.{_≡_, refl, sym, ap, subst, _∙_}
 use mathlib.Core.Bool.{Bool, true, false}
+use mathlib.Core.Logic.{by-cases}
 use mathlib.Core.List.{List, [], _∷_, _++_, map}
 use mathlib.Core.Option.{Option, some}
 use Prim.Native.Nat.{ℕ, zero, suc, _*_, _/_, _%_, _≤_, _<_}
@@ -47,11 +48,10 @@ Fitting n undecided = Unit {0}
 Fitting n (refused r) = Unit {0}
 
 sized : {m b : ℕ} {x : List ℤ} → length x ≡ m → ((i : ℕ) → i < m → Within b (nth x i)) → Small m b x
-sized {m} {b} {x} e h = record { size = e; small = λ i. number i (decLt i m) }
-  where
-    number : (i : ℕ) → Dec (i < m) → Within b (nth x i)
-    number i (yes l) = h i l
-    number i (no l) = rw (nth-past x i (omega (arith, e))) (record { size = omega arith })
+sized {m} {b} {x} e h = record {
+  size = e;
+  small = λ i. by-cases (decLt i m) (h i) (λ l. rw (nth-past x i (omega (arith, e))) (record { size = omega arith }));
+}
 
 -- ---- a factor that passes
 module _ (n : ℕ) (R : Matrix) (t : T (factorShape n R)) where

@@ -1,5 +1,6 @@
 -- Laws of the table that the judge writes: each store adds an entry, and what is written is the table of the factor.
 use mathlib.Core.Path.{_≡_, sym, ap, ap₂, _∙_}
+use mathlib.Core.Logic.{by-cases}
 use mathlib.Core.List.{List, []}
 use Prim.Native.Nat.{ℕ, suc, _+_, _*_, _/_, _%_, _<_}
 use native.Mathlib.Omega.{arith}
@@ -23,11 +24,9 @@ entries-past t n i j k h =
 
 -- they are those that factoring left in the table's columns
 pub triangle-entries : (t : List ℤ) (n i j : ℕ) → j < n → triangle t i j ≡ entries (columnsOf t n) i j
-triangle-entries t n i j h = go (decLt j i)
-  where
-    go : Dec (j < i) → triangle t i j ≡ entries (columnsOf t n) i j
-    go (no k) = triangle-on t i j (omega arith) ∙ sym (entries-columnsOf t n i j (omega arith) h)
-    go (yes k) = triangle-below t i j k ∙ sym (entries-past t n i j k h)
+triangle-entries t n i j h =
+    by-cases (decLt j i) (λ k. triangle-below t i j k ∙ sym (entries-past t n i j k h))
+    (λ k. triangle-on t i j (omega arith) ∙ sym (entries-columnsOf t n i j (omega arith) h))
 
 -- ---- what is written
 module _ {n : ℕ} {M : Matrix} {f : List ℤ} where
@@ -36,11 +35,12 @@ module _ {n : ℕ} {M : Matrix} {f : List ℤ} where
 
   pub written-more : (i j : ℕ) → j < n → i * n + j < length f → Written n M f (i * n + j) → Written n M (set f (i * n + j) (M i j)) (suc (i * n + j))
   unfolding at
-  written-more i j h l w = record { entries = λ a b k m. go a b k m (ℕ-discrete (a * n + b) (i * n + j)) }
-    where
-      go : (a b : ℕ) → b < n → a * n + b < suc (i * n + j) → Dec (a * n + b ≡ i * n + j) → nth (set f (i * n + j) (M i j)) (a * n + b) ≡ M a b
-      go a b k m (yes e) = rw e (getD-set-same f (i * n + j) (M i j) (pos 0) l) ∙ ap₂ M (sym (same-row i j a b h k e)) (sym (same-column i j a b h k e))
-      go a b k m (no d) = getD-set-other f (i * n + j) (a * n + b) (M i j) (pos 0) d ∙ w .entries a b k (omega arith)
+  written-more i j h l w = record {
+    entries = λ a b k m.
+        by-cases (ℕ-discrete (a * n + b) (i * n + j))
+        (λ e. rw e (getD-set-same f (i * n + j) (M i j) (pos 0) l) ∙ ap₂ M (sym (same-row i j a b h k e)) (sym (same-column i j a b h k e)))
+        (λ d. getD-set-other f (i * n + j) (a * n + b) (M i j) (pos 0) d ∙ w .entries a b k (omega arith));
+  }
 
   -- a table that was written has the numbers of the matrix's table
   pub written-nth : Written n M f (n * n) → (k : ℕ) → k < n * n → nth f k ≡ nth (table n M) k

@@ -1,8 +1,9 @@
 -- The loop's invariant: no diagonal entry before j is below 1.
 use mathlib.Core.Path.{_≡_}
-use Prim.Native.Nat.{ℕ, _+_, _-_, _≤_, _<_}
+use mathlib.Core.Logic.{by-cases}
+use Prim.Native.Nat.{ℕ, _-_, _≤_, _<_}
 use native.Mathlib.Omega.{arith}
-use native.Mathlib.Decide.{decLt}
+use native.Mathlib.Decide.{ℕ-discrete}
 use lib.IntN.{ℤ, pos}
 use lib.Signed.{_≤ℤ_}
 use Rattle.tables.proofs.Checks.{le-of, read-less, read-not-less}
@@ -24,13 +25,6 @@ some : (c : tie.Else1 Inv-loop μ-loop) → pos 1 ≤ℤ diagonal (c .before .be
 unfolding upper
 some c = le-of (pos 1) _ (read-not-less (diagonal (c .before .before .before)) (pos 1) (c .before .if12 .given) (omega arith) (c .if1 .left))
 
-loop-again : tie.Need-loop-again Inv-loop μ-loop
-loop-again c = (omega arith, λ l h. go l h (decLt l (c .before .before .before .loop .j)))
-  where
-    go : (l : ℕ) → l < c .before .before .before .loop .j + 1 → Dec (l < c .before .before .before .loop .j) → pos 1 ≤ℤ upper (c .before .before .before .before .args .s .now) l l
-    go l h (yes d) = c .before .before .before .loop .inv .1 l d
-    go l h (no d) = let q : l ≡ c .before .before .before .loop .j = omega arith in rw q (some c)
-
 pub start-spec : {M : Type 1} → statement M
 unfolding upper
 start-spec =
@@ -46,7 +40,9 @@ start-spec =
     record { bound = l .loop .inv .0; some = l .loop .inv .1; none = λ h. read-less (diagonal l) (pos 1) (c .before .if12 .given) (omega arith) (c .if1 .taken) })
     (λ c. omega arith)
     (λ c. omega arith)
-    loop-again
+    (λ c.
+    let p = c .before .before .before .loop in
+    (omega arith, λ l h. by-cases (ℕ-discrete l (p .j)) (λ q. rw q (some c)) (λ q. p .inv .1 l (omega arith))))
     (λ c.
     let l = c .before .loop in
     let e : l .j ≡ c .before .before .args .n = omega arith in
