@@ -186,7 +186,7 @@ columns-length H (suc k) cs t =
     columns-by H k cs (λ o. T (o .ends) → length (o .columns) ≡ length cs + suc k)
     (λ g t. columns-length H k _ t ∙ omega (arith, length-snoc cs (nextColumn H cs .column))) (λ g t. absurd t) t
 
-all-columns : (n : ℕ) (H : Matrix) → T (factoring n H .ends) → length (factoring n H .columns) ≡ n
+pub all-columns : (n : ℕ) (H : Matrix) → T (factoring n H .ends) → length (factoring n H .columns) ≡ n
 unfolding factoring
 all-columns n H t = columns-length H n [] t ∙ omega arith
 

@@ -4,20 +4,17 @@ use mathlib.Core.Bool.{Bool, true, false, not, _&&_}
 use mathlib.Core.List.{List, [], _∷_, _++_}
 use Prim.Native.Nat.{ℕ, zero, suc, _+_, _≤_, _<_}
 use native.Mathlib.Omega.{arith}
-use lib.Dec.{T, leb, leb→le, le→leb}
+use lib.Dec.{T, leb, leb→le, le→leb, T-not}
 use lib.IntN.{ℤ, pos, natAbs, _-ℤ_, _*ℤ_}
 use lib.Signed.{_≤ℤ_, leZ}
 use lib.ListN.{length}
 use Rattle.integers.specs.Root.{wholeRoot}
+use Rattle.integers.proofs.Parts.{choice-by}
 use Rattle.tables.specs.Ranges.{factorRange}
 use Rattle.tables.specs.Matrix.{Matrix}
 use Rattle.tables.specs.Checks.{within}
 use Rattle.cholesky.specs.Factoring.{Column, Factoring, nextEntry, goesOn, rows, nextColumn, columnsFrom}
 use Rattle.cholesky.proofs.Lists.{length-snoc}
-
-not-both : (b : Bool) → T (not b) → T b → ⊥
-not-both true g t = absurd g
-not-both false g t = absurd t
 
 -- what the test of a row says
 pub record Passes (r rest : ℤ) : Type 0 where
@@ -58,15 +55,10 @@ module _ (H : Matrix) (cs : List (List ℤ)) (j k : ℕ) (rest : ℤ) (c : List 
   rows-stop e = ap chosen e
 
   -- by cases on the test
-  rows-by : (P : Column → Type 0) → (T (goesOn r (rest -ℤ r *ℤ r)) → P (rows H cs j k (rest -ℤ r *ℤ r) (c ++ (r ∷ []))))
+  pub rows-by : (P : Column → Type 0) → (T (goesOn r (rest -ℤ r *ℤ r)) → P (rows H cs j k (rest -ℤ r *ℤ r) (c ++ (r ∷ []))))
       → (T (not (goesOn r (rest -ℤ r *ℤ r))) → P (record { done = false; column = c ++ (r ∷ []) })) → P (rows H cs j (suc k) rest c)
   unfolding rows
-  rows-by P f g = go (goesOn r (rest -ℤ r *ℤ r)) f g
-    where
-      go : (b : Bool) → (T b → P (rows H cs j k (rest -ℤ r *ℤ r) (c ++ (r ∷ [])))) → (T (not b) → P (record { done = false; column = c ++ (r ∷ []) })) →
-          P (elim b as (λ z. Column) [ true ↦ rows H cs j k (rest -ℤ r *ℤ r) (c ++ (r ∷ [])) | false ↦ record { done = false; column = c ++ (r ∷ []) } ])
-      go true f g = f tt
-      go false f g = g tt
+  rows-by P f g = choice-by P (goesOn r (rest -ℤ r *ℤ r)) f g
 
 -- ---- the rows of a column
 module _ (H : Matrix) (cs : List (List ℤ)) (j : ℕ) (P : ℤ → List ℤ → Type 0) where
@@ -91,19 +83,14 @@ module _ (H : Matrix) (cs : List (List ℤ)) (j : ℕ) (P : ℤ → List ℤ →
   rows-done s a (suc k) rest c h p =
       rows-by H cs j k rest c (λ o. T (o .done))
       (λ g. rows-done s a k _ _ (omega (arith, length-snoc c (nextEntry H cs j c))) (s rest c (omega arith) p (passes _ _ g)))
-      (λ g. not-both (goesOn (nextEntry H cs j c) (rest -ℤ nextEntry H cs j c *ℤ nextEntry H cs j c)) g (goes-on _ _ (a rest c (omega arith) p)))
+      (λ g. T-not (goesOn (nextEntry H cs j c) (rest -ℤ nextEntry H cs j c *ℤ nextEntry H cs j c)) g (goes-on _ _ (a rest c (omega arith) p)))
 
 -- ---- a column
 module _ (H : Matrix) (cs : List (List ℤ)) where
   pub column-ind : (Q : Column → Type 0) → (pos 1 ≤ℤ H (length cs) (length cs) → Q (rows H cs (length cs) (length cs) (H (length cs) (length cs)) [])) →
       (T (not (leZ (pos 1) (H (length cs) (length cs)))) → Q (record { done = false; column = [] })) → Q (nextColumn H cs)
   unfolding nextColumn
-  column-ind Q f g = go (leZ (pos 1) (H (length cs) (length cs))) (λ t. f (record { le = t })) g
-    where
-      go : (b : Bool) → (T b → Q (rows H cs (length cs) (length cs) (H (length cs) (length cs)) [])) → (T (not b) → Q (record { done = false; column = [] })) →
-          Q (elim b as (λ z. Column) [ true ↦ rows H cs (length cs) (length cs) (H (length cs) (length cs)) [] | false ↦ record { done = false; column = [] } ])
-      go true f g = f tt
-      go false f g = g tt
+  column-ind Q f g = choice-by Q (leZ (pos 1) (H (length cs) (length cs))) (λ t. f (record { le = t })) g
 
 module _ (H : Matrix) (cs : List (List ℤ)) where
   begun : Bool → ℕ → Column
@@ -122,12 +109,7 @@ module _ (H : Matrix) (k : ℕ) (cs : List (List ℤ)) where
   pub columns-by : (Q : Factoring → Type 0) → (T (nextColumn H cs .done) → Q (columnsFrom H k (cs ++ (nextColumn H cs .column ∷ [])))) →
       (T (not (nextColumn H cs .done)) → Q (record { ends = false; columns = cs; stopped = nextColumn H cs .column })) → Q (columnsFrom H (suc k) cs)
   unfolding columnsFrom
-  columns-by Q f g = go (nextColumn H cs .done) f g
-    where
-      go : (b : Bool) → (T b → Q (columnsFrom H k (cs ++ (nextColumn H cs .column ∷ [])))) → (T (not b) → Q (record { ends = false; columns = cs; stopped = nextColumn H cs .column })) →
-          Q (elim b as (λ z. Factoring) [ true ↦ columnsFrom H k (cs ++ (nextColumn H cs .column ∷ [])) | false ↦ record { ends = false; columns = cs; stopped = nextColumn H cs .column } ])
-      go true f g = f tt
-      go false f g = g tt
+  columns-by Q f g = choice-by Q (nextColumn H cs .done) f g
 
   swept : Bool → Factoring
   swept b = elim b [ true ↦ columnsFrom H k (cs ++ (nextColumn H cs .column ∷ [])) | false ↦ record { ends = false; columns = cs; stopped = nextColumn H cs .column } ]
@@ -159,4 +141,4 @@ module _ (H : Matrix) (n : ℕ) (P : List (List ℤ) → Type 0) where
   columns-end s a (suc k) cs h p =
       columns-by H k cs (λ o. T (o .ends))
       (λ g. columns-end s a k _ (omega (arith, length-snoc cs (nextColumn H cs .column))) (s cs (omega arith) p g))
-      (λ g. not-both (nextColumn H cs .done) g (a cs (omega arith) p))
+      (λ g. T-not (nextColumn H cs .done) g (a cs (omega arith) p))

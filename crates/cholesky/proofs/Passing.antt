@@ -1,6 +1,6 @@
 -- A row that was taken, and those after it: whether factoring ends.
 use mathlib.Core.Path.{_≡_, refl, sym, _∙_, subst}
-use mathlib.Core.Bool.{Bool, true, false, _&&_}
+use mathlib.Core.Bool.{false, _&&_, and-true}
 use mathlib.Core.List.{List}
 use Prim.Native.Nat.{ℕ, suc, _-_, _≤_, _<_}
 use native.Mathlib.Omega.{arith}
@@ -48,7 +48,3 @@ module _ {s s′ : List ℤ} {n i r : ℕ} (t : ColumnsTaken s i n r s′) where
 pub ends-last : (S : Matrix) (i : ℕ) → endsFrom 1 S i ≡ leZ (pos 1) (S i i)
 unfolding endsFrom rowFrom
 ends-last S i = and-true (leZ (pos 1) (S i i))
-  where
-    and-true : (a : Bool) → (a && true) ≡ a
-    and-true true = refl
-    and-true false = refl

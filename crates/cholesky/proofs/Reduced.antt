@@ -1,12 +1,12 @@
 -- Factoring ends exactly where the walk by Schur complements does.
 use mathlib.Core.Path.{_≡_, refl, ap, ap₂, _∙_, subst}
-use mathlib.Core.Bool.{Bool, true, false, not, _&&_}
+use mathlib.Core.Bool.{true, _&&_}
 use mathlib.Core.Logic.{by-cases}
 use mathlib.Core.List.{List, [], _∷_, _++_}
 use Prim.Native.Nat.{ℕ, zero, suc, _+_, _≤_, _<_}
 use native.Mathlib.Omega.{arith}
 use native.Mathlib.Decide.{decLt, ℕ-discrete}
-use lib.Dec.{T}
+use lib.Dec.{T, T-not}
 use lib.IntN.{ℤ, pos, _-ℤ_, _*ℤ_}
 use lib.Signed.{_≤ℤ_, leZ, ≤ℤ-refl}
 use lib.ListN.{length}
@@ -214,11 +214,7 @@ module _ (H : Matrix) where
         column-ind H cs (λ o. T (o .done))
         (λ h. rows-done H cs j (Growing cs) grow
         (λ rest c h g. rw (left-more rest c h g, next-is rest c h g) (p .above (length c) h)) j (H j j) [] (omega arith) start)
-        (λ g. absurd (fails (leZ (pos 1) (H j j)) g (p .top .le)))
-      where
-        fails : (b : Bool) → T (not b) → T b → ⊥
-        fails true g t = g
-        fails false g t = t
+        (λ g. absurd (T-not (leZ (pos 1) (H j j)) g (p .top .le)))
 
   -- no column at all
   held-none : Held []

@@ -8,7 +8,7 @@
 --
 -- Rewrite from the outside in: `clean (need c) ∙ simp (..)`. Sizes are in ℕ: `Within m x` says |x| ≤ m, and adds up by `within-+`, `within-*`, `within-sum`.
 use mathlib.Core.Path.{_≡_, refl, sym, _∙_, ap, subst}
-use mathlib.Core.Bool.{Bool, true, false, not, cond}
+use mathlib.Core.Bool.{Bool, true, false, not}
 use mathlib.Core.List.{List}
 use Prim.Native.Nat.{ℕ, zero, suc, _+_, _*_, _-_, _^_, _≤_, _<_}
 use native.Mathlib.Nat.{lt-trans, mul-le-mul}
@@ -29,7 +29,7 @@ use borrow.Author.Tests.{leb-false}
 use Rattle.integers.specs.Sum.{sum}
 use Rattle.integers.specs.Numbers.{Within}
 use Rattle.integers.specs.Division.{floorDiv}
-use Rattle.integers.proofs.Parts.{≤-out, ≤-in, <-out, <-in, ≡-out, ≡-in}
+use Rattle.integers.proofs.Parts.{≤-out, ≤-in, <-out, <-in, ≡-out, ≡-in, cond-by}
 use Rattle.integers.proofs.Division.{floor-size, flip}
 
 -- ---- sizes
@@ -39,11 +39,9 @@ size-neg (pos (suc n)) = refl
 size-neg (negsuc n) = refl
 
 size-sub : (a b : ℕ) → natAbs (subℕ a b) ≤ a + b
-size-sub a b = go (ltb a b) (ltb→lt a b) (nltb→le a b)
-  where
-    go : (t : Bool) → (T t → a < b) → (T (not t) → b ≤ a) → natAbs (cond t (negsuc (b - suc a)) (pos (a - b))) ≤ a + b
-    go true p q = let h = p tt in omega arith
-    go false p q = let h = q tt in omega arith
+size-sub a b =
+    cond-by (ltb a b) (negsuc (b - suc a)) (pos (a - b)) (λ z. natAbs z ≤ a + b)
+    (λ t. let h = ltb→lt a b t in omega arith) (λ t. let h = nltb→le a b t in omega arith)
 
 size-+ : (x y : ℤ) → natAbs (x +ℤ y) ≤ natAbs x + natAbs y
 size-+ (pos a) (pos b) = omega arith

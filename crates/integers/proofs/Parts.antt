@@ -58,9 +58,14 @@ pub ≡-in : {x y : ℤ} → plus x + minus y ≡ plus y + minus x → x ≡ y
 ≡-in {x = negsuc a} {y = negsuc b} h = ap negsuc (omega arith)
 
 -- ---- the operations, by the parts
-cond-by : (c : Bool) (x y : ℤ) (P : ℤ → Type 0) → (T c → P x) → (T (not c) → P y) → P (cond c x y)
+pub cond-by : (c : Bool) (x y : ℤ) (P : ℤ → Type 0) → (T c → P x) → (T (not c) → P y) → P (cond c x y)
 cond-by true x y P f g = f tt
 cond-by false x y P f g = g tt
+
+-- what a test chooses, by its two cases
+pub choice-by : {A : Type 0} (P : A → Type 0) (c : Bool) {x y : A} → (T c → P x) → (T (not c) → P y) → P (elim c as (λ z. A) [ true ↦ x | false ↦ y ])
+choice-by P true f g = f tt
+choice-by P false f g = g tt
 
 subℕ-diff : (a b : ℕ) → Diff (subℕ a b) a b
 subℕ-diff a b =

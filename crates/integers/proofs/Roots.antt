@@ -1,18 +1,17 @@
 -- Laws of whole roots.
 use mathlib.Core.Path.{_≡_}
-use mathlib.Core.Bool.{Bool, true, false, not}
 use mathlib.Core.Logic.{by-cases}
 use mathlib.Core.List.{[], _∷_}
 use Prim.Native.Nat.{ℕ, zero, suc, _+_, _*_, _-_, _/_, _≤_, _<_}
 use native.Mathlib.Nat.{mul-le-mul, mul-le-mul-left, mul-div-le, lt-mul-div-succ}
 use native.Mathlib.Decide.{decLe, decLt}
 use native.Mathlib.Omega.{arith}
-use lib.Dec.{T, leb, leb→le, nleb→lt}
+use lib.Dec.{leb, leb→le, nleb→lt}
 use lib.IntN.{ℤ, pos, negsuc, natAbs, _+ℤ_, _*ℤ_}
 use lib.Signed.{_≤ℤ_, _<ℤ_, ≤ℤ-refl}
 use Rattle.integers.specs.Division.{ceilDiv}
 use Rattle.integers.specs.Root.{rootDigit, rootWithin, wholeRoot, rootAbove, leastRoot}
-use Rattle.integers.proofs.Parts.{≤-in, <-in, ≤ℤ-antisym, ≤ℤ-trans, *ℤ-nonneg, gap-nonneg, pos-nonneg}
+use Rattle.integers.proofs.Parts.{≤-in, <-in, ≤ℤ-antisym, ≤ℤ-trans, *ℤ-nonneg, gap-nonneg, pos-nonneg, choice-by}
 use Rattle.integers.proofs.Solver.{_&_, order, solver}
 use Rattle.integers.proofs.Order.{≤-unless, <-suc, *ℤ-mono, product-mono, square-cancel}
 use Rattle.integers.proofs.Division.{ceil-law, ceil-least}
@@ -29,22 +28,16 @@ record RootOf (x r : ℕ) : Type 0 where
   high : x < (r + 1) * (r + 1)
 
 digit-law : (x s : ℕ) → RootOf (x / 4) s → RootOf x (rootDigit x s)
-digit-law x s h = go (leb ((s + s + 1) * (s + s + 1)) x) (leb→le _ _) (nleb→lt _ _)
-  where
-    go : (b : Bool) → (T b → (s + s + 1) * (s + s + 1) ≤ x) → (T (not b) → x < (s + s + 1) * (s + s + 1)) →
-        RootOf x (elim b [ true ↦ s + s + 1 | false ↦ s + s ])
-    go true f g = let k = f tt in record { low = k; high = omega (arith, h .high) }
-    go false f g = let k = g tt in record { low = omega (arith, h .low); high = k }
+digit-law x s h =
+    choice-by (RootOf x) (leb ((s + s + 1) * (s + s + 1)) x) (λ t. record { low = leb→le _ _ t; high = omega (arith, h .high) })
+    (λ t. record { low = omega (arith, h .low); high = nleb→lt _ _ t })
 
 within-law : (k x : ℕ) → x ≤ k → RootOf x (rootWithin k x)
 unfolding rootWithin
 within-law zero x h = record { low = omega arith; high = omega arith }
-within-law (suc k) x h = go (leb x 0) (leb→le x 0) (nleb→lt x 0) (within-law k (x / 4))
-  where
-    go : (b : Bool) → (T b → x ≤ 0) → (T (not b) → 0 < x) → (x / 4 ≤ k → RootOf (x / 4) (rootWithin k (x / 4))) →
-        RootOf x (elim b [ true ↦ 0 | false ↦ rootDigit x (rootWithin k (x / 4)) ])
-    go true f g ih = let e = f tt in record { low = omega arith; high = omega arith }
-    go false f g ih = let e = g tt in digit-law x (rootWithin k (x / 4)) (ih (omega arith))
+within-law (suc k) x h =
+    choice-by (RootOf x) (leb x 0) (λ t. let e = leb→le x 0 t in record { low = omega arith; high = omega arith })
+    (λ t. let e = nleb→lt x 0 t in digit-law x (rootWithin k (x / 4)) (within-law k (x / 4) (omega arith)))
 
 root-of : (x : ℕ) → RootOf x (rootWithin x x)
 root-of x = within-law x x (omega arith)

@@ -17,6 +17,7 @@ use Rattle.integers.proofs.Order.{min-by, min-≤ˡ, min-≤ʳ}
 use Rattle.integers.proofs.Solver.{_&_, ring, order, solver}
 use Rattle.tables.specs.Ranges.{greatestOrder, tableRoom}
 use Rattle.tables.specs.Matrix.{Matrix, at, nth}
+use Rattle.tables.proofs.Checks.{and-right}
 use Rattle.lookahead.specs.declared.least.Share.{Share}
 use Rattle.lookahead.specs.Pairs.{sameSign, otherSign, more, openRange, sumRange, raisedRange, leastRange, PairTables, OpenShares}
 use Rattle.lookahead.specs.LeastSums.{leastOf, least, lookAhead, passedOver, leastChoice, raised, leastOne, shareAfter, sharesAfter, leastShares, shareAt, ShareWithin, AllWithin, LastShares}
@@ -224,8 +225,4 @@ module _ (S O : Matrix) (d k : ℕ) (p q : ℕ → ℤ) (s : ℤ) where
   -- the entries that are passed over have a least sum above 0
   pub passed-above : passedOver S O d k p q s ≡ true → above ≡ true
   unfolding passedOver
-  passed-above = go (leb k lookAhead)
-    where
-      go : (a : Bool) → (a && above) ≡ true → above ≡ true
-      go true e = e
-      go false e = let z : _≡_ {A = ℕ} 0 1 = cc in absurd (omega arith)
+  passed-above = and-right (leb k lookAhead) above

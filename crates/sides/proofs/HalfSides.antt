@@ -16,6 +16,7 @@ use Rattle.integers.specs.Numbers.{Within, minℤ}
 use Rattle.integers.specs.Sum.{sum}
 use Rattle.integers.specs.Division.{ceilDiv}
 use Rattle.integers.specs.Root.{leastRoot}
+use Rattle.integers.proofs.Parts.{choice-by}
 use Rattle.integers.proofs.Sums.{sum-ext}
 use Rattle.integers.proofs.Machine.{within-more, within-+, within-*, fits-within}
 use Rattle.tables.specs.Ranges.{greatestOrder, sidesRoom}
@@ -87,11 +88,7 @@ module _ (y t b : ℤ) where
 
   pub smaller-within : Within halfRange y → Within boundRange b → Within halfRange (smallerHalf y t b)
   unfolding smallerHalf
-  smaller-within v w = go (leZ t (pos 0))
-    where
-      go : (r : Bool) → Within halfRange (elim r as (λ z. ℤ) [ true ↦ y | false ↦ minℤ y (leastRoot t b) ])
-      go true = v
-      go false = within-min v (within-more (omega arith) (within-root t b w))
+  smaller-within v w = choice-by (Within halfRange) (leZ t (pos 0)) (λ p. v) (λ p. within-min v (within-more (omega arith) (within-root t b w)))
 
 -- ---- the sides as they are written
 module _ {c h : ℕ → ℤ} {x : List ℤ} where

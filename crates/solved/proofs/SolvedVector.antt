@@ -1,6 +1,6 @@
 -- What a solved vector is: n entries within a vector's range, with s at the stopping column.
-use mathlib.Core.Path.{_≡_, refl, sym, ap, _∙_}
-use mathlib.Core.Bool.{Bool, true, false, false≢true}
+use mathlib.Core.Path.{_≡_, sym, ap, _∙_}
+use mathlib.Core.Bool.{true, false, false≢true}
 use mathlib.Core.Logic.{by-cases}
 use mathlib.Core.List.{List, [], _∷_}
 use Prim.Native.Nat.{ℕ, zero, suc, _+_, _-_, _≤_, _<_}
@@ -8,6 +8,7 @@ use native.Mathlib.Omega.{arith}
 use native.Mathlib.Decide.{decLt}
 use lib.IntN.{ℤ}
 use lib.ListN.{length}
+use borrow.Table.Steps.{cases}
 use Rattle.integers.specs.Numbers.{Within}
 use Rattle.integers.specs.Sum.{only}
 use Rattle.integers.proofs.Machine.{within-more}
@@ -49,12 +50,10 @@ prolongs-more {i} {x} {xs} {v} w p =
 prolongs : (R : Matrix) (i : ℕ) (xs v : List ℤ) → solvedRows R i xs ≡ v ∷ [] → Prolongs i xs v
 unfolding solvedRows
 prolongs R zero xs v e = prolongs-none (one-only e)
-prolongs R (suc i) xs v e = go (within vectorRange (solvedEntry R i xs)) (λ q. sym (rows-on R i xs q) ∙ e) (λ q. sym (rows-none R i xs q) ∙ e) (within-of vectorRange (solvedEntry R i xs)) (prolongs R i (solvedEntry R i xs ∷ xs) v)
-  where
-    go : (b : Bool) → (b ≡ true → solvedRows R i (solvedEntry R i xs ∷ xs) ≡ v ∷ []) → (b ≡ false → _≡_ {A = List (List ℤ)} [] (v ∷ [])) →
-        (b ≡ true → Within vectorRange (solvedEntry R i xs)) → (solvedRows R i (solvedEntry R i xs ∷ xs) ≡ v ∷ [] → Prolongs i (solvedEntry R i xs ∷ xs) v) → Prolongs (suc i) xs v
-    go true f g w ih = prolongs-more (w refl) (ih (f refl))
-    go false f g w ih = absurd (not-none (g refl))
+prolongs R (suc i) xs v e =
+    cases (within vectorRange (solvedEntry R i xs))
+    (λ q. prolongs-more (within-of vectorRange (solvedEntry R i xs) q) (prolongs R i (solvedEntry R i xs ∷ xs) v (sym (rows-on R i xs q) ∙ e)))
+    (λ q. absurd (not-none (sym (rows-none R i xs q) ∙ e)))
 
 -- ---- a vector of order n
 pub record IsVector (n : ℕ) (v : List ℤ) : Type 0 where

@@ -7,7 +7,7 @@ use Prim.Native.Nat.{ℕ, zero, suc, _+_, _≤_, _<_}
 use native.Mathlib.Omega.{arith}
 use native.Mathlib.Decide.{decLt}
 use lib.Dec.{T}
-use lib.IntN.{ℤ, _-ℤ_, _*ℤ_}
+use lib.IntN.{ℤ, _*ℤ_}
 use lib.Signed.{_≤ℤ_, leZ-yes}
 use lib.ListN.{length}
 use Rattle.integers.specs.Numbers.{Within}
@@ -16,16 +16,15 @@ use Rattle.integers.proofs.Machine.{within-more, within--, within-*, within-sum
 use Rattle.tables.specs.Ranges.{greatestOrder, factorRange}
 use Rattle.tables.specs.Matrix.{Matrix, nth}
 use Rattle.tables.specs.Bounds.{Bounds}
-use Rattle.tables.proofs.Checks.{of-true}
 use Rattle.cholesky.specs.Scale.{scaled}
-use Rattle.cholesky.specs.Factoring.{Column, Factoring, entries, nextEntry, goesOn, rows, nextColumn, columnsFrom, factoring, factored}
+use Rattle.cholesky.specs.Factoring.{Factoring, entries, nextEntry, rows, nextColumn, columnsFrom, factoring, factored}
 use Rattle.cholesky.specs.Store.{upper, columnsOf, outcomeOf, Stored}
 use Rattle.cholesky.specs.declared.factoring.Outcome.{Outcome}
 use Rattle.cholesky.specs.declared.factoring.Outcome.the-variants.{Ends, Stops}
 use Rattle.cholesky.specs.Rows.{productRange}
 use Rattle.cholesky.proofs.Factored.{ρ}
 use Rattle.cholesky.proofs.Lists.{length-snoc, nth-before, nth-last}
-use Rattle.cholesky.proofs.Loops.{passes, rows-on, rows-stop, column-ind, columns-by}
+use Rattle.cholesky.proofs.Loops.{passes, column-ind, columns-by, rows-by}
 use Rattle.cholesky.proofs.Columns.{Done, column-step}
 use Rattle.cholesky.proofs.Filling.{bounds-off, bounds-top}
 use Rattle.cholesky.proofs.Store.{length-columnOf, length-columnsOf, entries-columnsOf, nth-columnOf}
@@ -77,19 +76,10 @@ module _ (n : ℕ) (H : Matrix) (o : n ≤ greatestOrder) (off : (i j : ℕ) →
     unfolding rows
     rows-cut zero rest c h a t = absurd t
     rows-cut (suc k) rest c h a t =
-        go (goesOn r (rest -ℤ r *ℤ r)) (rows-on H cs j k rest c) (rows-stop H cs j k rest c)
-        (λ e. rows-cut k (rest -ℤ r *ℤ r) (c ++ (r ∷ [])) (omega (arith, length-snoc c r)) (one-more a (record { size = passes r (rest -ℤ r *ℤ r) (of-true e) .small }))) t
-      where
-        r : ℤ
-        r = nextEntry H cs j c
-
-        P : Column → Type 0
-        P q = T (not (q .done)) → Cut cs (q .column)
-
-        go : (b : Bool) → (b ≡ true → rows H cs j (suc k) rest c ≡ rows H cs j k (rest -ℤ r *ℤ r) (c ++ (r ∷ []))) →
-            (b ≡ false → rows H cs j (suc k) rest c ≡ record { done = false; column = c ++ (r ∷ []) }) → (b ≡ true → P (rows H cs j k (rest -ℤ r *ℤ r) (c ++ (r ∷ [])))) → P (rows H cs j (suc k) rest c)
-        go true f g ih = subst P (sym (f refl)) (ih refl)
-        go false f g ih = subst P (sym (g refl)) (λ t. record { rows = omega (arith, length-snoc c r); near = one-more (wider (omega arith) a) (entry-within c (omega arith) a) })
+        let more = length-snoc c (nextEntry H cs j c) in
+        rows-by H cs j k rest c (λ q. T (not (q .done)) → Cut cs (q .column))
+        (λ g. rows-cut k _ _ (omega (arith, more)) (one-more a (record { size = passes _ _ g .small })))
+        (λ g t. record { rows = omega (arith, more); near = one-more (wider (omega arith) a) (entry-within c (omega arith) a) }) t
 
     column-cut : T (not (nextColumn H cs .done)) → Cut cs (nextColumn H cs .column)
     column-cut = column-ind H cs (λ q. T (not (q .done)) → Cut cs (q .column)) (λ h. rows-cut j (H j j) [] (omega arith) none-within) (λ g t. record { rows = omega arith; near = none-within })

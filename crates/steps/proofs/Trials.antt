@@ -9,6 +9,7 @@ use native.Mathlib.Decide.{ℕ-discrete}
 use lib.Dec.{T}
 use lib.IntN.{ℤ, pos, _-ℤ_, _*ℤ_}
 use lib.Signed.{_≤ℤ_, leZ}
+use borrow.Table.Steps.{cases}
 use Rattle.integers.specs.Sum.{only}
 use Rattle.integers.proofs.Parts.{leZ-true, gap-nonneg}
 use Rattle.integers.proofs.Solver.{_&_, order, ring, solver}
@@ -66,9 +67,6 @@ module _ (n : ℕ) (L U : Matrix) (d : ℕ → ℤ) where
 
     pub trial-is : trial n L U d ≡ factoring n (lowered scaledStep H) .ends
     unfolding trial decided
-    trial-is = go (all n (λ i. leZ (pos 1) (lowered d L i i))) refl
-      where
-        go : (c : Bool) → all n (λ i. leZ (pos 1) (lowered d L i i)) ≡ c → decided (all n (λ i. leZ (pos 1) (lowered d L i i))) ≡ factoring n (lowered scaledStep H) .ends
-        go true e = rw e ends-lowered
-        go false e =
-            rw e (sym (false-of _ (λ q. absurd (subst T (sym (all-of _ n (λ i h. leZ-true (left-low q i h))) ∙ e) tt))))
+    trial-is =
+        cases (all n (λ i. leZ (pos 1) (lowered d L i i))) (λ e. ap decided e ∙ ends-lowered)
+        (λ e. ap decided e ∙ sym (false-of _ (λ q. absurd (subst T (sym (all-of _ n (λ i h. leZ-true (left-low q i h))) ∙ e) tt))))

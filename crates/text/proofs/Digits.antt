@@ -14,6 +14,7 @@ use lib.IntN.{ℤ, pos, negsuc, natAbs}
 use lib.Signed.{leZ, ltZ}
 use mir.Syntax.{w64}
 use mir.Val.{SFits}
+use Rattle.integers.proofs.Parts.{choice-by}
 use Rattle.integers.proofs.Machine.{within-fits}
 use Rattle.text.specs.Text.{digit, digits, natural, decimal, minus, widest}
 
@@ -92,11 +93,7 @@ length-decimal-sign z = ap length (decimal-sign z) ∙ length-append (sign z) (n
 
 length-sign : (z : ℤ) → length (sign z) ≤ 1
 unfolding sign
-length-sign z = go (leZ (pos 0) z)
-  where
-    go : (b : Bool) → length {A = ℕ} (elim b [ true ↦ [] | false ↦ minus ∷ [] ]) ≤ 1
-    go true = omega arith
-    go false = omega arith
+length-sign z = choice-by (λ s. length {A = ℕ} s ≤ 1) (leZ (pos 0) z) (λ t. omega arith) (λ t. omega arith)
 
 -- a sign and at most 19 digits
 pub length-decimal : {z : ℤ} → SFits w64 z → length (decimal z) ≤ widest

@@ -11,6 +11,7 @@ use mir.Syntax.{w64}
 use mir.Val.{SFits}
 use Rattle.integers.specs.Numbers.{Within}
 use Rattle.integers.specs.Sum.{sum}
+use Rattle.integers.proofs.Parts.{choice-by}
 use Rattle.integers.proofs.Machine.{within-more, within-+, within-*, within-sum, fits-within}
 use Rattle.integers.proofs.Solver.{ring, order, solver}
 use Rattle.integers.proofs.Sums.{sum-zero, sum-suc, sum-ext, sum-none, sum-*, eqb-by}
@@ -48,11 +49,7 @@ two-within = record { size = omega arith }
 
 term-within : {l u p : ℤ} → Within entryRange l → Within entryRange u → Within vectorPairRange p → Within leastTermRange (leastTerm l u p)
 unfolding leastTerm
-term-within {l} {u} {p} a b k = go (ltZ (pos 0) p)
-  where
-    go : (t : Bool) → Within leastTermRange (elim t as (λ z. ℤ) [ true ↦ l *ℤ p | false ↦ u *ℤ p ])
-    go true = within-* a k
-    go false = within-* b k
+term-within {l} {u} {p} a b k = choice-by (Within leastTermRange) (ltZ (pos 0) p) (λ t. within-* a k) (λ t. within-* b k)
 
 module _ {n : ℕ} {l u v : List ℤ} (a : Asked n l u v) where
   module _ {i j : ℕ} (h : i < n) (k : j < n) where

@@ -7,17 +7,16 @@ use native.Mathlib.Omega.{arith}
 use borrow.Author.Tests.{eqb-true}
 use lib.Dec.{eqb}
 use lib.IntN.{ℤ, pos}
-use lib.ListN.{length}
 use Rattle.tables.specs.Matrix.{Matrix, nth, table, tabulate}
 use Rattle.tables.specs.Checks.{sizesOk}
 use Rattle.tables.specs.declared.Refusal.{Refusal}
 use Rattle.tables.proofs.Checks.{of-true, and-left, and-right, sizes-of}
 use Rattle.tables.proofs.Matrix.{tabulate-ext}
 use Rattle.cholesky.specs.Scale.{scaled}
-use Rattle.cholesky.specs.Factoring.{Factoring, entries, factoring, factored}
+use Rattle.cholesky.specs.Factoring.{Factoring, entries, factored}
 use Rattle.cholesky.specs.Store.{Stored, triangle}
 use Rattle.cholesky.specs.declared.factoring.Outcome.the-variants.{Ends, Stops}
-use Rattle.cholesky.proofs.Columns.{columns-length}
+use Rattle.cholesky.proofs.Columns.{all-columns}
 use Rattle.cholesky.proofs.Store.{outcome-ends, outcome-stops}
 use Rattle.vectors.specs.Least.{shows}
 use Rattle.tried.specs.Tried.{tried, first}
@@ -47,10 +46,6 @@ module _ (n : ℕ) (L U : Matrix) where
   unfolding judged by-end
   judged-stops e = ap by-end e
 
-all-columns : (n : ℕ) (H : Matrix) → true ≡ factoring n H .ends → length (factoring n H .columns) ≡ n
-unfolding factoring
-all-columns n H e = columns-length H n [] (of-true (sym e)) ∙ omega arith
-
 -- ---- what the code states
 module _ (n : ℕ) (L U : Matrix) (t x : List ℤ) where
   abbrev passes : List ℤ → Bool
@@ -60,7 +55,7 @@ module _ (n : ℕ) (L U : Matrix) (t x : List ℤ) where
   unfolding stated
   decided-definite s =
       let e = outcome-ends _ (sym (s .outcome)) in
-      let c = rw (all-columns n (scaled n L U) e) at (s .columns) in
+      let c = rw (all-columns n (scaled n L U) (of-true (sym e))) at (s .columns) in
       judged-ends n L U (sym e) ∙ ap (λ (cs : List (List ℤ)). definite (table n (entries cs))) (sym c) ∙ ap definite (sym (factor-table t n))
 
   -- a factoring that stopped, and what was found in the listed vectors

@@ -11,6 +11,7 @@ use lib.Dec.{T}
 use lib.IntN.{ℤ, pos, negsuc}
 use lib.Signed.{leZ, leZ-yes}
 use lib.ListN.{length}
+use borrow.Table.Steps.{cases}
 use Rattle.integers.specs.Numbers.{Within}
 use Rattle.integers.proofs.Parts.{≤ℤ-trans}
 use Rattle.integers.proofs.Machine.{within-in}
@@ -82,12 +83,9 @@ module _ (P : List ℤ → Type 0) where
   unfolding solvedRows
   every-solved-row R zero xs h = (h xs refl, tt)
   every-solved-row R (suc i) xs h =
-      go (within vectorRange (solvedEntry R i xs)) (rows-on R i xs) (rows-none R i xs) (every-solved-row R i (solvedEntry R i xs ∷ xs))
-    where
-      go : (b : Bool) → (b ≡ true → solvedRows R (suc i) xs ≡ solvedRows R i (solvedEntry R i xs ∷ xs)) → (b ≡ false → solvedRows R (suc i) xs ≡ []) →
-          (((v : List ℤ) → solvedRows R i (solvedEntry R i xs ∷ xs) ≡ v ∷ [] → P v) → Every P (solvedRows R i (solvedEntry R i xs ∷ xs))) → Every P (solvedRows R (suc i) xs)
-      go true f g ih = subst (Every P) (sym (f refl)) (ih (λ v e. h v (f refl ∙ e)))
-      go false f g ih = subst (Every P) (sym (g refl)) tt
+      cases (within vectorRange (solvedEntry R i xs))
+      (λ e. subst (Every P) (sym (rows-on R i xs e)) (every-solved-row R i (solvedEntry R i xs ∷ xs) (λ v q. h v (rows-on R i xs e ∙ q))))
+      (λ e. subst (Every P) (sym (rows-none R i xs e)) tt)
 
   every-solved : (n : ℕ) (f : Factoring) (s : ℤ) → ((v : List ℤ) → solved n f s ≡ v ∷ [] → P v) → Every P (solved n f s)
   unfolding solved
@@ -143,11 +141,10 @@ module _ (n : ℕ) (o : n ≤ greatestOrder) (L U : Matrix) (b : Bounds n L U) w
   stops-fitting e = first-fitting (λ x. shows n L U (nth x)) (listed n L U) (listed-sized e)
 
   judged-fitting : Fitting n (judged n L U)
-  judged-fitting = go (factored n L U .ends) refl
-    where
-      go : (q : Bool) → factored n L U .ends ≡ q → Fitting n (judged n L U)
-      go true e = subst (Fitting n) (sym (judged-ends n L U e)) (factor-sized n _ (ends-shape-takeOff n o L U b (of-true e)))
-      go false e = subst (Fitting n) (sym (judged-stops n L U e)) (stops-fitting e)
+  judged-fitting =
+      cases (factored n L U .ends)
+      (λ e. subst (Fitting n) (sym (judged-ends n L U e)) (factor-sized n _ (ends-shape-takeOff n o L U b (of-true e))))
+      (λ e. subst (Fitting n) (sym (judged-stops n L U e)) (stops-fitting e))
 
 pub judging-fitting : (n : ℤ) (sized : Bool) (l u : List ℤ) → Fitting (orderOf n) (judging n sized l u)
 unfolding judging

@@ -7,6 +7,7 @@ use mathlib.Core.Option.{Option, none, some}
 use Prim.Native.Nat.{ℕ, _<_}
 use lib.Dec.{T}
 use lib.IntN.{ℤ}
+use borrow.Table.Steps.{cases}
 use Rattle.tables.specs.Ranges.{vectorRange}
 use Rattle.tables.specs.Matrix.{Matrix, at, nth, table}
 use Rattle.tables.specs.Bounds.{Bounds}
@@ -133,12 +134,11 @@ module _ (n : ℤ) (sized : Bool) (l u : List ℤ) (b : Behind n sized true l u)
     }
 
     pub judged-means : Means (judged k L U) f v
-    judged-means = go (factored k L U .ends) refl
-      where
-        go : (q : Bool) → factored k L U .ends ≡ q → Means (judged k L U) f v
-        go true e = subst (λ (g : Judgement). Means g f v) (sym (judged-ends k L U e)) (ends-means (of-true e))
-        go false e = subst (λ (g : Judgement). Means g f v) (sym (judged-stops k L U e))
-            (stops-means e _ (first-picks (λ x. shows k L U (nth x)) (listed k L U)) (stops-fitting k (order-small n) L U bounds e))
+    judged-means =
+        cases (factored k L U .ends)
+        (λ e. subst (λ (g : Judgement). Means g f v) (sym (judged-ends k L U e)) (ends-means (of-true e)))
+        (λ e. subst (λ (g : Judgement). Means g f v) (sym (judged-stops k L U e))
+        (stops-means e _ (first-picks (λ x. shows k L U (nth x)) (listed k L U)) (stops-fitting k (order-small n) L U bounds e)))
 
 -- ---- of any call at all
 refused-means : (n : ℤ) (l u f v : List ℤ) (r : Refusal) → Meaning n l u (Verdict.Refused r) f v

@@ -173,10 +173,6 @@ module _ {w : Width} (n : Narrow w) where
   signedAt-same s at v f h =
       rw (low-bytes v f, unsignedAt-put (bytes w) (take at s) (drop (at + bytes w) s) at (ofZ w v) (length-take-le at s h) (bits-below w f)) (toZ-ofZ f)
 
-  pub withSigned-same : (s : List ℕ) (at : ℕ) → AllBytes s → at + bytes w ≤ length s → withSigned w s at (signedAt w s at) ≡ s
-  unfolding withSigned withUnsigned
-  withSigned-same s at b h = rw (low-bytes-signedAt s at b) (withUnsigned-same (bytes w) s at b h)
-
   -- numbers that are written out and read again, whatever stands behind their bytes
   pub numbersOf-bytesOf : (a : List ℤ) (t : List ℕ) (k : ℕ) → AllFit w a → k ≤ length a → numbersOf w (bytesOf w a k ++ t) k ≡ take k a
   unfolding numbersOf bytesOf signedAt
