@@ -1,6 +1,6 @@
 -- Enough margin means that factoring ends: no test of a row or a column fails.
 use mathlib.Core.Path.{_≡_, refl, sym, ap, ap₂, _∙_, subst}
-use mathlib.Core.Logic.{_≢_}
+use mathlib.Core.Logic.{by-cases}
 use mathlib.Core.Bool.{not}
 use mathlib.Core.List.{List, [], _∷_, _++_}
 use Prim.Native.Nat.{ℕ, zero, suc, _≤_, _<_}
@@ -140,15 +140,13 @@ module _ (n : ℕ) (H : Matrix) (symmetric : (a b : ℕ) → a < n → b < n →
     diagonal =
         rw (← sum-only n j (λ k. (E k k -ℤ pos 2 *ℤ ρ) *ℤ (x k *ℤ x k)) hj)
         (sum-mono n _ _ (λ k h.
-        only-by j k _ (λ y. ((E k k -ℤ pos 2 *ℤ ρ) *ℤ (x k *ℤ x k)) ≤ℤ y) (λ e. ≤ℤ-refl _) (λ d. go k d (decLt k i))))
-      where
-        go : (k : ℕ) → j ≢ k → Dec (k < i) → ((E k k -ℤ pos 2 *ℤ ρ) *ℤ (x k *ℤ x k)) ≤ℤ pos 0
-        go k d (yes h) =
-            let on = known .columns .on k (omega arith) in
-            rw (E-gap k k h) (order (gap H R k k ∷ R k k ∷ x k ∷ [])
-            (*ℤ-nonneg (gap-nonneg (on .gaps .high)) (square-nonneg (x k)) & *ℤ-nonneg (gap-nonneg (on .top)) (square-nonneg (x k)))
-            (search solver depth 40 fits 20000) (omega arith))
-        go k d (no h) = rw (z .beyond k (omega arith) d, *ℤ-zero (E k k -ℤ pos 2 *ℤ ρ)) (≤ℤ-refl (pos 0))
+        only-by j k _ (λ y. ((E k k -ℤ pos 2 *ℤ ρ) *ℤ (x k *ℤ x k)) ≤ℤ y) (λ e. ≤ℤ-refl _)
+        (λ d. by-cases (decLt k i)
+        (λ h. let on = known .columns .on k (omega arith) in
+        rw (E-gap k k h) (order (gap H R k k ∷ R k k ∷ x k ∷ [])
+        (*ℤ-nonneg (gap-nonneg (on .gaps .high)) (square-nonneg (x k)) & *ℤ-nonneg (gap-nonneg (on .top)) (square-nonneg (x k)))
+        (search solver depth 40 fits 20000) (omega arith)))
+        (λ h. rw (z .beyond k (omega arith) d, *ℤ-zero (E k k -ℤ pos 2 *ℤ ρ)) (≤ℤ-refl (pos 0))))))
 
     -- the rest of column j after i rows
     rest-bound : (pos 2 *ℤ ρ) ≤ℤ (H j j -ℤ squares i (λ k. R k j))
@@ -215,20 +213,18 @@ module _ (n : ℕ) (H : Matrix) (symmetric : (a b : ℕ) → a < n → b < n →
           (ap₂ (λ (u v : ℤ). u *ℤ v) (old i i hi) new))
           ∙ ring (H i j ∷ sum i (λ k. entries cs k i *ℤ nth c k) ∷ entries cs i i ∷ r ∷ []) (search solver depth 40 fits 20000) refl
 
-      rows : (a : ℕ) → a < suc i → Dec (a < i) → Between (pos 0) (gap H R a j) (R a a -ℤ pos 1)
+      rows : (a : ℕ) → a < suc i → Between (pos 0) (gap H R a j) (R a a -ℤ pos 1)
       unfolding nextEntry
-      rows a h (yes k) =
-          keep-off H (with c) R a j (λ l q. entries-before cs c l a (omega arith) ∙ sym (old l a (omega arith)))
-          (λ l q. entries-last cs c l ∙ sym (above l (omega arith))) (m .now a k) .gaps
-      rows a h (no k) =
-          let e : a ≡ i = omega arith in
-          rw (e, new-gap, old i i hi)
-          (floor-rest (H i j -ℤ sum i (λ k. entries cs k i *ℤ nth c k)) (entries cs i i) (d .on i hi .one))
+      rows a h =
+          by-cases (ℕ-discrete a i)
+          (λ e. rw (e, new-gap, old i i hi) (floor-rest (H i j -ℤ sum i (λ k. entries cs k i *ℤ nth c k)) (entries cs i i) (d .on i hi .one)))
+          (λ k. keep-off H (with c) R a j (λ l q. entries-before cs c l a (omega arith) ∙ sym (old l a (omega arith)))
+          (λ l q. entries-last cs c l ∙ sym (above l (omega arith))) (m .now a (omega arith)) .gaps)
 
       room : (pos 2 *ℤ ρ) ≤ℤ (rest -ℤ r *ℤ r)
       room =
           order (rest ∷ r ∷ H j j ∷ squares i (nth c) ∷ squares (suc i) (λ k. R k j) ∷ [])
-          (rest-bound R (suc i) j hi hj (record { columns = columns _; rows = λ a h. rows a h (decLt a i) }) & m .rest-is
+          (rest-bound R (suc i) j hi hj (record { columns = columns _; rows = rows }) & m .rest-is
           & (sum-suc i (λ k. R k j *ℤ R k j)
           ∙ ap₂ (λ (u v : ℤ). u +ℤ v *ℤ v) (sum-ext i _ _ (λ k h. ap (λ (y : ℤ). y *ℤ y) (above k h))) new))
           (search solver depth 40 fits 20000) (omega arith)
