@@ -1,6 +1,6 @@
 -- The numbers that a buffer spells, loaded over zeros.
-use mathlib.Core.Path.{_≡_, refl, ap, ap₂, _∙_}
-use mathlib.Core.Bool.{Bool, true, false, _&&_}
+use mathlib.Core.Path.{_≡_, refl, sym, ap, ap₂, _∙_}
+use mathlib.Core.Bool.{Bool, true, false, not, _&&_}
 use mathlib.Core.List.{List, _++_}
 use Prim.Native.Nat.{ℕ, _≤_}
 use native.Mathlib.Omega.{arith}
@@ -15,9 +15,9 @@ use Rattle.tables.specs.Entering.{Laid, Entered, doorChecks, entered}
 use Rattle.tables.specs.declared.Refusal.{Refusal}
 use Rattle.tables.specs.declared.Refusal.the-variants.{Length}
 use Rattle.tables.specs.declared.Checked.{Checked}
-use Rattle.tables.proofs.Checks.{first-passes, first-refuses, no-more-checks}
+use Rattle.tables.proofs.Checks.{call-true, first-passes, first-refuses, more-checks, no-more-checks}
 use Rattle.tables.proofs.Answers.{after-refused}
-use Rattle.tables.proofs.Admission.{zeros, Padded, laid-zeros, entered-laid}
+use Rattle.tables.proofs.Admission.{zeros, Padded, laid-zeros, entry-passes, entered-laid}
 use Rattle.buffers.specs.Buffers.{tableOf, vectorOf, Terms}
 
 -- k numbers laid over zeros
@@ -48,6 +48,12 @@ pub came-loaded : {n n′ : ℤ} {m : ℕ} {sized sized′ others : Bool} (l u :
     Laid m sized′ (tableOf m l) (tableOf m u) l′ u′ → r ≡ firstRefusal (doorChecks n′ sized′ others l′ u′) →
     Entered n sized others (tableOf (orderOf n) l) (tableOf (orderOf n) u) r l′ u′
 came-loaded l u e f g p a = entered-laid _ _ _ (λ s. (length-numbersOf w64 l _, length-numbersOf w64 u _)) (rw (← e, ← g) p) (rw (← f, ← g) a)
+
+-- where n is an order and the buffers have their sizes, checks 3 to 5 are all that is left to ask
+pub came-sized : {n : ℤ} {m : ℕ} {sized sized′ others : Bool} (l u : List ℕ) {l′ u′ : List ℤ} {r : Checked} → m ≡ orderOf n → (m ≡ 0 → ⊥) → sized′ ≡ sized → not sized′ ≡ false →
+    Laid m sized′ (tableOf m l) (tableOf m u) l′ u′ → r ≡ firstRefusal (boundsChecks others m l′ u′) →
+    Entered n sized others (tableOf (orderOf n) l) (tableOf (orderOf n) u) r l′ u′
+came-sized {n} l u e h g t p a = came-loaded l u e refl g p ((rw e at a) ∙ sym (more-checks _ _ (entry-passes n (ordered n (λ z. h (e ∙ z))) (call-true refl t))))
 
 -- check 3 of the numbers that were loaded is that of the numbers that the buffers spell
 pub terms-spelled : (n : ℕ) (sized : Bool) (a c : List ℕ) {x y : List ℤ} (α : ℤ) {r sized′ : Bool} {m : ℕ} {β : ℤ} → r ≡ (sized′ && termsWithin m x β y) → sized′ ≡ sized → m ≡ n → β ≡ α →

@@ -16,7 +16,7 @@ use tables::Checked;
 use tables::GREATEST_ORDER;
 use tables::Refusal;
 use tables::TABLE_ROOM;
-use tables::entering::check_door;
+use tables::entering::check_laid;
 use tables::entering::order_of;
 use verdict::judge::Verdict;
 use words::SIZE;
@@ -78,7 +78,7 @@ pub fn judge(n: i64, low: &[u8], high: &[u8], factor: &mut [u8], vector: &mut [u
     let mut l = [0i64; TABLE_ROOM];
     let mut u = [0i64; TABLE_ROOM];
     load_bounds(m, sized, low, high, &mut l, &mut u);
-    let checked = check_door(n, sized, true, &l, &u);
+    let checked = check_laid(m, true, &l, &u);
     if let Checked::Refused(r) = checked {
         return Verdict::Refused(r);
     }

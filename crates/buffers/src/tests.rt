@@ -11,7 +11,7 @@ use tables::Checked;
 use tables::GREATEST_ORDER;
 use tables::Refusal;
 use tables::TABLE_ROOM;
-use tables::entering::check_door;
+use tables::entering::check_laid;
 use tables::entering::order_of;
 use words::SIZE;
 
@@ -33,7 +33,7 @@ pub fn test_factor(n: i64, low: &[u8], high: &[u8], factor: &[u8]) -> Answer
     let mut l = [0i64; TABLE_ROOM];
     let mut u = [0i64; TABLE_ROOM];
     load_bounds(m, sized, low, high, &mut l, &mut u);
-    let checked = check_door(n, sized, true, &l, &u);
+    let checked = check_laid(m, true, &l, &u);
     if let Checked::Refused(r) = checked {
         return Answer::Refused(r);
     }
@@ -59,7 +59,7 @@ pub fn test_vector(n: i64, low: &[u8], high: &[u8], vector: &[u8]) -> Answer
     let mut l = [0i64; TABLE_ROOM];
     let mut u = [0i64; TABLE_ROOM];
     load_bounds(m, sized, low, high, &mut l, &mut u);
-    let checked = check_door(n, sized, true, &l, &u);
+    let checked = check_laid(m, true, &l, &u);
     if let Checked::Refused(r) = checked {
         return Answer::Refused(r);
     }

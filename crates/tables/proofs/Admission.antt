@@ -97,6 +97,10 @@ pub entry-passed : (n : ℤ) (sized : Bool) → firstRefusal (entryChecks n size
 unfolding entryChecks
 entry-passed n sized p = (first-passed _ _ p, first-passed _ _ (rest-passed _ _ p))
 
+pub entry-passes : (n : ℤ) {sized : Bool} → orderOk n ≡ true → sized ≡ true → firstRefusal (entryChecks n sized) ≡ Passed
+unfolding entryChecks
+entry-passes n e f = first-passes _ _ e ∙ first-passes _ _ f ∙ first-none
+
 -- ---- the order of a call
 pub order-small : (n : ℤ) → orderOf n ≤ greatestOrder
 unfolding orderOf
@@ -167,10 +171,7 @@ module _ (n : ℤ) (sized others : Bool) (l u : List ℤ) where
       record { ordered = entry-passed n sized first .0; sizes = entry-passed n sized first .1; within = others-within others (orderOf n) l u rest; checked = rest; tables = others-passed others (orderOf n) l u rest }
 
   pub behind-passed : Behind n sized others l u → firstRefusal (doorChecks n sized others l u) ≡ Passed
-  unfolding entryChecks
-  behind-passed b =
-      more-checks (entryChecks n sized) (boundsChecks others (orderOf n) l u) (first-passes _ _ (b .ordered) ∙ first-passes _ _ (b .sizes) ∙ first-none)
-      ∙ b .checked
+  behind-passed b = more-checks (entryChecks n sized) (boundsChecks others (orderOf n) l u) (entry-passes n (b .ordered) (b .sizes)) ∙ b .checked
 
   pub came-through : {r : Checked} {l′ u′ : List ℤ} → Entered n sized others l u r l′ u′ → r ≡ Passed → Behind n sized others l u
   came-through e q = behind (sym (e .answered) ∙ q)

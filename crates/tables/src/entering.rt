@@ -1,9 +1,9 @@
 // R5 of docs/RULES.md, the door of every act: checks 1 to 5, and the bounds that everything below reads, in scratch tables.
 ghost use mathlib.Core.Path.{_≡_};
-ghost use Prim.Native.Nat.{_≤_};
+ghost use Prim.Native.Nat.{_*_, _≤_};
 ghost use lib.ListN.{length};
-ghost use Rattle.tables.specs.Checks.{orderOf, firstRefusal, entryChecks};
-ghost use Rattle.tables.specs.Ranges.{greatestOrder};
+ghost use Rattle.tables.specs.Checks.{orderOf, firstRefusal, entryChecks, boundsChecks};
+ghost use Rattle.tables.specs.Ranges.{greatestOrder, tableRoom};
 ghost use Rattle.tables.specs.Entering.{doorChecks, Exact, Blank, Rooms, Laid, Entered};
 use crate::Checked;
 use crate::Refusal;
@@ -35,6 +35,15 @@ pub fn check_entry(n: i64, sized: bool) -> Checked
     Checked::Refused(Refusal::Length)
 }
 
+// Checks 3 to 5 of bounds of order n that stand in l and u: for an act that has made checks 1 and 2. `within` says whether the call's
+// other numbers are in their ranges.
+pub fn check_laid(n: usize, within: bool, l: &Table, u: &Table) -> Checked
+    requires { ⌜ (n ≤ greatestOrder) × (n * n ≤ tableRoom) × Rooms (now l) (now u) ⌝ }
+    ensures { λ r. ⌜ r ≡ firstRefusal (boundsChecks within n (now (l .entry)) (now (u .entry))) ⌝ }
+{
+    check_bounds(n, within, l, u)
+}
+
 // Checks 1 to 5 of a call whose bounds stand in l and u, each over the whole input before the next. `sized` says whether all buffers of
 // the call have their sizes, `within` whether its other numbers are in their ranges.
 pub fn check_door(n: i64, sized: bool, within: bool, l: &Table, u: &Table) -> Checked
@@ -45,7 +54,7 @@ pub fn check_door(n: i64, sized: bool, within: bool, l: &Table, u: &Table) -> Ch
     if let Checked::Refused(r) = checked {
         return Checked::Refused(r);
     }
-    check_bounds(order_of(n), within, l, u)
+    check_laid(order_of(n), within, l, u)
 }
 
 // Bounds of order n as numbers into l and u, where the buffers have their sizes.

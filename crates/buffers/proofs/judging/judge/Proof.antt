@@ -13,7 +13,7 @@ use Rattle.tables.proofs.Admission.{order-small, order-fits, no-order, came-thr
 use Rattle.verdict.specs.Judge.{Judgement, refused, Judged, judging}
 use Rattle.verdict.proofs.Decisions.{judge-sizes-of}
 use Rattle.buffers.specs.Buffers.{tableOf, judgeBuffers, storedVerdict}
-use Rattle.buffers.proofs.Loading.{no-sizes, came-loaded}
+use Rattle.buffers.proofs.Loading.{no-sizes, came-sized}
 use Rattle.buffers.proofs.judging.judge.Statement.{statement}
 use Rattle.buffers.proofs.judging.judge.Tie as tie
 
@@ -32,21 +32,21 @@ sizes s =
 sized : (c : tie.After-sizes-ok) → c .sizes-ok .result ≡ sizes (begun (c .before .before))
 sized c = rw (order (c .before .before)) at (c .sizes-ok .ensures)
 
-abbrev loads : (c : tie.After-check-door) → tie.After-load-bounds
+abbrev loads : (c : tie.After-check-laid) → tie.After-load-bounds
 loads c = c .before .before .before
 
-abbrev met : (c : tie.After-check-door) → tie.After-sizes-ok
+abbrev met : (c : tie.After-check-laid) → tie.After-sizes-ok
 met c = loads c .before .before .before .before
 
-abbrev start : (c : tie.After-check-door) → tie.Start
+abbrev start : (c : tie.After-check-laid) → tie.Start
 start c = begun (met c .before .before)
 
 -- the door, with what it found
-came : (c : tie.After-check-door) → let a = start c .args in
+came : (c : tie.After-check-laid) → let a = start c .args in
     Entered (a .n) (sizes (start c)) true (tableOf (orderOf (a .n)) (a .low .now)) (tableOf (orderOf (a .n)) (a .high .now))
-    (c .check-door .result) (loads c .load-bounds .last .1 .1 .1 .1 .0) (loads c .load-bounds .last .1 .1 .1 .1 .1 .0)
+    (c .check-laid .result) (loads c .load-bounds .last .1 .1 .1 .1 .0) (loads c .load-bounds .last .1 .1 .1 .1 .1 .0)
 came c =
-    came-loaded _ _ (order (met c .before .before)) (clean (start c .fits .n)) (sized (met c)) (loads c .load-bounds .ensures) (c .check-door .ensures)
+    came-sized _ _ (order (met c .before .before)) (met c .before .if1 .left) (sized (met c)) (loads c .before .before .before .if2 .left) (loads c .load-bounds .ensures) (c .check-laid .ensures)
 
 -- both buffers with it
 abbrev given : tie.Start → Judgement → Judged (List ℕ)
@@ -67,7 +67,7 @@ judge-spec =
     (λ c κs.
     let d = c .before .before .before in
     rw (order (d .before .before)) (order-small _, (λ s. let z = judge-sizes-of _ _ _ _ _ _ (sym (sized d) ∙ s) in (omega (arith, z .0), omega (arith, z .1))), refl, refl))
-    (λ c κs. c .before .before .load-bounds .ensures .rooms)
+    (λ c κs. let d = c .before .before in rw (order (d .before .before .before .before .before .before)) (order-small _, order-fits _ refl, d .load-bounds .ensures .rooms))
     (λ c. search needs)
     (λ c.
     let e = c .before .before .before in
@@ -78,8 +78,7 @@ judge-spec =
     (λ c κs.
     let e = c .before .before .before .before .before .before in
     let q = c .before .before .before .before .enum-told .given .1 in
-    let b = came-through _ _ _ _ _ (came e) q in
-    let z = judge-sizes-of _ _ _ _ _ _ (b .sizes) in
+    let z = judge-sizes-of _ _ _ _ _ _ (came-through _ _ _ _ _ (came e) q .sizes) in
     rw (order (met e .before .before)) (came e .held q .tables, z .2, z .3))
     (λ c. search needs)
     (λ c. search needs)

@@ -1,5 +1,4 @@
 use mathlib.Core.Path.{_≡_, refl, sym, _∙_}
-use native.Mathlib.Omega.{arith}
 use borrow.Author.Needs.{needs}
 use Rattle.integers.proofs.Machine.{clean}
 use Rattle.tables.specs.Checks.{firstRefusal, orderOf, entryChecks}
@@ -24,10 +23,5 @@ check-door-spec =
     (λ c. let e = c .before .before .before in sym (no-more-checks _ _ _ (sym (entry e) ∙ c .before .checked .given .1)))
     (λ c. search needs)
     (λ c κs. search needs)
-    (λ c κs.
-    let d = c .before .before in
-    let s = d .before .before .before .before in
-    rw (order d) (order-small _, omega (arith, order-fits (s .args .n) refl, s .pre .low-size), omega (arith, order-fits (s .args .n) refl, s .pre .high-size)))
-    (λ c.
-    let d = c .before .before .before in
-    (rw (order d) at (c .check-bounds .ensures)) ∙ sym (more-checks _ _ (sym (entry (d .before .before .before)) ∙ d .before .enum-told .given .1))))
+    (λ c κs. rw (order c) (order-small _, order-fits _ refl, c .before .before .before .before .pre))
+    (λ c. (rw (order (c .before)) at (c .check-laid .ensures)) ∙ sym (more-checks _ _ (sym (entry (c .before .before .before .before)) ∙ c .before .before .enum-told .given .1))))
