@@ -11,11 +11,9 @@ use Rattle.words.specs.Numbers.{numbersOf, bytesOf}
 use Rattle.tables.specs.Ranges.{greatestOrder}
 use Rattle.tables.specs.Matrix.{Matrix, nth, table}
 use Rattle.tables.specs.Checks.{sizesOk}
-use Rattle.verdict.specs.Judge.{Judgement, Judged, judgeSizes}
-use Rattle.verdict.specs.Judge as Judge
+use Rattle.verdict.specs.Judge.{Judgement, Judged, judgeSizes, laidVerdict}
 use Rattle.enclosure.specs.Box.{Box}
-use Rattle.enclosure.specs.Act.{Enclosed, boxSizes}
-use Rattle.enclosure.specs.Act as Act
+use Rattle.enclosure.specs.Act.{Enclosed, boxSizes, laidSides}
 
 -- the table of order n that a buffer spells: n² signed numbers of 8 bytes (R1.6)
 abbrev pub tableOf : ℕ → List ℕ → List ℤ
@@ -45,11 +43,11 @@ boxBuffers n = boxSizes (n * n * bytes w64) (n * bytes w64) ((n + n) * bytes w64
 -- ---- what is stored
 -- the factor's table or the vector is written, 8 bytes for each number; the other buffer is kept
 abbrev pub storedVerdict : ℕ → Judgement → List ℕ → List ℕ → Judged (List ℕ)
-storedVerdict n = Judge.laid (λ t. bytesOf w64 t (n * n)) (λ x. bytesOf w64 x n)
+storedVerdict n = laidVerdict (λ t. bytesOf w64 t (n * n)) (λ x. bytesOf w64 x n)
 
 -- the sides are written, 8 bytes for each number, or the buffer is kept
 abbrev pub storedSides : ℕ → Box → List ℕ → Enclosed (List ℕ)
-storedSides n = Act.laid (λ s. bytesOf w64 s (n + n))
+storedSides n = laidSides (λ s. bytesOf w64 s (n + n))
 
 -- the bytes of the first k numbers of M's table, of order n, stand at the front of a buffer
 abbrev pub Front : ℕ → Matrix → List ℕ → ℕ → Type 0

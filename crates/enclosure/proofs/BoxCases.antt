@@ -24,7 +24,7 @@ use Rattle.enclosure.specs.Box.{Box, sides, refused, boxed}
 use Rattle.sides.proofs.SameBox.{box-same}
 use Rattle.centre.specs.Contracts.{Centred}
 use Rattle.sides.specs.Contracts.{boxIn, SidesAnswered}
-use Rattle.enclosure.specs.Act.{Enclosed, laid, boxSizes}
+use Rattle.enclosure.specs.Act.{Enclosed, laidSides, boxSizes}
 use Rattle.enclosure.specs.Stating.{stated, Stated}
 use Rattle.enclosure.specs.declared.enclose.BoxAnswer.{BoxAnswer}
 use Rattle.enclosure.specs.declared.enclose.BoxAnswer.the-variants as BoxAnswer
@@ -94,18 +94,18 @@ module _ (n : ℕ) (a : List ℤ) (α : ℤ) (c : List ℤ) (e : termsWithin n a
 
 -- ---- what is handed out with it, in a buffer of any kind
 module _ {A : Type 0} (F : List ℤ → A) (n : ℕ) {b : Box} {r : BoxAnswer} {x : List ℤ} (st : Stated b n r x) (s : A) where
-  given-by : (q : BoxAnswer) → r ≡ q → laid F (stated n q x) s ≡ laid F b s
-  given-by q e = sym (ap (λ (g : Box). laid F g s) (st .box ∙ ap (λ (r : BoxAnswer). stated n r x) e))
+  given-by : (q : BoxAnswer) → r ≡ q → laidSides F (stated n q x) s ≡ laidSides F b s
+  given-by q e = sym (ap (λ (g : Box). laidSides F g s) (st .box ∙ ap (λ (r : BoxAnswer). stated n r x) e))
 
-  pub given-sides : {s′ : A} → r ≡ BoxAnswer.Sides → s′ ≡ F (tabulate (n + n) (nth x)) → _≡_ {A = Enclosed A} (record { answer = BoxAnswer.Sides; sides = s′ }) (laid F b s)
+  pub given-sides : {s′ : A} → r ≡ BoxAnswer.Sides → s′ ≡ F (tabulate (n + n) (nth x)) → _≡_ {A = Enclosed A} (record { answer = BoxAnswer.Sides; sides = s′ }) (laidSides F b s)
   unfolding stated
   given-sides e w = rw w (given-by BoxAnswer.Sides e)
 
-  pub given-empty : r ≡ BoxAnswer.Empty → _≡_ {A = Enclosed A} (record { answer = BoxAnswer.Empty; sides = s }) (laid F b s)
+  pub given-empty : r ≡ BoxAnswer.Empty → _≡_ {A = Enclosed A} (record { answer = BoxAnswer.Empty; sides = s }) (laidSides F b s)
   unfolding stated
   given-empty e = given-by BoxAnswer.Empty e
 
-  pub given-refused : (k : Refusal) → r ≡ BoxAnswer.Refused k → _≡_ {A = Enclosed A} (record { answer = BoxAnswer.Refused k; sides = s }) (laid F b s)
+  pub given-refused : (k : Refusal) → r ≡ BoxAnswer.Refused k → _≡_ {A = Enclosed A} (record { answer = BoxAnswer.Refused k; sides = s }) (laidSides F b s)
   unfolding stated
   given-refused k e = given-by (BoxAnswer.Refused k) e
 

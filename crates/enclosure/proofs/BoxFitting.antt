@@ -16,6 +16,7 @@ use Rattle.tables.specs.Ranges.{greatestOrder, limitRange, centreRange, gradien
 use Rattle.tables.specs.Matrix.{Matrix, at, nth, tabulate}
 use Rattle.tables.specs.Checks.{all, orderOf}
 use Rattle.tables.specs.Problem.{problemOf}
+use Rattle.tables.proofs.Buffers.{Small}
 use Rattle.tables.proofs.Matrix.{length-tabulate, nth-tabulate}
 use Rattle.tables.proofs.Checks.{passed-bounds}
 use Rattle.tables.proofs.Admission.{order-small, entered-means}
@@ -33,11 +34,6 @@ use Rattle.enclosure.proofs.Readiness.{ready-of}
 use Rattle.enclosure.proofs.Enclosing.{length-sides, sides-at}
 use Rattle.sides.proofs.HalfSides.{bound-within, halves-within, half-terms, second-within, smaller-within, second-is, half-is}
 use Rattle.enclosure.proofs.BoxCases.{box-flat, box-far, box-near, limit-within, centred}
-
--- the numbers of a list, past its end too (where it reads 0), are within ±b
-pub record Small (m b : ℕ) (x : List ℤ) : Type 0 where
-  pub size : length x ≡ m
-  pub small : (i : ℕ) → Within b (nth x i)
 
 abbrev pub Fitting : ℕ → Box → Type 0
 Fitting n (sides s) = Small (n + n) sideRange s

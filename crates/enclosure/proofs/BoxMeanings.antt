@@ -9,12 +9,12 @@ use Rattle.tables.specs.declared.problem.Constraint.{Constraint}
 use Rattle.tables.proofs.Checks.{passed-bounds}
 use Rattle.tables.proofs.Admission.{order-small, entered-means}
 use Rattle.enclosure.specs.Box.{Box, sides, empty, refused, boxed, problemBox, boxing}
-use Rattle.enclosure.specs.Act.{Enclosed, laid, Meaning}
+use Rattle.enclosure.specs.Act.{Enclosed, laidSides, Meaning}
 use Rattle.enclosure.proofs.Enclosing.{Says, box-says}
 
 -- the sides as they are
 abbrev whole : Box → List ℤ → Enclosed (List ℤ)
-whole = laid (λ s. s)
+whole = laidSides (λ s. s)
 
 pub box-means : (c : Constraint) (s : List ℤ) (b : Box) → Says (c .order) (at (c .order) (c .low)) (at (c .order) (c .high)) (nth (c .linear)) (c .limit) b →
     Meaning (whole b s .answer) c (whole b s .sides)

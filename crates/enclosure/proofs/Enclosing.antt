@@ -26,7 +26,7 @@ use Rattle.steps.specs.Steps.{step, stepAt}
 use Rattle.centre.specs.Centre.{gradient, atCentre}
 use Rattle.sides.specs.Sides.{bound, secondBound, halfSide, sidesFrom, boxOf}
 use Rattle.enclosure.specs.Box.{Box, sides, empty, refused, boxed}
-use Rattle.enclosure.specs.Points.{Point, Held}
+use Rattle.enclosure.specs.Points.{Point, Contains}
 use Rattle.enclosure.proofs.Strong.{step-strong, step-at-strong}
 use Rattle.enclosure.proofs.AtCentre.{offset, from-offset, around}
 use Rattle.centre.proofs.Magnitudes.{gradient-nonneg}
@@ -34,7 +34,7 @@ use Rattle.enclosure.proofs.Halves.{Near, one-of, bound-nonneg, second-
 
 -- what a box says of the points
 abbrev pub Says : (n : ℕ) (L U : Matrix) (a : ℕ → ℤ) (α : ℤ) → Box → Type 0
-Says n L U a α (sides s) = (X : ℕ → ℤ) (p : ℤ) → Point n L U a α X p → Held n s X p
+Says n L U a α (sides s) = (X : ℕ → ℤ) (p : ℤ) → Point n L U a α X p → Contains n s X p
 Says n L U a α empty = (X : ℕ → ℤ) (p : ℤ) → Point n L U a α X p → ⊥
 Says n L U a α (refused r) = Unit {0}
 

@@ -11,7 +11,7 @@ use Rattle.tables.specs.Checks.{orderOf, sizesOk}
 use Rattle.tables.specs.Problem.{problemOf}
 use Rattle.tables.specs.declared.problem.Constraint.{Constraint}
 use Rattle.enclosure.specs.Box.{Box, sides, empty, refused, boxing}
-use Rattle.enclosure.specs.Points.{Allowed, Held}
+use Rattle.enclosure.specs.Points.{Allowed, Contains}
 use Rattle.enclosure.specs.declared.enclose.BoxAnswer.{BoxAnswer}
 use Rattle.enclosure.specs.declared.enclose.BoxAnswer.the-variants as BoxAnswer
 
@@ -21,10 +21,10 @@ pub record Enclosed (A : Type 0) : Type 0 where
   pub sides : A
 
 -- R14.4, D1.3: only a box is written, and nothing on 'empty' and on a refusal. F lays the sides into a buffer.
-abbrev pub laid : {A : Type 0} → (List ℤ → A) → Box → A → Enclosed A
-laid F (sides s) b = record { answer = BoxAnswer.Sides; sides = F s }
-laid F empty b = record { answer = BoxAnswer.Empty; sides = b }
-laid F (refused r) b = record { answer = BoxAnswer.Refused r; sides = b }
+abbrev pub laidSides : {A : Type 0} → (List ℤ → A) → Box → A → Enclosed A
+laidSides F (sides s) b = record { answer = BoxAnswer.Sides; sides = F s }
+laidSides F empty b = record { answer = BoxAnswer.Empty; sides = b }
+laidSides F (refused r) b = record { answer = BoxAnswer.Refused r; sides = b }
 
 -- 2, R4.2: each lent buffer has the size that belongs to n: that of a table, of a vector, or of the sides
 unfoldable pub boxSizes : ℕ → ℕ → ℕ → ℕ → ℕ → ℕ → ℕ → ℕ → Bool
@@ -34,7 +34,7 @@ boxSizes table vector pairs l u a c s = sizesOk table vector l u a && (eqb c vec
 unfoldable pub enclose : ℤ → List ℤ → List ℤ → List ℤ → ℤ → List ℤ → List ℤ → Enclosed (List ℤ)
 enclose n l u a α c s =
     let k : ℕ = orderOf n in
-    laid (λ x. x) (boxing n (boxSizes (k * k) k (k + k) (length l) (length u) (length a) (length c) (length s)) (problemOf k l u a α c)) s
+    laidSides (λ x. x) (boxing n (boxSizes (k * k) k (k + k) (length l) (length u) (length a) (length c) (length s)) (problemOf k l u a α c)) s
 
 -- R15.4: the number at the C entry, 0, -1, or the refusal's
 unfoldable pub boxCode : BoxAnswer → ℤ
@@ -45,6 +45,6 @@ boxCode (BoxAnswer.Refused r) = pos (refusalNumber r)
 -- ---- what an answer means of a constraint c; s is the buffer as it is left
 pub record Meaning (r : BoxAnswer) (c : Constraint) (s : List ℤ) : Type 0 where
   -- D3.3: a box contains every point
-  pub holds : r ≡ BoxAnswer.Sides → (X : ℕ → ℤ) (p : ℤ) → Allowed c X p → Held (c .order) s X p
+  pub holds : r ≡ BoxAnswer.Sides → (X : ℕ → ℤ) (p : ℤ) → Allowed c X p → Contains (c .order) s X p
   -- D3.4: 'empty', there is no point
   pub none : r ≡ BoxAnswer.Empty → (X : ℕ → ℤ) (p : ℤ) → Allowed c X p → ⊥

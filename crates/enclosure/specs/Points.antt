@@ -22,5 +22,5 @@ abbrev pub Allowed : Constraint → (ℕ → ℤ) → ℤ → Type 0
 Allowed c X p = Point (c .order) (at (c .order) (c .low)) (at (c .order) (c .high)) (nth (c .linear)) (c .limit) X p
 
 -- R3.7: the sides s contain X over p, multiplied out: p low ≤ X(k) ≤ p high
-abbrev pub Held : ℕ → List ℤ → (ℕ → ℤ) → ℤ → Type 0
-Held n s X p = (k : ℕ) → k < n → ((p *ℤ nth s (k + k)) ≤ℤ X k) × (X k ≤ℤ (p *ℤ nth s (k + k + 1)))
+abbrev pub Contains : ℕ → List ℤ → (ℕ → ℤ) → ℤ → Type 0
+Contains n s X p = (k : ℕ) → k < n → ((p *ℤ nth s (k + k)) ≤ℤ X k) × (X k ≤ℤ (p *ℤ nth s (k + k + 1)))

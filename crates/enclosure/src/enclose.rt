@@ -11,7 +11,7 @@ ghost use Rattle.tables.specs.Checks.{orderOf};
 ghost use Rattle.tables.specs.Problem.{constraintOf};
 ghost use Rattle.centre.specs.Contracts.{Centred};
 ghost use Rattle.enclosure.specs.Box.{boxed};
-ghost use Rattle.enclosure.specs.Act.{Enclosed, laid, boxSizes, enclose, boxCode, Meaning};
+ghost use Rattle.enclosure.specs.Act.{Enclosed, laidSides, boxSizes, enclose, boxCode, Meaning};
 ghost use Rattle.enclosure.specs.Stating.{Stated};
 use centre::at_centre;
 use centre::gradients;
@@ -91,7 +91,7 @@ fn enclose_bounds(
 ) -> BoxAnswer
     requires { ⌜ Centred n (now low) (now high) (now linear) (now centre) × Within limitRange limit × (length (now sides) ≡ n +
         n) ⌝ }
-    ensures { λ r. ⌜ _≡_ {A = Enclosed (List ℤ)} (record { answer = r; sides = now (sides .exit) }) (laid (λ s. s) (boxed n
+    ensures { λ r. ⌜ _≡_ {A = Enclosed (List ℤ)} (record { answer = r; sides = now (sides .exit) }) (laidSides (λ s. s) (boxed n
         (at n (now (low .entry))) (at n (now (high .entry))) (nth (now (linear .entry))) limit (nth (now (centre .entry)))) (now
         (sides .entry))) ⌝ }
 {

@@ -11,7 +11,7 @@ use Rattle.tables.specs.Checks.{orderOf}
 use Rattle.tables.specs.Problem.{constraintOf, problemOf}
 use Rattle.tables.specs.declared.problem.Constraint.{Constraint}
 use Rattle.enclosure.specs.Box.{Box, sides, empty, refused, boxing}
-use Rattle.enclosure.specs.Act.{laid, Meaning}
+use Rattle.enclosure.specs.Act.{laidSides, Meaning}
 use Rattle.enclosure.proofs.BoxFitting.{Fitting, boxing-fitting}
 use Rattle.enclosure.proofs.BoxMeanings.{boxing-means}
 use Rattle.enclosure.proofs.BoxCodes.{code-sides, code-empty}
@@ -25,7 +25,7 @@ module _ (k : ℕ) (c : Constraint) (s : List ℕ) where
   abbrev Means : Box → Type 0
   Means b = Meaning (storedSides k b s .answer) c (sidesOf k (storedSides k b s .sides))
 
-  stored-means : (b : Box) → Fitting k b → (let j = laid (λ x. x) b (sidesOf k s) in Meaning (j .answer) c (j .sides)) → Means b
+  stored-means : (b : Box) → Fitting k b → (let j = laidSides (λ x. x) b (sidesOf k s) in Meaning (j .answer) c (j .sides)) → Means b
   stored-means (sides t) z m = rw (read-numbers t (z .size) (z .small) (omega arith)) m
   stored-means empty z m = m
   stored-means (refused r) z m = m

@@ -11,7 +11,7 @@ use Rattle.tables.specs.Problem.{constraintOf}
 use Rattle.tables.specs.Members.{PositiveDefinite, Margin}
 use Rattle.vectors.specs.Least.{shows, Witness}
 use Rattle.verdict.specs.Judge.{listed}
-use Rattle.enclosure.specs.Points.{Allowed, Held}
+use Rattle.enclosure.specs.Points.{Allowed, Contains}
 use Rattle.buffers.specs.Buffers.{tableOf, vectorOf, sidesOf}
 use Rattle.hankboulder.specs.Entries.{testFactorEntry, testVectorEntry}
 
@@ -55,7 +55,7 @@ module _ (n : ℤ) (l u : List ℕ) where
   pub record BoxMeaning (a : List ℕ) (α r : ℤ) (s : List ℕ) : Type 0 where
     -- 0, a box is given: it contains every point of the ellipsoid (D3.3)
     pub holds : r ≡ pos 0 → (X : ℕ → ℤ) (p : ℤ) →
-        Allowed (constraintOf k (tableOf k l) (tableOf k u) (vectorOf k a) α) X p → Held k (sidesOf k s) X p
+        Allowed (constraintOf k (tableOf k l) (tableOf k u) (vectorOf k a) α) X p → Contains k (sidesOf k s) X p
     -- -1, empty: there is no point (D3.4)
     pub none : r ≡ negsuc 0 → (X : ℕ → ℤ) (p : ℤ) →
         Allowed (constraintOf k (tableOf k l) (tableOf k u) (vectorOf k a) α) X p → ⊥

@@ -1,4 +1,4 @@
--- Laws of a buffer that is being filled: each store adds an entry, and a full buffer is a whole list.
+-- Laws of a buffer that is being filled: each store adds an entry, and a full buffer is a whole list; and a list of small numbers.
 use mathlib.Core.Path.{_≡_, sym, _∙_}
 use mathlib.Core.List.{List, _++_, append-nil}
 use Prim.Native.Nat.{ℕ, suc, _≤_, _<_}
@@ -7,9 +7,15 @@ use native.Mathlib.Decide.{ℕ-discrete}
 use lib.IntN.{ℤ, pos}
 use lib.ListN.{length, set, take, drop, length-set, length-append, length-drop, drop-of-length-le}
 use lib.Seq.{ext-getD, getD-set-same, getD-set-other, getD-take, length-take-le, take-suc, drop-cons, set-at, append-snoc}
+use Rattle.integers.specs.Numbers.{Within}
 use Rattle.tables.specs.Matrix.{nth, tabulate}
 use Rattle.tables.specs.Buffers.{Filled}
 use Rattle.tables.proofs.Matrix.{length-tabulate, nth-tabulate}
+
+-- the numbers of a list, past its end too (where it reads 0), are within ±b
+pub record Small (m b : ℕ) (x : List ℤ) : Type 0 where
+  pub size : length x ≡ m
+  pub small : (i : ℕ) → Within b (nth x i)
 
 -- entry k of a list in which v was stored as entry m
 pub entry-more : (x : List ℤ) (m : ℕ) (v : ℤ) (f : ℕ → ℤ) → m < length x → v ≡ f m → (k : ℕ) → k < suc m → (k < m → nth x k ≡ f k) → nth (set x m v) k ≡ f k

@@ -24,7 +24,7 @@ use Rattle.tried.specs.Search.{found, Searched}
 use Rattle.solved.specs.Solved.{solved}
 use Rattle.solved.specs.Stopped.{stoppedAt}
 use Rattle.solved.proofs.Stops.{stopped-at}
-use Rattle.verdict.specs.Judge.{Judgement, definite, notDefinite, listed, shownBy, judged, Judged, laid, judgeSizes}
+use Rattle.verdict.specs.Judge.{Judgement, definite, notDefinite, listed, shownBy, judged, Judged, laidVerdict, judgeSizes}
 use Rattle.verdict.specs.Deciding.{stated, shownVerdict}
 use Rattle.verdict.specs.declared.judge.Verdict.{Verdict}
 use Rattle.verdict.specs.declared.judge.Verdict.the-variants as Verdict
@@ -82,24 +82,24 @@ module _ (n : ℕ) (L U : Matrix) (t x : List ℤ) where
 -- ---- what is handed out with a judgement g, in buffers of any kind
 module _ {A : Type 0} (F W : List ℤ → A) (f v : A) (g : Judgement) (n : ℕ) (t x : List ℤ) where
   module _ {r : Verdict} (e : g ≡ stated n r t x) where
-    given-by : (s : Verdict) → r ≡ s → laid F W (stated n s t x) f v ≡ laid F W g f v
-    given-by s q = sym (ap (λ (g : Judgement). laid F W g f v) (e ∙ ap (λ (r : Verdict). stated n r t x) q))
+    given-by : (s : Verdict) → r ≡ s → laidVerdict F W (stated n s t x) f v ≡ laidVerdict F W g f v
+    given-by s q = sym (ap (λ (g : Judgement). laidVerdict F W g f v) (e ∙ ap (λ (r : Verdict). stated n r t x) q))
 
     pub given-definite : {f′ : A} → r ≡ Verdict.Definite → f′ ≡ F (table n (triangle t)) →
-        _≡_ {A = Judged A} (record { verdict = Verdict.Definite; factor = f′; vector = v }) (laid F W g f v)
+        _≡_ {A = Judged A} (record { verdict = Verdict.Definite; factor = f′; vector = v }) (laidVerdict F W g f v)
     unfolding stated
     given-definite q w = rw w (given-by Verdict.Definite q)
 
     pub given-not : {v′ : A} → r ≡ Verdict.NotDefinite → v′ ≡ W (tabulate n (nth x)) →
-        _≡_ {A = Judged A} (record { verdict = Verdict.NotDefinite; factor = f; vector = v′ }) (laid F W g f v)
+        _≡_ {A = Judged A} (record { verdict = Verdict.NotDefinite; factor = f; vector = v′ }) (laidVerdict F W g f v)
     unfolding stated
     given-not q w = rw w (given-by Verdict.NotDefinite q)
 
-    pub given-undecided : r ≡ Verdict.Undecided → _≡_ {A = Judged A} (record { verdict = Verdict.Undecided; factor = f; vector = v }) (laid F W g f v)
+    pub given-undecided : r ≡ Verdict.Undecided → _≡_ {A = Judged A} (record { verdict = Verdict.Undecided; factor = f; vector = v }) (laidVerdict F W g f v)
     unfolding stated
     given-undecided q = given-by Verdict.Undecided q
 
-    pub given-refused : (k : Refusal) → r ≡ Verdict.Refused k → _≡_ {A = Judged A} (record { verdict = Verdict.Refused k; factor = f; vector = v }) (laid F W g f v)
+    pub given-refused : (k : Refusal) → r ≡ Verdict.Refused k → _≡_ {A = Judged A} (record { verdict = Verdict.Refused k; factor = f; vector = v }) (laidVerdict F W g f v)
     unfolding stated
     given-refused k q = given-by (Verdict.Refused k) q
 

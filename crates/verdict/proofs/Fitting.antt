@@ -19,6 +19,7 @@ use Rattle.tables.specs.Ranges.{greatestOrder, factorRange, vectorRange}
 use Rattle.tables.specs.Matrix.{Matrix, at, nth, table}
 use Rattle.tables.specs.Bounds.{Bounds}
 use Rattle.tables.specs.Checks.{within, orderOf}
+use Rattle.tables.proofs.Buffers.{Small}
 use Rattle.tables.proofs.Checks.{of-true, true-of, and-left, and-right, all-at, le-of, same-of, within-of, passed-bounds}
 use Rattle.tables.proofs.Matrix.{length-table, nth-at, at-table, row-inside, column-inside}
 use Rattle.tables.proofs.Admission.{order-small, entered-means}
@@ -36,11 +37,6 @@ use Rattle.solved.proofs.SolvedVector.{solved-vector}
 use Rattle.solved.proofs.Stops.{bounds-stop}
 use Rattle.verdict.specs.Judge.{Judgement, definite, notDefinite, undecided, refused, listed, shownBy, judged, judging}
 use Rattle.verdict.proofs.Decisions.{judged-ends, judged-stops}
-
--- the numbers of a list, past its end too (where it reads 0), are within ±b
-pub record Small (m b : ℕ) (x : List ℤ) : Type 0 where
-  pub size : length x ≡ m
-  pub small : (i : ℕ) → Within b (nth x i)
 
 abbrev pub Fitting : ℕ → Judgement → Type 0
 Fitting n (definite t) = Small (n * n) factorRange t

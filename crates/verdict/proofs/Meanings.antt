@@ -31,7 +31,8 @@ use Rattle.verdict.specs.Judge.{Judgement, definite, refused, listed, sh
 use Rattle.verdict.specs.declared.judge.Verdict.{Verdict}
 use Rattle.verdict.specs.declared.judge.Verdict.the-variants as Verdict
 use Rattle.verdict.proofs.Decisions.{judged-ends, judged-stops}
-use Rattle.verdict.proofs.Fitting.{Small, Fitting, stops-fitting}
+use Rattle.tables.proofs.Buffers.{Small}
+use Rattle.verdict.proofs.Fitting.{Fitting, stops-fitting}
 
 -- ---- the first that passes: it stands in the list and passes, or none does
 module _ (p : List ℤ → Bool) where

@@ -59,15 +59,15 @@ pub record Judged (A : Type 0) : Type 0 where
 
 -- R11.2 to R11.4: which buffer each verdict writes; a refusal writes neither (D1.3).
 -- F and W lay the numbers of a table and of a vector into a buffer.
-abbrev pub laid : {A : Type 0} → (List ℤ → A) → (List ℤ → A) → Judgement → A → A → Judged A
-laid F W (definite t) f v = record { verdict = Verdict.Definite; factor = F t; vector = v }
-laid F W (notDefinite x) f v = record { verdict = Verdict.NotDefinite; factor = f; vector = W x }
-laid F W undecided f v = record { verdict = Verdict.Undecided; factor = f; vector = v }
-laid F W (refused r) f v = record { verdict = Verdict.Refused r; factor = f; vector = v }
+abbrev pub laidVerdict : {A : Type 0} → (List ℤ → A) → (List ℤ → A) → Judgement → A → A → Judged A
+laidVerdict F W (definite t) f v = record { verdict = Verdict.Definite; factor = F t; vector = v }
+laidVerdict F W (notDefinite x) f v = record { verdict = Verdict.NotDefinite; factor = f; vector = W x }
+laidVerdict F W undecided f v = record { verdict = Verdict.Undecided; factor = f; vector = v }
+laidVerdict F W (refused r) f v = record { verdict = Verdict.Refused r; factor = f; vector = v }
 
 -- as they are
 abbrev pub written : Judgement → List ℤ → List ℤ → Judged (List ℤ)
-written = laid (λ t. t) (λ x. x)
+written = laidVerdict (λ t. t) (λ x. x)
 
 -- 2, R4.2: each lent buffer has the size that belongs to n, that of a table or that of a vector
 unfoldable pub judgeSizes : ℕ → ℕ → ℕ → ℕ → ℕ → ℕ → Bool

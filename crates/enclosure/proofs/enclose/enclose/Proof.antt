@@ -13,7 +13,7 @@ use Rattle.tables.specs.Entering.{Entered}
 use Rattle.tables.proofs.Answers.{exactly}
 use Rattle.tables.proofs.Admission.{order-small, order-fits, no-order, came-through, entered-by, entered-sized, entered-refused, entered-passed}
 use Rattle.enclosure.specs.Box.{Box, refused, problemBox, boxing}
-use Rattle.enclosure.specs.Act.{Enclosed, laid, boxSizes, enclose, Meaning}
+use Rattle.enclosure.specs.Act.{Enclosed, laidSides, boxSizes, enclose, Meaning}
 use Rattle.enclosure.proofs.BoxCases.{box-sizes-of, centred, limit-within}
 use Rattle.enclosure.proofs.BoxMeanings.{boxing-means}
 use Rattle.enclosure.proofs.enclose.enclose.Statement.{statement}
@@ -63,7 +63,7 @@ shown s = let a = s .args in boxing-means (a .n) _ (a .low .now) (a .high .now) 
 
 -- the buffer with it
 abbrev given : tie.Start → Box → Enclosed (List ℤ)
-given s b = laid (λ x. x) b (s .args .sides .now)
+given s b = laidSides (λ x. x) b (s .args .sides .now)
 
 pub enclose-spec : {M : Type 1} → statement M
 unfolding enclose boxing problemBox
