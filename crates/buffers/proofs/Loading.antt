@@ -1,5 +1,5 @@
 -- The numbers that a buffer spells, loaded over zeros.
-use mathlib.Core.Path.{_≡_, refl, sym, ap, ap₂, _∙_}
+use mathlib.Core.Path.{_≡_, refl, sym, ap, _∙_}
 use mathlib.Core.Bool.{Bool, true, false, not, _&&_}
 use mathlib.Core.List.{List, _++_}
 use Prim.Native.Nat.{ℕ, _≤_}
@@ -9,15 +9,15 @@ use lib.ListN.{length, drop, length-append, length-drop, length-replicate}
 use mir.Syntax.{w64}
 use Rattle.words.specs.Numbers.{numbersOf}
 use Rattle.words.proofs.Laws.{length-numbersOf}
-use Rattle.tables.specs.Ranges.{linearRange, limitRange, centreRange}
-use Rattle.tables.specs.Checks.{termsWithin, all, within, allWithin, orderOk, orderOf, firstRefusal, entryChecks, boundsChecks}
+use Rattle.tables.specs.Ranges.{linearRange, centreRange}
+use Rattle.tables.specs.Checks.{termsWithin, orderOk, orderOf, firstRefusal, entryChecks, boundsChecks, endsChecks}
 use Rattle.tables.specs.Entering.{Laid, Entered, doorChecks, entered}
 use Rattle.tables.specs.declared.Refusal.{Refusal}
 use Rattle.tables.specs.declared.Refusal.the-variants.{Length}
 use Rattle.tables.specs.declared.Checked.{Checked}
 use Rattle.tables.proofs.Checks.{call-true, first-passes, first-refuses, more-checks, no-more-checks}
 use Rattle.tables.proofs.Answers.{after-refused}
-use Rattle.tables.proofs.Admission.{zeros, Padded, laid-zeros, entry-passes, entered-laid}
+use Rattle.tables.proofs.Admission.{zeros, Padded, laid-zeros, range-same, crossed-same, entry-passes, entered-laid}
 use Rattle.buffers.specs.Buffers.{tableOf, vectorOf, Terms}
 
 -- k numbers laid over zeros
@@ -44,7 +44,7 @@ no-sizes n sized others l u refused a h e =
     after-refused refused Length a (no-more-checks (entryChecks n sized) (boundsChecks others (orderOf n) l u) Length (first-passes _ _ (ordered n h) ∙ first-refuses _ _ e))
 
 -- checks 1 to 5 of the bounds that were loaded are those of the bounds that the buffers spell
-pub came-loaded : {n n′ : ℤ} {m : ℕ} {sized sized′ others : Bool} (l u : List ℕ) {l′ u′ : List ℤ} {r : Checked} → m ≡ orderOf n → n′ ≡ n → sized′ ≡ sized →
+came-loaded : {n n′ : ℤ} {m : ℕ} {sized sized′ others : Bool} (l u : List ℕ) {l′ u′ : List ℤ} {r : Checked} → m ≡ orderOf n → n′ ≡ n → sized′ ≡ sized →
     Laid m sized′ (tableOf m l) (tableOf m u) l′ u′ → r ≡ firstRefusal (doorChecks n′ sized′ others l′ u′) →
     Entered n sized others (tableOf (orderOf n) l) (tableOf (orderOf n) u) r l′ u′
 came-loaded l u e f g p a = entered-laid _ _ _ (λ s. (length-numbersOf w64 l _, length-numbersOf w64 u _)) (rw (← e, ← g) p) (rw (← f, ← g) a)
@@ -56,13 +56,18 @@ pub came-sized : {n : ℤ} {m : ℕ} {sized sized′ others : Bool} (l u : List 
 came-sized {n} l u e h g t p a = came-loaded l u e refl g p ((rw e at a) ∙ sym (more-checks _ _ (entry-passes n (ordered n (λ z. h (e ∙ z))) (call-true refl t))))
 
 -- check 3 of the numbers that were loaded is that of the numbers that the buffers spell
-pub terms-spelled : (n : ℕ) (sized : Bool) (a c : List ℕ) {x y : List ℤ} (α : ℤ) {r sized′ : Bool} {m : ℕ} {β : ℤ} → r ≡ (sized′ && termsWithin m x β y) → sized′ ≡ sized → m ≡ n → β ≡ α →
-    Terms n sized a x → Terms n sized c y → r ≡ (sized && termsWithin n (vectorOf n a) α (vectorOf n c))
-unfolding termsWithin allWithin
-terms-spelled n true a c α e f g h p q =
-    (rw (f, g, h) at e)
-    ∙ ap₂ (λ (f g : ℕ → ℤ). all n (λ k. within linearRange (f k)) && (within limitRange α && all n (λ k. within centreRange (g k)))) (p .numbers refl) (q .numbers refl)
-terms-spelled n false a c α e f g h p q = rw f at e
+pub terms-spelled : (n : ℕ) (sized : Bool) (a b c : List ℕ) (x y z : List ℤ) (α : ℤ) {r sized′ : Bool} {m : ℕ} {β : ℤ} → r ≡ (sized′ && termsWithin m x y β z) → sized′ ≡ sized → m ≡ n → β ≡ α →
+    Terms n sized a x → Terms n sized b y → Terms n sized c z → r ≡ (sized && termsWithin n (vectorOf n a) (vectorOf n b) α (vectorOf n c))
+unfolding termsWithin
+terms-spelled n true a b c x y z α e f g h p q t =
+    (rw (f, g, h) at e) ∙ rw (range-same linearRange n (vectorOf n a) x (p .numbers refl), range-same linearRange n (vectorOf n b) y (q .numbers refl), range-same centreRange n (vectorOf n c) z (t .numbers refl))
+terms-spelled n false a b c x y z α e f g h p q t = rw f at e
+
+-- and so is check 16
+pub ends-spelled : (n : ℕ) (a b : List ℕ) (x y : List ℤ) {m : ℕ} {r : Checked} → r ≡ firstRefusal (endsChecks m x y) → m ≡ n → Terms n true a x → Terms n true b y →
+    r ≡ firstRefusal (endsChecks n (vectorOf n a) (vectorOf n b))
+unfolding endsChecks
+ends-spelled n a b x y e g p q = (rw g at e) ∙ rw (crossed-same n (vectorOf n a) x (vectorOf n b) y (p .numbers refl) (q .numbers refl))
 
 -- of equal parts
 pub terms-by : {n m : ℕ} {sized sized′ : Bool} {b : List ℕ} {x : List ℤ} → n ≡ m → sized ≡ sized′ → Terms n sized b x → Terms m sized′ b x

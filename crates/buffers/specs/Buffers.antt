@@ -11,6 +11,7 @@ use Rattle.words.specs.Numbers.{numbersOf, bytesOf}
 use Rattle.tables.specs.Ranges.{greatestOrder}
 use Rattle.tables.specs.Matrix.{Matrix, nth, table}
 use Rattle.tables.specs.Checks.{sizesOk}
+use Rattle.tables.specs.declared.problem.Lengths.{Lengths}
 use Rattle.verdict.specs.Judge.{Judgement, Judged, judgeSizes, laidVerdict}
 use Rattle.enclosure.specs.Box.{Box}
 use Rattle.enclosure.specs.Act.{Enclosed, boxSizes, laidSides}
@@ -37,8 +38,8 @@ vectorBuffers n = sizesOk (n * n * bytes w64) (n * bytes w64)
 abbrev pub judgeBuffers : ℕ → ℕ → ℕ → ℕ → ℕ → Bool
 judgeBuffers n = judgeSizes (n * n * bytes w64) (n * bytes w64)
 
-abbrev pub boxBuffers : ℕ → ℕ → ℕ → ℕ → ℕ → ℕ → Bool
-boxBuffers n = boxSizes (n * n * bytes w64) (n * bytes w64) ((n + n) * bytes w64)
+abbrev pub boxBuffers : ℕ → Lengths → ℕ → ℕ → Bool
+boxBuffers n = boxSizes (record { table = n * n * bytes w64; vector = n * bytes w64 }) ((n + n) * bytes w64)
 
 -- ---- what is stored
 -- the factor's table or the vector is written, 8 bytes for each number; the other buffer is kept

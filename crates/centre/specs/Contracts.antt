@@ -18,13 +18,28 @@ linearTermRange = linearRange * centreRange
 abbrev pub formTermRange : ℕ
 formTermRange = centreRange * entryRange * centreRange
 
--- tables that passed the checks 3 to 5, with linear terms and a centre in their ranges
-pub record Centred (n : ℕ) (l u a c : List ℤ) : Type 0 where
-  pub tables : CheckedTables n l u
-  pub linear-length : n ≤ length a
+-- linear terms from a to b and a centre c, in their ranges
+pub record LinearTerms (n : ℕ) (a b c : List ℤ) : Type 0 where
+  pub order : n ≤ greatestOrder
+  pub low-length : n ≤ length a
+  pub high-length : n ≤ length b
   pub centre-length : n ≤ length c
-  pub linear : (k : ℕ) → k < n → Within linearRange (nth a k)
+  pub low : (k : ℕ) → k < n → Within linearRange (nth a k)
+  pub high : (k : ℕ) → k < n → Within linearRange (nth b k)
   pub centre : (k : ℕ) → k < n → Within centreRange (nth c k)
+
+-- and tables that passed the checks 3 to 5 with them
+pub record Centred (n : ℕ) (l u a b c : List ℤ) : Type 0 where
+  pub tables : CheckedTables n l u
+  pub terms : LinearTerms n a b c
+
+-- entry k of linear terms and of the centre
+pub record TermFactors (x c : List ℤ) (k : ℕ) : Type 0 where
+  pub row : k < greatestOrder
+  pub linear-length : k < length x
+  pub centre-length : k < length c
+  pub linear : Within linearRange (nth x k)
+  pub centre : Within centreRange (nth c k)
 
 -- entry (k, j) of a table and entry j of the centre
 pub record Factors (n : ℕ) (t c : List ℤ) (k j : ℕ) : Type 0 where

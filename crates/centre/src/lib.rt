@@ -1,4 +1,4 @@
-// R13.1 and R13.2 of docs/RULES.md: the bounds at the centre c.
+// R13.1 and R13.2 of docs/RULES.md: the bounds at the centre c. The linear terms' low ends are a, their high ends b.
 ghost use mathlib.Core.Path.{_≡_};
 ghost use Prim.Native.Nat.{_≤_, _<_};
 ghost use lib.IntN.{pos, _*ℤ_};
@@ -9,11 +9,11 @@ ghost use Rattle.tables.specs.Ranges.{greatestOrder, limitRange, gradientRange}
 ghost use Rattle.tables.specs.Matrix.{at, nth};
 ghost use Rattle.tables.specs.Buffers.{Filled};
 ghost use Rattle.tables.specs.Checks.{all};
-ghost use Rattle.centre.specs.Centre.{gradient, atCentre};
-ghost use Rattle.centre.specs.Contracts.{Centred, Factors};
+ghost use Rattle.tables.specs.Problem.{endsOf};
+ghost use Rattle.centre.specs.Centre.{leastSum, gradient, atCentre};
+ghost use Rattle.centre.specs.Contracts.{LinearTerms, Centred, Factors, TermFactors};
 use arithmetic::absolute;
 use arithmetic::greater;
-use arithmetic::product_sum;
 use arithmetic::smaller;
 use tables::GRADIENT_RANGE;
 use tables::Vector;
@@ -27,11 +27,11 @@ fn product(n: usize, t: &[i64], c: &[i64], k: usize, j: usize) -> i64
     m * c[j]
 }
 
-// g(k): the greater size of the least and the greatest sum of M(k,j) c(j) over all j, plus a(k).
-fn gradient(n: usize, low: &[i64], high: &[i64], a: &[i64], c: &[i64], k: usize) -> i64
-    requires { ⌜ Centred n (now low) (now high) (now a) (now c) × (k < n) ⌝ }
+// g(k): the greater size of the least and the greatest sum of M(k,j) c(j) over all j, plus the low and the high end of a(k).
+fn gradient(n: usize, low: &[i64], high: &[i64], a: &[i64], b: &[i64], c: &[i64], k: usize) -> i64
+    requires { ⌜ Centred n (now low) (now high) (now a) (now b) (now c) × (k < n) ⌝ }
     ensures { λ r. ⌜ r ≡ gradient n (at n (now (low .entry))) (at n (now (high .entry)))
-        (nth (now (a .entry))) (nth (now (c .entry))) k ⌝ }
+        (endsOf (now (a .entry)) (now (b .entry))) (nth (now (c .entry))) k ⌝ }
 {
     let mut least: i64 = 0;
     let mut greatest: i64 = 0;
@@ -43,22 +43,31 @@ fn gradient(n: usize, low: &[i64], high: &[i64], a: &[i64], c: &[i64], k: usize)
         greatest += greater(l, u);
         j += 1;
     }
-    let linear = a[k];
-    let x = absolute(least + linear);
-    let y = absolute(greatest + linear);
+    let from = a[k];
+    let to = b[k];
+    let x = absolute(least + from);
+    let y = absolute(greatest + to);
     greater(x, y)
 }
 
 // Fills in g(k) for each k below n.
-pub fn gradients(n: usize, low: &[i64], high: &[i64], a: &[i64], c: &[i64], g: &mut Vector)
-    requires { ⌜ Centred n (now low) (now high) (now a) (now c) × (length (now g) ≡ greatestOrder) ⌝ }
+pub fn gradients(
+    n: usize,
+    low: &[i64],
+    high: &[i64],
+    a: &[i64],
+    b: &[i64],
+    c: &[i64],
+    g: &mut Vector,
+)
+    requires { ⌜ Centred n (now low) (now high) (now a) (now b) (now c) × (length (now g) ≡ greatestOrder) ⌝ }
     ensures { λ r. ⌜ Filled greatestOrder n
-        (gradient n (at n (now (low .entry))) (at n (now (high .entry))) (nth (now (a .entry))) (nth (now (c .entry))))
-        (now (g .exit)) ⌝ }
+        (gradient n (at n (now (low .entry))) (at n (now (high .entry))) (endsOf (now (a .entry)) (now (b .entry))) (nth (now
+        (c .entry)))) (now (g .exit)) ⌝ }
 {
     let mut k = 0;
     while k < n {
-        g[k] = gradient(n, low, high, a, c, k);
+        g[k] = gradient(n, low, high, a, b, c, k);
         k += 1;
     }
 }
@@ -78,13 +87,43 @@ pub fn near(n: usize, g: &Vector) -> bool
     true
 }
 
-// D
-pub fn at_centre(n: usize, low: &[i64], high: &[i64], a: &[i64], limit: i64, c: &[i64]) -> i64
-    requires { ⌜ Centred n (now low) (now high) (now a) (now c) × Within limitRange limit ⌝ }
-    ensures { λ r. ⌜ r ≡ atCentre n (at n (now (low .entry))) (at n (now (high .entry)))
-        (nth (now (a .entry))) (nth (now (c .entry))) limit ⌝ }
+// Entry k of linear terms times entry k of the centre.
+fn term(x: &[i64], c: &[i64], k: usize) -> i64
+    requires { ⌜ TermFactors (now x) (now c) k ⌝ }
+    ensures { λ r. ⌜ r ≡ nth (now (x .entry)) k *ℤ nth (now (c .entry)) k ⌝ }
 {
-    let linear = product_sum(n, a, c);
+    x[k] * c[k]
+}
+
+// The least sum of a(k) c(k), where each linear term is chosen between its ends.
+fn least_terms(n: usize, a: &[i64], b: &[i64], c: &[i64]) -> i64
+    requires { ⌜ LinearTerms n (now a) (now b) (now c) ⌝ }
+    ensures { λ r. ⌜ r ≡ leastSum n (nth (now (a .entry))) (nth (now (b .entry))) (nth (now (c .entry))) ⌝ }
+{
+    let mut least: i64 = 0;
+    let mut k = 0;
+    while k < n {
+        least += smaller(term(a, c, k), term(b, c, k));
+        k += 1;
+    }
+    least
+}
+
+// D
+pub fn at_centre(
+    n: usize,
+    low: &[i64],
+    high: &[i64],
+    a: &[i64],
+    b: &[i64],
+    limit: i64,
+    c: &[i64],
+) -> i64
+    requires { ⌜ Centred n (now low) (now high) (now a) (now b) (now c) × Within limitRange limit ⌝ }
+    ensures { λ r. ⌜ r ≡ atCentre n (at n (now (low .entry))) (at n (now (high .entry)))
+        (endsOf (now (a .entry)) (now (b .entry))) (nth (now (c .entry))) limit ⌝ }
+{
+    let linear = least_terms(n, a, b, c);
     let least = vectors::least::least_value(n, low, high, c);
     limit - 2 * linear - least
 }

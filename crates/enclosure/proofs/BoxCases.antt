@@ -11,11 +11,16 @@ use lib.Dec.{eqb}
 use Rattle.integers.specs.Numbers.{Within}
 use Rattle.tables.specs.Ranges.{sidesRoom, linearRange, limitRange, centreRange, gradientRange}
 use Rattle.tables.specs.Matrix.{Matrix, nth, tabulate}
+use Rattle.tables.specs.Members.{Ends}
 use Rattle.tables.specs.Bounds.{CheckedTables}
-use Rattle.tables.specs.Checks.{all, sizesOk, within, allWithin, termsWithin}
+use Rattle.tables.specs.Checks.{all, within, allWithin, termsWithin}
+use Rattle.tables.specs.Problem.{constraintSized}
 use Rattle.tables.specs.declared.Refusal.{Refusal}
+use Rattle.tables.specs.declared.problem.Sizes.{Sizes}
+use Rattle.tables.specs.declared.problem.Lengths.{Lengths}
 use Rattle.tables.specs.declared.Refusal.the-variants.{Flat, Far}
-use Rattle.tables.proofs.Checks.{sizes-of, and-left, and-right, all-at, all-ext, within-of}
+use Rattle.tables.proofs.Checks.{and-left, and-right, all-at, all-ext, within-of}
+use Rattle.tables.proofs.Problems.{constraint-sizes-of}
 use Rattle.tables.proofs.Matrix.{nth-tabulate}
 use Rattle.steps.specs.Steps.{step, stepAt}
 use Rattle.centre.specs.Centre.{gradient, atCentre}
@@ -34,7 +39,7 @@ use Rattle.enclosure.specs.declared.enclose.BoxAnswer.the-variants as Bo
 abbrev let-through : Bool → Bool → Box → Box
 let-through flat near b = elim flat [ true ↦ refused Flat | false ↦ elim near [ true ↦ b | false ↦ refused Far ] ]
 
-module _ (n : ℕ) (L U : Matrix) (a : ℕ → ℤ) (α : ℤ) (c : ℕ → ℤ) where
+module _ (n : ℕ) (L U : Matrix) (a : Ends) (α : ℤ) (c : ℕ → ℤ) where
   -- the tests of the definition
   abbrev near : Bool
   near = all n (λ k. leZ (nth (tabulate n (gradient n L U a c)) k) (pos gradientRange))
@@ -77,19 +82,31 @@ unfolding stated
 stated-refused n e h = record { box = e; size = h }
 
 -- ---- what check 3 finds beside the tables
-module _ (n : ℕ) (a : List ℤ) (α : ℤ) (c : List ℤ) (e : termsWithin n a α c ≡ true) where
-  pub limit-within : Within limitRange α
+module _ (n : ℕ) (a b : List ℤ) (α : ℤ) (c : List ℤ) (e : termsWithin n a b α c ≡ true) where
+  -- the high ends, and what comes after them
+  highs : (allWithin linearRange n b && (within limitRange α && allWithin centreRange n c)) ≡ true
   unfolding termsWithin
-  limit-within = within-of limitRange α (and-left (within limitRange α) (allWithin centreRange n c) (and-right (allWithin linearRange n a) _ e))
+  highs = and-right (allWithin linearRange n a) _ e
 
-  pub centred : {l u : List ℤ} → CheckedTables n l u → n ≤ length a → n ≤ length c → Centred n l u a c
+  rest : (within limitRange α && allWithin centreRange n c) ≡ true
+  rest = and-right (allWithin linearRange n b) _ highs
+
+  pub limit-within : Within limitRange α
+  limit-within = within-of limitRange α (and-left (within limitRange α) (allWithin centreRange n c) rest)
+
+  pub centred : {l u : List ℤ} → CheckedTables n l u → n ≤ length a → n ≤ length b → n ≤ length c → Centred n l u a b c
   unfolding allWithin termsWithin
-  centred t r s = record {
+  centred t r s v = record {
     tables = t;
-    linear-length = r;
-    centre-length = s;
-    linear = λ k h. within-of linearRange (nth a k) (all-at _ n (and-left _ (within limitRange α && allWithin centreRange n c) e) k h);
-    centre = λ k h. within-of centreRange (nth c k) (all-at _ n (and-right (within limitRange α) _ (and-right (allWithin linearRange n a) _ e)) k h);
+    terms = record {
+      order = t .order;
+      low-length = r;
+      high-length = s;
+      centre-length = v;
+      low = λ k h. within-of linearRange (nth a k) (all-at _ n (and-left _ (allWithin linearRange n b && (within limitRange α && allWithin centreRange n c)) e) k h);
+      high = λ k h. within-of linearRange (nth b k) (all-at _ n (and-left _ (within limitRange α && allWithin centreRange n c) highs) k h);
+      centre = λ k h. within-of centreRange (nth c k) (all-at _ n (and-right (within limitRange α) _ rest) k h);
+    };
   }
 
 -- ---- what is handed out with it, in a buffer of any kind
@@ -110,10 +127,24 @@ module _ {A : Type 0} (F : List ℤ → A) (n : ℕ) {b : Box} {r : BoxAnswer} {
   given-refused k e = given-by (BoxAnswer.Refused k) e
 
 -- ---- checks 1 and 2 passed
-pub box-sizes-of : (size entries pairs l u a c s : ℕ) → boxSizes size entries pairs l u a c s ≡ true →
-    (l ≡ size) × (u ≡ size) × (a ≡ entries) × (c ≡ entries) × (s ≡ pairs)
+pub record BoxSized (z : Sizes) (pairs : ℕ) (b : Lengths) (c s : ℕ) : Type 0 where
+  pub low : b .bounds .low ≡ z .table
+  pub high : b .bounds .high ≡ z .table
+  pub linear-low : b .linear .low ≡ z .vector
+  pub linear-high : b .linear .high ≡ z .vector
+  pub centre : c ≡ z .vector
+  pub sides : s ≡ pairs
+
+pub box-sizes-of : (z : Sizes) (pairs : ℕ) (b : Lengths) (c s : ℕ) → boxSizes z pairs b c s ≡ true → BoxSized z pairs b c s
 unfolding boxSizes
-box-sizes-of size entries pairs l u a c s e =
-    let z = sizes-of size entries l u a (and-left (sizesOk size entries l u a) (eqb c entries && eqb s pairs) e) in
-    let t = and-right (sizesOk size entries l u a) (eqb c entries && eqb s pairs) e in
-    (z .0, z .1, z .2, eqb-true c entries (and-left (eqb c entries) (eqb s pairs) t), eqb-true s pairs (and-right (eqb c entries) (eqb s pairs) t))
+box-sizes-of z pairs b c s e =
+    let v = constraint-sizes-of z b (and-left (constraintSized z b) (eqb c (z .vector) && eqb s pairs) e) in
+    let t = and-right (constraintSized z b) (eqb c (z .vector) && eqb s pairs) e in
+    record {
+      low = v .0;
+      high = v .1;
+      linear-low = v .2;
+      linear-high = v .3;
+      centre = eqb-true c (z .vector) (and-left (eqb c (z .vector)) (eqb s pairs) t);
+      sides = eqb-true s pairs (and-right (eqb c (z .vector)) (eqb s pairs) t);
+    }

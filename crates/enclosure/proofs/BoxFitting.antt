@@ -15,11 +15,12 @@ use Rattle.integers.proofs.Machine.{within-+, within--}
 use Rattle.tables.specs.Ranges.{greatestOrder, limitRange, centreRange, gradientRange}
 use Rattle.tables.specs.Matrix.{Matrix, at, nth, tabulate}
 use Rattle.tables.specs.Checks.{all, orderOf}
-use Rattle.tables.specs.Problem.{problemOf}
+use Rattle.tables.specs.Problem.{constraintOf, problemOf, endsOf}
 use Rattle.tables.proofs.Buffers.{Small}
 use Rattle.tables.proofs.Matrix.{length-tabulate, nth-tabulate}
 use Rattle.tables.proofs.Checks.{passed-bounds}
-use Rattle.tables.proofs.Admission.{order-small, entered-means}
+use Rattle.tables.proofs.Admission.{order-small}
+use Rattle.tables.proofs.Problems.{constraint-means}
 use Rattle.cholesky.proofs.Lists.{nth-past}
 use Rattle.steps.specs.Steps.{step, stepAt}
 use Rattle.centre.specs.Centre.{gradient}
@@ -98,7 +99,7 @@ module _ {n : ℕ} {c : List ℤ} {d t : ℤ} {g : List ℤ} (q : SidesReady n c
       go false y = tt
 
 -- ---- the answer
-module _ {n : ℕ} {l u a c : List ℤ} (q : Centred n l u a c) {α : ℤ} (w : Within limitRange α) where
+module _ {n : ℕ} {l u a b c : List ℤ} (q : Centred n l u a b c) {α : ℤ} (w : Within limitRange α) where
   abbrev L : Matrix
   L = at n l
 
@@ -106,7 +107,7 @@ module _ {n : ℕ} {l u a c : List ℤ} (q : Centred n l u a c) {α : ℤ} (w : 
   U = at n u
 
   abbrev gradients : ℕ → ℤ
-  gradients = gradient n L U (nth a) (nth c)
+  gradients = gradient n L U (endsOf a b) (nth c)
 
   abbrev g : List ℤ
   g = tabulate greatestOrder gradients
@@ -114,23 +115,23 @@ module _ {n : ℕ} {l u a c : List ℤ} (q : Centred n l u a c) {α : ℤ} (w : 
   gradients-filled : Filled greatestOrder n gradients g
   gradients-filled = filled n (q .tables .order) gradients
 
-  boxed-fitting : Fitting n (boxed n L U (nth a) α (nth c))
+  boxed-fitting : Fitting n (boxed n L U (endsOf a b) α (nth c))
   boxed-fitting = go (leZ (step n L U) (pos 0)) refl (all n (λ k. leZ (nth g k) (pos gradientRange))) refl
     where
-      go : (x : Bool) → leZ (step n L U) (pos 0) ≡ x → (y : Bool) → all n (λ k. leZ (nth g k) (pos gradientRange)) ≡ y → Fitting n (boxed n L U (nth a) α (nth c))
-      go true e y f = subst (Fitting n) (sym (box-flat n L U (nth a) α (nth c) e)) tt
-      go false e false f = subst (Fitting n) (sym (box-far n L U (nth a) α (nth c) e (nth g) (gradients-filled .entries) f)) tt
+      go : (x : Bool) → leZ (step n L U) (pos 0) ≡ x → (y : Bool) → all n (λ k. leZ (nth g k) (pos gradientRange)) ≡ y → Fitting n (boxed n L U (endsOf a b) α (nth c))
+      go true e y f = subst (Fitting n) (sym (box-flat n L U (endsOf a b) α (nth c) e)) tt
+      go false e false f = subst (Fitting n) (sym (box-far n L U (endsOf a b) α (nth c) e (nth g) (gradients-filled .entries) f)) tt
       go false e true f =
-          subst (Fitting n) (sym (box-near n L U (nth a) α (nth c) e (nth g) (gradients-filled .entries) f (stepAt n L U) (λ k h. refl)))
+          subst (Fitting n) (sym (box-near n L U (endsOf a b) α (nth c) e (nth g) (gradients-filled .entries) f (stepAt n L U) (λ k h. refl)))
           (box-of-fitting (ready-of q (one-of (step n L U) e) gradients-filled f w) (stepAt n L U))
 
-pub boxing-fitting : (n : ℤ) (sized : Bool) (l u a : List ℤ) (α : ℤ) (c : List ℤ) →
-    (let k = orderOf n in k * k ≤ length l → k * k ≤ length u → k ≤ length a → k ≤ length c → Fitting k (boxing n sized (problemOf k l u a α c)))
+pub boxing-fitting : (n : ℤ) (sized : Bool) (l u a b : List ℤ) (α : ℤ) (c : List ℤ) →
+    (let k = orderOf n in k * k ≤ length l → k * k ≤ length u → k ≤ length a → k ≤ length b → k ≤ length c → Fitting k (boxing n sized (problemOf k l u a b α c)))
 unfolding boxing problemBox
-boxing-fitting n sized l u a α c h i j m =
+boxing-fitting n sized l u a b α c h i j m o =
     let k = orderOf n in
-    entered-means n sized _ l u refused _ (Fitting k) (λ r. tt)
-    (λ b.
+    constraint-means refused n sized _ (constraintOf k l u a b α) _ (Fitting k) (λ r. tt)
+    (λ d.
     boxed-fitting
-    (centred k a α c (b .within) (record { order = order-small n; low-length = h; high-length = i; bounds = passed-bounds k l u (b .tables) }) j m)
-    (limit-within k a α c (b .within)))
+    (centred k a b α c (d .within) (record { order = order-small n; low-length = h; high-length = i; bounds = passed-bounds k l u (d .tables) }) j m o)
+    (limit-within k a b α c (d .within)))

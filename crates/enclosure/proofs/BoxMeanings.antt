@@ -4,10 +4,11 @@ use mathlib.Core.List.{List}
 use lib.IntN.{ℤ}
 use Rattle.tables.specs.Matrix.{at, nth}
 use Rattle.tables.specs.Checks.{orderOf}
-use Rattle.tables.specs.Problem.{constraintOf, problemOf}
+use Rattle.tables.specs.Problem.{constraintOf, problemOf, endsIn}
 use Rattle.tables.specs.declared.problem.Constraint.{Constraint}
 use Rattle.tables.proofs.Checks.{passed-bounds}
-use Rattle.tables.proofs.Admission.{order-small, entered-means}
+use Rattle.tables.proofs.Admission.{order-small}
+use Rattle.tables.proofs.Problems.{constraint-means}
 use Rattle.enclosure.specs.Box.{Box, sides, empty, refused, boxed, problemBox, boxing}
 use Rattle.enclosure.specs.Act.{Enclosed, laidSides, Meaning}
 use Rattle.enclosure.proofs.Enclosing.{Says, box-says}
@@ -16,18 +17,19 @@ use Rattle.enclosure.proofs.Enclosing.{Says, box-says}
 abbrev whole : Box → List ℤ → Enclosed (List ℤ)
 whole = laidSides (λ s. s)
 
-pub box-means : (c : Constraint) (s : List ℤ) (b : Box) → Says (c .order) (at (c .order) (c .low)) (at (c .order) (c .high)) (nth (c .linear)) (c .limit) b →
+pub box-means : (c : Constraint) (s : List ℤ) (b : Box) → Says (c .order) (at (c .order) (c .low)) (at (c .order) (c .high)) (endsIn c) (c .limit) b →
     Meaning (whole b s .answer) c (whole b s .sides)
 box-means c s (sides t) h = record { holds = λ e. h; none = λ e. absurd (false≢true cc) }
 box-means c s empty h = record { holds = λ e. absurd (false≢true cc); none = λ e. h }
 box-means c s (refused r) h = record { holds = λ e. absurd (false≢true cc); none = λ e. absurd (false≢true cc) }
 
 -- whatever sizes check 2 asks for
-pub boxing-means : (n : ℤ) (sized : Bool) (l u a : List ℤ) (α : ℤ) (c s : List ℤ) →
-    (let j = whole (boxing n sized (problemOf (orderOf n) l u a α c)) s in Meaning (j .answer) (constraintOf (orderOf n) l u a α) (j .sides))
+pub boxing-means : (n : ℤ) (sized : Bool) (l u a b : List ℤ) (α : ℤ) (c s : List ℤ) →
+    (let j = whole (boxing n sized (problemOf (orderOf n) l u a b α c)) s in Meaning (j .answer) (constraintOf (orderOf n) l u a b α) (j .sides))
 unfolding boxing problemBox
-boxing-means n sized l u a α c s =
+boxing-means n sized l u a b α c s =
     let k = orderOf n in
-    entered-means n sized _ l u refused _ (λ (b : Box). let j = whole b s in Meaning (j .answer) (constraintOf k l u a α) (j .sides))
-    (λ r. box-means (constraintOf k l u a α) s (refused r) tt)
-    (λ b. box-means (constraintOf k l u a α) s (boxed k (at k l) (at k u) (nth a) α (nth c)) (box-says k (order-small n) (at k l) (at k u) (passed-bounds k l u (b .tables)) (nth a) α (nth c)))
+    let d = constraintOf k l u a b α in
+    constraint-means refused n sized _ d _ (λ (x : Box). let j = whole x s in Meaning (j .answer) d (j .sides))
+    (λ r. box-means d s (refused r) tt)
+    (λ e. box-means d s (boxed k (at k l) (at k u) (endsIn d) α (nth c)) (box-says k (order-small n) (at k l) (at k u) (passed-bounds k l u (e .tables)) (endsIn d) α (nth c)))

@@ -18,6 +18,7 @@ use Rattle.integers.proofs.Order.{≤-abs, neg-≤-abs}
 use Rattle.integers.proofs.Sums.{sum-ext}
 use Rattle.tables.specs.Ranges.{greatestOrder, gradientRange}
 use Rattle.tables.specs.Matrix.{Matrix, nth, tabulate, form}
+use Rattle.tables.specs.Members.{Ends}
 use Rattle.tables.specs.Bounds.{Bounds}
 use Rattle.tables.specs.Checks.{all}
 use Rattle.tables.specs.declared.Refusal.the-variants.{Flat, Far}
@@ -33,7 +34,7 @@ use Rattle.centre.proofs.Magnitudes.{gradient-nonneg}
 use Rattle.enclosure.proofs.Halves.{Near, one-of, bound-nonneg, second-bound-nonneg, half-side}
 
 -- what a box says of the points
-abbrev pub Says : (n : ℕ) (L U : Matrix) (a : ℕ → ℤ) (α : ℤ) → Box → Type 0
+abbrev pub Says : (n : ℕ) (L U : Matrix) (a : Ends) (α : ℤ) → Box → Type 0
 Says n L U a α (sides s) = (X : ℕ → ℤ) (p : ℤ) → Point n L U a α X p → Contains n s X p
 Says n L U a α empty = (X : ℕ → ℤ) (p : ℤ) → Point n L U a α X p → ⊥
 Says n L U a α (refused r) = Unit {0}
@@ -70,7 +71,7 @@ module _ (c h : ℕ → ℤ) where
             ap (nth (s ++ last)) high ∙ getD-append-add s last 1 (pos 0) ∙ ap (λ (i : ℕ). c i +ℤ h i) (sym e),
           )
 
-module _ (n : ℕ) (order-ok : n ≤ greatestOrder) (L U : Matrix) (b : Bounds n L U) (a : ℕ → ℤ) (α : ℤ) (c : ℕ → ℤ) where
+module _ (n : ℕ) (order-ok : n ≤ greatestOrder) (L U : Matrix) (b : Bounds n L U) (a : Ends) (α : ℤ) (c : ℕ → ℤ) where
   abbrev t : ℤ
   t = step n L U
 

@@ -1,5 +1,6 @@
 pub mod Strong
 pub mod AtCentre
+pub mod EqualEnds
 pub mod Halves
 pub mod Readiness
 pub mod Enclosing

@@ -10,6 +10,7 @@ use Rattle.integers.specs.Numbers.{Within}
 use Rattle.integers.proofs.Machine.{within-more}
 use Rattle.tables.specs.Ranges.{greatestOrder, limitRange, gradientRange}
 use Rattle.tables.specs.Matrix.{at, nth}
+use Rattle.tables.specs.Problem.{endsOf}
 use Rattle.tables.specs.Buffers.{Filled}
 use Rattle.tables.specs.Checks.{all}
 use Rattle.arithmetic.proofs.Quotients.{nonneg-within}
@@ -18,15 +19,15 @@ use Rattle.centre.specs.Contracts.{Centred}
 use Rattle.centre.proofs.Magnitudes.{centre-within, gradient-nonneg, near-within}
 use Rattle.sides.specs.Contracts.{Near, SidesReady}
 
-module _ {n : ℕ} {l u a c : List ℤ} (q : Centred n l u a c) {t : ℤ} (s : pos 1 ≤ℤ t) {g : List ℤ} (f : Filled greatestOrder n (gradient n (at n l) (at n u) (nth a) (nth c)) g)
+module _ {n : ℕ} {l u a b c : List ℤ} (q : Centred n l u a b c) {t : ℤ} (s : pos 1 ≤ℤ t) {g : List ℤ} (f : Filled greatestOrder n (gradient n (at n l) (at n u) (endsOf a b) (nth c)) g)
     (e : all n (λ k. leZ (nth g k) (pos gradientRange)) ≡ true) where
   pub near-of : Near n t g
   near-of = record {
     order = q .tables .order;
     size = f .size;
     step = s;
-    entries = λ k h. nonneg-within (rw (f .entries k h) (gradient-nonneg n (at n l) (at n u) (nth a) (nth c) k)) (near-within n (nth g) e k h);
+    entries = λ k h. nonneg-within (rw (f .entries k h) (gradient-nonneg n (at n l) (at n u) (endsOf a b) (nth c) k)) (near-within n (nth g) e k h);
   }
 
-  pub ready-of : {α : ℤ} → Within limitRange α → SidesReady n c (atCentre n (at n l) (at n u) (nth a) (nth c) α) t g
-  ready-of w = record { near = near-of; centre-length = q .centre-length; centre = q .centre; difference = within-more (omega arith) (centre-within q w) }
+  pub ready-of : {α : ℤ} → Within limitRange α → SidesReady n c (atCentre n (at n l) (at n u) (endsOf a b) (nth c) α) t g
+  ready-of w = record { near = near-of; centre-length = q .terms .centre-length; centre = q .terms .centre; difference = within-more (omega arith) (centre-within q w) }

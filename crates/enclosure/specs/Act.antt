@@ -7,9 +7,11 @@ use lib.Dec.{eqb}
 use lib.IntN.{ℤ, pos, negsuc}
 use lib.ListN.{length}
 use Rattle.tables.specs.Refusals.{refusalNumber}
-use Rattle.tables.specs.Checks.{orderOf, sizesOk}
-use Rattle.tables.specs.Problem.{problemOf}
+use Rattle.tables.specs.Checks.{orderOf}
+use Rattle.tables.specs.Problem.{problemOf, lengthsOf, constraintSized}
 use Rattle.tables.specs.declared.problem.Constraint.{Constraint}
+use Rattle.tables.specs.declared.problem.Sizes.{Sizes}
+use Rattle.tables.specs.declared.problem.Lengths.{Lengths}
 use Rattle.enclosure.specs.Box.{Box, sides, empty, refused, boxing}
 use Rattle.enclosure.specs.Points.{Allowed, Contains}
 use Rattle.enclosure.specs.declared.enclose.BoxAnswer.{BoxAnswer}
@@ -26,15 +28,17 @@ laidSides F (sides s) b = record { answer = BoxAnswer.Sides; sides = F s }
 laidSides F empty b = record { answer = BoxAnswer.Empty; sides = b }
 laidSides F (refused r) b = record { answer = BoxAnswer.Refused r; sides = b }
 
--- 2, R4.2: each lent buffer has the size that belongs to n: that of a table, of a vector, or of the sides
-unfoldable pub boxSizes : ℕ → ℕ → ℕ → ℕ → ℕ → ℕ → ℕ → ℕ → Bool
-boxSizes table vector pairs l u a c s = sizesOk table vector l u a && (eqb c vector && eqb s pairs)
+-- 2, R4.2: each lent buffer has the size that belongs to n: the constraint's, the centre's of a vector, and that of the sides
+unfoldable pub boxSizes : Sizes → ℕ → Lengths → ℕ → ℕ → Bool
+boxSizes z pairs lengths c s = constraintSized z lengths && (eqb c (z .vector) && eqb s pairs)
 
 -- the box, of anything at all, and a buffer that holds anything
-unfoldable pub enclose : ℤ → List ℤ → List ℤ → List ℤ → ℤ → List ℤ → List ℤ → Enclosed (List ℤ)
-enclose n l u a α c s =
+unfoldable pub enclose : ℤ → List ℤ → List ℤ → List ℤ → List ℤ → ℤ → List ℤ → List ℤ → Enclosed (List ℤ)
+enclose n l u a b α c s =
     let k : ℕ = orderOf n in
-    laidSides (λ x. x) (boxing n (boxSizes (k * k) k (k + k) (length l) (length u) (length a) (length c) (length s)) (problemOf k l u a α c)) s
+    let z : Sizes = record { table = k * k; vector = k } in
+    let lengths : Lengths = lengthsOf (length l) (length u) (length a) (length b) in
+    laidSides (λ x. x) (boxing n (boxSizes z (k + k) lengths (length c) (length s)) (problemOf k l u a b α c)) s
 
 -- R15.4: the number at the C entry, 0, -1, or the refusal's
 unfoldable pub boxCode : BoxAnswer → ℤ

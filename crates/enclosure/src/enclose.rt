@@ -8,7 +8,7 @@ ghost use Rattle.integers.specs.Numbers.{Within};
 ghost use Rattle.tables.specs.Ranges.{sidesRoom, limitRange};
 ghost use Rattle.tables.specs.Matrix.{at, nth};
 ghost use Rattle.tables.specs.Checks.{orderOf};
-ghost use Rattle.tables.specs.Problem.{constraintOf};
+ghost use Rattle.tables.specs.Problem.{constraintOf, endsOf};
 ghost use Rattle.centre.specs.Contracts.{Centred};
 ghost use Rattle.enclosure.specs.Box.{boxed};
 ghost use Rattle.enclosure.specs.Act.{Enclosed, laidSides, boxSizes, enclose, boxCode, Meaning};
@@ -23,8 +23,13 @@ use tables::Refusal;
 use tables::SIDES_ROOM;
 use tables::Sides;
 use tables::TABLE_ROOM;
+use tables::check_ends;
 use tables::entering::enter;
 use tables::entering::order_of;
+use tables::problem::Lengths;
+use tables::problem::Sizes;
+use tables::problem::constraint_sized;
+use tables::problem::lengths_of;
 
 // What the box act answers: sides, or that there is no point.
 pub enum BoxAnswer {
@@ -50,19 +55,20 @@ pub fn box_bounds(
     n: usize,
     low: &[i64],
     high: &[i64],
-    linear: &[i64],
+    from: &[i64],
+    to: &[i64],
     limit: i64,
     centre: &[i64],
     out: &mut Sides,
 ) -> BoxAnswer
-    requires { ⌜ Centred n (now low) (now high) (now linear) (now centre) × Within limitRange limit × (length (now out) ≡
-        sidesRoom) ⌝ }
-    ensures { λ r. ⌜ Stated (boxed n (at n (now (low .entry))) (at n (now (high .entry))) (nth (now (linear .entry))) limit (nth
-        (now (centre .entry)))) n r (now (out .exit)) ⌝ }
+    requires { ⌜ Centred n (now low) (now high) (now from) (now to) (now centre) × Within limitRange limit × (length
+        (now out) ≡ sidesRoom) ⌝ }
+    ensures { λ r. ⌜ Stated (boxed n (at n (now (low .entry))) (at n (now (high .entry))) (endsOf (now (from .entry)) (now
+        (to .entry))) limit (nth (now (centre .entry)))) n r (now (out .exit)) ⌝ }
 {
     let t = steps::step(n, low, high);
     let mut g = [0i64; GREATEST_ORDER];
-    gradients(n, low, high, linear, centre, &mut g);
+    gradients(n, low, high, from, to, centre, &mut g);
     let close = near(n, &g);
     if t <= 0 {
         return BoxAnswer::Refused(Refusal::Flat);
@@ -72,7 +78,7 @@ pub fn box_bounds(
     }
     let mut tk = [0i64; GREATEST_ORDER];
     steps::steps_at(n, low, high, &mut tk);
-    let d = at_centre(n, low, high, linear, limit, centre);
+    let d = at_centre(n, low, high, from, to, limit, centre);
     if box_of(n, centre, d, t, &tk, &g, out) {
         return BoxAnswer::Sides;
     }
@@ -84,19 +90,20 @@ fn enclose_bounds(
     n: usize,
     low: &[i64],
     high: &[i64],
-    linear: &[i64],
+    from: &[i64],
+    to: &[i64],
     limit: i64,
     centre: &[i64],
     sides: &mut [i64],
 ) -> BoxAnswer
-    requires { ⌜ Centred n (now low) (now high) (now linear) (now centre) × Within limitRange limit × (length (now sides) ≡ n +
-        n) ⌝ }
+    requires { ⌜ Centred n (now low) (now high) (now from) (now to) (now centre) × Within limitRange limit × (length
+        (now sides) ≡ n + n) ⌝ }
     ensures { λ r. ⌜ _≡_ {A = Enclosed (List ℤ)} (record { answer = r; sides = now (sides .exit) }) (laidSides (λ s. s) (boxed n
-        (at n (now (low .entry))) (at n (now (high .entry))) (nth (now (linear .entry))) limit (nth (now (centre .entry)))) (now
-        (sides .entry))) ⌝ }
+        (at n (now (low .entry))) (at n (now (high .entry))) (endsOf (now (from .entry)) (now (to .entry))) limit (nth
+        (now (centre .entry)))) (now (sides .entry))) ⌝ }
 {
     let mut x = [0i64; SIDES_ROOM];
-    let given = box_bounds(n, low, high, linear, limit, centre, &mut x);
+    let given = box_bounds(n, low, high, from, to, limit, centre, &mut x);
     match given {
         BoxAnswer::Sides => {
             tables::copy_numbers(n + n, &x, sides);
@@ -107,59 +114,53 @@ fn enclose_bounds(
     }
 }
 
-// Whether the buffers of a call have their sizes: that of a table, of a vector, or of the sides.
-pub fn sizes_ok(
-    table: usize,
-    vector: usize,
-    pairs: usize,
-    low: usize,
-    high: usize,
-    linear: usize,
-    centre: usize,
-    sides: usize,
-) -> bool
-    ensures { λ r. ⌜ r ≡ boxSizes table vector pairs low high linear centre sides ⌝ }
+// Whether the buffers of a call have their sizes: those of the constraint, the centre of a vector, and the sides of so many pairs.
+pub fn box_sized(sizes: Sizes, pairs: usize, lengths: Lengths, centre: usize, sides: usize) -> bool
+    ensures { λ r. ⌜ r ≡ boxSizes sizes pairs lengths centre sides ⌝ }
 {
-    tables::sizes_ok(table, vector, low, high, linear) && (centre == vector && sides == pairs)
+    let vector = sizes.vector;
+    constraint_sized(sizes, lengths) && (centre == vector && sides == pairs)
 }
 
-// The box, of any numbers at all: n is an order or not, and each slice has any length.
-// Refused by the first of the checks 1 to 5, 8 and 9 that fails, or empty, with the buffer kept; else the sides are written, low and high
-// for each k.
+// The box, of any numbers at all: n is an order or not, and each slice has any length. The linear terms lie between those of from and to.
+// Refused by the first of the checks 1 to 5, 16, 8 and 9 that fails, or empty, with the buffer kept; else the sides are written, low and
+// high for each k.
 pub fn enclose(
     n: i64,
     low: &[i64],
     high: &[i64],
-    linear: &[i64],
+    from: &[i64],
+    to: &[i64],
     limit: i64,
     centre: &[i64],
     sides: &mut [i64],
 ) -> BoxAnswer
     ensures exact { λ r. ⌜ _≡_ {A = Enclosed (List ℤ)} (record { answer = r; sides = now (sides .exit) }) (enclose n (now
-        (low .entry)) (now (high .entry)) (now (linear .entry)) limit (now (centre .entry)) (now (sides .entry))) ⌝ }
-    ensures meaning { λ r. ⌜ Meaning r (constraintOf (orderOf n) (now (low .entry)) (now (high .entry)) (now (linear .entry)) limit)
-        (now (sides .exit)) ⌝ }
+        (low .entry)) (now (high .entry)) (now (from .entry)) (now (to .entry)) limit (now (centre .entry)) (now
+        (sides .entry))) ⌝ }
+    ensures meaning { λ r. ⌜ Meaning r (constraintOf (orderOf n) (now (low .entry)) (now (high .entry)) (now (from .entry)) (now
+        (to .entry)) limit) (now (sides .exit)) ⌝ }
 {
     let m = order_of(n);
     if m == 0 {
         return BoxAnswer::Refused(Refusal::Order);
     }
-    let sized = sizes_ok(
-        m * m,
-        m,
-        m + m,
-        low.len(),
-        high.len(),
-        linear.len(),
-        centre.len(),
-        sides.len(),
-    );
-    let within = tables::sized_within(m, sized, linear, limit, centre);
+    let sizes = Sizes {
+        table: m * m,
+        vector: m,
+    };
+    let lengths = lengths_of(low.len(), high.len(), from.len(), to.len());
+    let sized = box_sized(sizes, m + m, lengths, centre.len(), sides.len());
+    let within = tables::sized_within(m, sized, from, to, limit, centre);
     let mut l = [0i64; TABLE_ROOM];
     let mut u = [0i64; TABLE_ROOM];
     let checked = enter(n, sized, within, low, high, &mut l, &mut u);
     if let Checked::Refused(r) = checked {
         return BoxAnswer::Refused(r);
     }
-    enclose_bounds(m, &l, &u, linear, limit, centre, sides)
+    let ordered = check_ends(m, from, to);
+    if let Checked::Refused(r) = ordered {
+        return BoxAnswer::Refused(r);
+    }
+    enclose_bounds(m, &l, &u, from, to, limit, centre, sides)
 }

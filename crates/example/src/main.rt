@@ -85,13 +85,23 @@ fn refused() {
     print_two(b"vector", &vector);
 }
 
-// 4x² - 16x ≤ 0, around 2.
+// 4x² + 2ax ≤ 0 for some a from -8 to -6, around 2.
 fn boxed() {
     let matrix = [4i64; 1];
-    let linear = [-8i64; 1];
+    let from = [-8i64; 1];
+    let to = [-6i64; 1];
     let centre = [2i64; 1];
     let mut sides = [5i64; 2];
-    let answer = enclosure::enclose::enclose(1, &matrix, &matrix, &linear, 0, &centre, &mut sides);
+    let answer = enclosure::enclose::enclose(
+        1,
+        &matrix,
+        &matrix,
+        &from,
+        &to,
+        0,
+        &centre,
+        &mut sides,
+    );
     print_number(b"enclose", enclosure::enclose::box_code(answer));
     print_two(b"sides", &sides);
 }
@@ -124,64 +134,18 @@ fn promised() {
 
 // The summary file of 4x² - 16x ≤ 0 around 2, and its problem; and the same file cut short, which is refused.
 fn read_summary() {
-    let file = [
-        1u8,
-        1,
-        0,
-        1,
-        2,
-        4,
-        0,
-        4,
-        0,
-        0,
-        0,
-        3,
-        4,
-        0,
-        4,
-        0,
-        0,
-        0,
-        4,
-        8,
-        0,
-        248,
-        255,
-        255,
-        255,
-        255,
-        255,
-        255,
-        255,
-        5,
-        8,
-        0,
-        0,
-        0,
-        0,
-        0,
-        0,
-        0,
-        0,
-        0,
-        6,
-        8,
-        0,
-        2,
-        0,
-        0,
-        0,
-        0,
-        0,
-        0,
-        0,
-    ];
+    let file = *b"\x01\x01\x00\x01\
+        \x02\x04\x00\x04\x00\x00\x00\
+        \x03\x04\x00\x04\x00\x00\x00\
+        \x04\x08\x00\xf8\xff\xff\xff\xff\xff\xff\xff\
+        \x05\x08\x00\x00\x00\x00\x00\x00\x00\x00\x00\
+        \x06\x08\x00\x02\x00\x00\x00\x00\x00\x00\x00\
+        \x07\x08\x00\xf8\xff\xff\xff\xff\xff\xff\xff";
     print_reading(summary::problem::read(&file));
-    print_reading(summary::problem::read(&file[..50]));
+    print_reading(summary::problem::read(&file[..61]));
 }
 
-// The limit and the first linear term of a problem that was read, or the number by which its file is refused.
+// The limit and the ends of the first linear term of a problem that was read, or the number by which its file is refused.
 fn print_reading(reading: Reading) {
     let checked = reading.checked;
     match checked {
@@ -189,8 +153,11 @@ fn print_reading(reading: Reading) {
             let problem = reading.problem;
             let constraint = problem.constraint;
             let linear = constraint.linear;
+            let from = linear.low;
+            let to = linear.high;
             print_number(b"limit", constraint.limit);
-            print_number(b"linear", linear[0]);
+            print_number(b"from", from[0]);
+            print_number(b"to", to[0]);
         }
         Checked::Refused(r) => print_number(b"refused", tables::refusal_number(r) as i64),
     }

@@ -35,9 +35,10 @@ unfolding kindOf kindIn
 kind-place Kind.Order = (refl, omega arith)
 kind-place Kind.Low = (refl, omega arith)
 kind-place Kind.High = (refl, omega arith)
-kind-place Kind.Linear = (refl, omega arith)
+kind-place Kind.LinearLow = (refl, omega arith)
 kind-place Kind.Limit = (refl, omega arith)
 kind-place Kind.Centre = (refl, omega arith)
+kind-place Kind.LinearHigh = (refl, omega arith)
 
 tag-listed : (ks : List Kind) (t : ℕ) (k : Kind) → kindIn ks t ≡ Tagged.Known k → t ≡ tagOf k
 unfolding kindIn

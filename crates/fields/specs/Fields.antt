@@ -13,9 +13,9 @@ use Rattle.fields.specs.declared.field.Tagged.the-variants as Tagged
 use Rattle.fields.specs.declared.field.Found.{Found}
 use Rattle.fields.specs.declared.field.Found.the-variants as Found
 
--- the kinds of field, in the order of their tags: n, L, U, a, α, c
+-- the kinds of field, in the order of their tags: n, L, U, the low ends of a, α, c, the high ends of a
 abbrev pub kinds : List Kind
-kinds = Kind.Order ∷ Kind.Low ∷ Kind.High ∷ Kind.Linear ∷ Kind.Limit ∷ Kind.Centre ∷ []
+kinds = Kind.Order ∷ Kind.Low ∷ Kind.High ∷ Kind.LinearLow ∷ Kind.Limit ∷ Kind.Centre ∷ Kind.LinearHigh ∷ []
 
 abbrev pub kindCount : ℕ
 kindCount = length kinds
@@ -25,9 +25,10 @@ abbrev pub placeOf : Kind → ℕ
 placeOf Kind.Order = 0
 placeOf Kind.Low = 1
 placeOf Kind.High = 2
-placeOf Kind.Linear = 3
+placeOf Kind.LinearLow = 3
 placeOf Kind.Limit = 4
 placeOf Kind.Centre = 5
+placeOf Kind.LinearHigh = 6
 
 -- a kind's tag, from 01 on
 abbrev pub tagOf : Kind → ℕ

@@ -14,13 +14,14 @@ pub enum Kind {
     Order,
     Low,
     High,
-    Linear,
+    LinearLow,
     Limit,
     Centre,
+    LinearHigh,
 }
 
 // How many there are.
-pub const KINDS: usize = 6;
+pub const KINDS: usize = 7;
 
 // What a tag says: the kind of field, or the refusal of a tag that no field has.
 pub enum Tagged {
@@ -51,9 +52,10 @@ pub fn kind_of(tag: u8) -> Tagged
         1 => Tagged::Known(Kind::Order),
         2 => Tagged::Known(Kind::Low),
         3 => Tagged::Known(Kind::High),
-        4 => Tagged::Known(Kind::Linear),
+        4 => Tagged::Known(Kind::LinearLow),
         5 => Tagged::Known(Kind::Limit),
         6 => Tagged::Known(Kind::Centre),
+        7 => Tagged::Known(Kind::LinearHigh),
         _ => Tagged::Refused(Refusal::Tag),
     }
 }
@@ -66,9 +68,10 @@ pub fn place_of(kind: Kind) -> usize
         Kind::Order => 0,
         Kind::Low => 1,
         Kind::High => 2,
-        Kind::Linear => 3,
+        Kind::LinearLow => 3,
         Kind::Limit => 4,
         Kind::Centre => 5,
+        Kind::LinearHigh => 6,
     }
 }
 

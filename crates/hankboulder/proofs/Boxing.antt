@@ -8,7 +8,7 @@ use lib.ListN.{length}
 use mir.Syntax.{w64}
 use Rattle.words.proofs.Laws.{length-numbersOf}
 use Rattle.tables.specs.Checks.{orderOf}
-use Rattle.tables.specs.Problem.{constraintOf, problemOf}
+use Rattle.tables.specs.Problem.{constraintOf, problemOf, lengthsOf}
 use Rattle.tables.specs.declared.problem.Constraint.{Constraint}
 use Rattle.enclosure.specs.Box.{Box, sides, empty, refused, boxing}
 use Rattle.enclosure.specs.Act.{laidSides, Meaning}
@@ -30,7 +30,7 @@ module _ (k : ℕ) (c : Constraint) (s : List ℕ) where
   stored-means empty z m = m
   stored-means (refused r) z m = m
 
-module _ (n : ℤ) (l u a : List ℕ) (α : ℤ) (c s : List ℕ) where
+module _ (n : ℤ) (l u a b : List ℕ) (α : ℤ) (c s : List ℕ) where
   abbrev k : ℕ
   k = orderOf n
 
@@ -40,15 +40,24 @@ module _ (n : ℤ) (l u a : List ℕ) (α : ℤ) (c s : List ℕ) where
   abbrev U : List ℤ
   U = tableOf k u
 
-  fitting : (sized : Bool) → Fitting k (boxing n sized (problemOf k L U (vectorOf k a) α (vectorOf k c)))
-  fitting sized =
-      boxing-fitting n sized L U (vectorOf k a) α (vectorOf k c) (omega (arith, length-numbersOf w64 l (k * k))) (omega (arith, length-numbersOf w64 u (k * k)))
-      (omega (arith, length-numbersOf w64 a k)) (omega (arith, length-numbersOf w64 c k))
+  abbrev A : List ℤ
+  A = vectorOf k a
 
-  pub box-means : (let j = boxEntry n l u a α c s in BoxMeaning n l u a α (j .number) (j .sides))
+  abbrev B : List ℤ
+  B = vectorOf k b
+
+  abbrev C : List ℤ
+  C = vectorOf k c
+
+  fitting : (sized : Bool) → Fitting k (boxing n sized (problemOf k L U A B α C))
+  fitting sized =
+      boxing-fitting n sized L U A B α C (omega (arith, length-numbersOf w64 l (k * k))) (omega (arith, length-numbersOf w64 u (k * k)))
+      (omega (arith, length-numbersOf w64 a k)) (omega (arith, length-numbersOf w64 b k)) (omega (arith, length-numbersOf w64 c k))
+
+  pub box-means : (let j = boxEntry n l u a b α c s in BoxMeaning n l u a b α (j .number) (j .sides))
   unfolding boxEntry boxStored
   box-means =
-      let j = boxStored n l u a α c s in
-      let sized = boxBuffers k (length l) (length u) (length a) (length c) (length s) in
-      let m = stored-means k (constraintOf k L U (vectorOf k a) α) s (boxing n sized (problemOf k L U (vectorOf k a) α (vectorOf k c))) (fitting sized) (boxing-means n sized L U (vectorOf k a) α (vectorOf k c) (sidesOf k s)) in
+      let j = boxStored n l u a b α c s in
+      let sized = boxBuffers k (lengthsOf (length l) (length u) (length a) (length b)) (length c) (length s) in
+      let m = stored-means k (constraintOf k L U A B α) s (boxing n sized (problemOf k L U A B α C)) (fitting sized) (boxing-means n sized L U A B α C (sidesOf k s)) in
       record { holds = λ e. m .holds (code-sides (j .answer) e); none = λ e. m .none (code-empty (j .answer) e) }

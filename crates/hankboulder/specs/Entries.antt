@@ -5,7 +5,7 @@ use lib.IntN.{ℤ}
 use lib.ListN.{length}
 use Rattle.tables.specs.Checks.{orderOf}
 use Rattle.tables.specs.Answers.{answerCode}
-use Rattle.tables.specs.Problem.{problemOf}
+use Rattle.tables.specs.Problem.{problemOf, lengthsOf}
 use Rattle.residual.specs.FactorTest.{factorTested}
 use Rattle.vectors.specs.VectorTest.{vectorTested}
 use Rattle.verdict.specs.Judge.{Judged, judging, verdictCode}
@@ -42,13 +42,13 @@ judgeEntry n l u f v =
     let j : Judged (List ℕ) = judgeStored n l u f v in
     record { number = verdictCode (j .verdict); factor = j .factor; vector = j .vector }
 
--- ---- hb_box: the box of the numbers that the buffers spell
-unfoldable pub boxStored : ℤ → List ℕ → List ℕ → List ℕ → ℤ → List ℕ → List ℕ → Enclosed (List ℕ)
-boxStored n l u a α c s =
+-- ---- hb_box: the box of the numbers that the buffers spell, with linear terms from a to b
+unfoldable pub boxStored : ℤ → List ℕ → List ℕ → List ℕ → List ℕ → ℤ → List ℕ → List ℕ → Enclosed (List ℕ)
+boxStored n l u a b α c s =
     let k : ℕ = orderOf n in
     storedSides k
-    (boxing n (boxBuffers k (length l) (length u) (length a) (length c) (length s))
-    (problemOf k (tableOf k l) (tableOf k u) (vectorOf k a) α (vectorOf k c)))
+    (boxing n (boxBuffers k (lengthsOf (length l) (length u) (length a) (length b)) (length c) (length s))
+    (problemOf k (tableOf k l) (tableOf k u) (vectorOf k a) (vectorOf k b) α (vectorOf k c)))
     s
 
 -- the number of the answer, and the buffer as it is left
@@ -56,7 +56,7 @@ pub record BoxResult : Type 0 where
   pub number : ℤ
   pub sides : List ℕ
 
-unfoldable pub boxEntry : ℤ → List ℕ → List ℕ → List ℕ → ℤ → List ℕ → List ℕ → BoxResult
-boxEntry n l u a α c s =
-    let j : Enclosed (List ℕ) = boxStored n l u a α c s in
+unfoldable pub boxEntry : ℤ → List ℕ → List ℕ → List ℕ → List ℕ → ℤ → List ℕ → List ℕ → BoxResult
+boxEntry n l u a b α c s =
+    let j : Enclosed (List ℕ) = boxStored n l u a b α c s in
     record { number = boxCode (j .answer); sides = j .sides }

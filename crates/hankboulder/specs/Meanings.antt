@@ -51,11 +51,11 @@ module _ (n : ℤ) (l u : List ℕ) where
     -- no refusal, and the margin of R3.5: 0 (D3.5)
     pub margin : r ≤ℤ pos 0 → Margin k L U → r ≡ pos 0
 
-  -- a: the linear terms; s: the sides as they are left
-  pub record BoxMeaning (a : List ℕ) (α r : ℤ) (s : List ℕ) : Type 0 where
-    -- 0, a box is given: it contains every point of the ellipsoid (D3.3)
+  -- a and b: the ends of the linear terms; s: the sides as they are left
+  pub record BoxMeaning (a b : List ℕ) (α r : ℤ) (s : List ℕ) : Type 0 where
+    -- 0, a box is given: it contains every point of the ellipsoid, for every member and all linear terms between the ends (D3.3)
     pub holds : r ≡ pos 0 → (X : ℕ → ℤ) (p : ℤ) →
-        Allowed (constraintOf k (tableOf k l) (tableOf k u) (vectorOf k a) α) X p → Contains k (sidesOf k s) X p
+        Allowed (constraintOf k (tableOf k l) (tableOf k u) (vectorOf k a) (vectorOf k b) α) X p → Contains k (sidesOf k s) X p
     -- -1, empty: there is no point (D3.4)
     pub none : r ≡ negsuc 0 → (X : ℕ → ℤ) (p : ℤ) →
-        Allowed (constraintOf k (tableOf k l) (tableOf k u) (vectorOf k a) α) X p → ⊥
+        Allowed (constraintOf k (tableOf k l) (tableOf k u) (vectorOf k a) (vectorOf k b) α) X p → ⊥

@@ -9,6 +9,7 @@ use lib.IntN.{ℤ, pos}
 use lib.ListN.{getD, drop}
 use Rattle.tables.specs.Matrix.{at, nth}
 use Rattle.tables.specs.Members.{PositiveDefinite}
+use Rattle.tables.specs.Problem.{endsIn}
 use Rattle.tables.specs.Refusals.{refusalNumber}
 use Rattle.tables.specs.declared.Refusal.{Refusal}
 use Rattle.tables.specs.declared.Checked.the-variants as Checked
@@ -19,7 +20,7 @@ use Rattle.verdict.specs.Judge.{Judgement, judged, written}
 use Rattle.verdict.specs.Judge as Judge
 use Rattle.verdict.specs.declared.judge.Verdict.the-variants as Verdict
 use Rattle.verdict.proofs.Meanings.{judged-means}
-use Rattle.enclosure.specs.Points.{Point}
+use Rattle.enclosure.specs.Points.{Allowed}
 use Rattle.sides.specs.Sides.{Box}
 use Rattle.sides.specs.Sides as Box
 use Rattle.enclosure.specs.Box.{problemBox}
@@ -112,12 +113,12 @@ module _ (s : List ℕ) where
       let h = printed-passed s refl (λ r q. omega (arith, ap first (sym q ∙ e))) in
       (h, first-line n (c .low) (c .high) (boxText n (problemBox p)) t _ (means h) .1 (sym (printed-problem s refl h) ∙ e))
 
-  -- 'empty' last: the ellipsoid has no point
+  -- 'empty' last: the ellipsoid has no point, whichever linear terms between their ends
   pub empty-means : (t : List ℕ) → printed s ≡ t ++ ascii "empty\n"
-      → (reading s .checked ≡ Checked.Passed) × ((X : ℕ → ℤ) (q : ℤ) → Point n (at n (c .low)) (at n (c .high)) (nth (c .linear)) (c .limit) X q → ⊥)
+      → (reading s .checked ≡ Checked.Passed) × ((X : ℕ → ℤ) (q : ℤ) → Allowed c X q → ⊥)
   unfolding problemText problemBox
   empty-means t e =
       let h = printed-passed s refl (λ r q. not-empty (numbered-ends (ascii "refused") r) (omega arith) t (sym q ∙ e)) in
       let b = empty-last n (order (passed h) .0) (problemBox p) (verdictText n (problemVerdict p)) t (sym (printed-problem s refl h) ∙ e) in
       let z = tables (passed h) in
-      (h, subst (Says n (at n (c .low)) (at n (c .high)) (nth (c .linear)) (c .limit)) b (box-says n (z .order) (at n (c .low)) (at n (c .high)) (z .bounds) (nth (c .linear)) (c .limit) (nth (p .centre))))
+      (h, subst (Says n (at n (c .low)) (at n (c .high)) (endsIn c) (c .limit)) b (box-says n (z .order) (at n (c .low)) (at n (c .high)) (z .bounds) (endsIn c) (c .limit) (nth (p .centre))))

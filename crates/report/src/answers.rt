@@ -33,6 +33,8 @@ pub fn work_out(problem: Problem) -> Answers
     let low = constraint.low;
     let high = constraint.high;
     let linear = constraint.linear;
+    let from = linear.low;
+    let to = linear.high;
     let centre = problem.centre;
     let mut factor = [0i64; TABLE_ROOM];
     let mut vector = [0i64; GREATEST_ORDER];
@@ -42,7 +44,8 @@ pub fn work_out(problem: Problem) -> Answers
         n,
         &low,
         &high,
-        &linear,
+        &from,
+        &to,
         constraint.limit,
         &centre,
         &mut sides,

@@ -8,7 +8,7 @@ use Rattle.integers.specs.Sum.{sum, only}
 use Rattle.integers.specs.Division.{floorDiv, ceilDiv}
 use Rattle.integers.specs.Root.{wholeRoot, rootWithin, rootAbove, leastRoot}
 use Rattle.tables.specs.Matrix.{at, table, tabulate, form, rowWidth}
-use Rattle.tables.specs.Checks.{orderOk, all, firstRefusal, within, allWithin, tablesWithin, termsWithin, nowhereCrossed, same, symmetric, boundsChecks}
+use Rattle.tables.specs.Checks.{orderOk, all, firstRefusal, within, allWithin, tablesWithin, termsWithin, nowhereCrossed, same, symmetric, boundsChecks, endsChecks}
 use Rattle.cholesky.specs.Scale.{takeOff, scaledBy}
 use Rattle.cholesky.specs.Factoring.{factoring, columnsFrom, nextColumn, rows, goesOn, nextEntry, entries}
 use Rattle.vectors.specs.Least.{leastMember, leastValue, nonzero, shows}
@@ -27,7 +27,8 @@ use Rattle.text.specs.Text.{ascii, digits, natural, decimal, numbers, line, lin
 use Rattle.report.specs.Lines.{numbered, verdictText, boxText}
 use Rattle.report.specs.Report.{problemVerdict, problemText, readingText, printed}
 
--- "01 0100 01, 02 0400 04000000, 03 0400 04000000, 04 0800 F8FFFFFFFFFFFFFF, 05 0800 0000000000000000, 06 0800 0200000000000000"
+-- "01 0100 01, 02 0400 04000000, 03 0400 04000000, 04 0800 F8FFFFFFFFFFFFFF, 05 0800 0000000000000000, 06 0800 0200000000000000,
+-- 07 0800 F8FFFFFFFFFFFFFF"
 abbrev fileP : List ℕ
 fileP =
     (1 ∷ 1 ∷ 0 ∷ 1 ∷ [])
@@ -36,7 +37,8 @@ fileP =
     ++ (4 ∷ 8 ∷ 0 ∷ 0xf8 ∷ replicate 7 0xff)
     ++ (5 ∷ 8 ∷ 0 ∷ replicate 8 0)
     ++ (6 ∷ 8 ∷ 0 ∷ 2 ∷ replicate 7 0)
+    ++ (7 ∷ 8 ∷ 0 ∷ 0xf8 ∷ replicate 7 0xff)
 
 caseP : printed fileP ≡ ascii "definite\nrow 129007\nside -1 5\n"
-unfolding kindIn kindOf tagged fieldAt startOf lengthOf seen unseen placed walkOn walkFields walk walked content noProblem fromLeBytes unsignedAt signedAt numbersOf paddedNumbersOf orderOk reading readWalked readIn readAs readingOf problemIn fieldChecks allPresent orderIn lengthsOk problemVerdict judged listed firstRefusal boundsChecks tablesWithin termsWithin allWithin nowhereCrossed symmetric same all within factoring columnsFrom nextColumn rows goesOn nextEntry entries takeOff scaledBy at table tabulate form rowWidth leastMember leastValue nonzero shows tried first stoppedFactor solvedEntry solvedRows solved sum only floorDiv wholeRoot rootWithin problemBox boxed boxOf sidesFrom halfSide smallerHalf secondBound firstHalf bound atCentre gradient highGradient lowGradient step stepAt bits trial lowered absℤ minℤ maxℤ ceilDiv rootAbove leastRoot printed readingText problemText verdictText boxText numbered lines line numbers decimal natural digits
+unfolding kindIn kindOf tagged fieldAt startOf lengthOf seen unseen placed walkOn walkFields walk walked content noProblem fromLeBytes unsignedAt signedAt numbersOf paddedNumbersOf orderOk reading readWalked readIn readAs readingOf problemIn fieldChecks allPresent orderIn lengthsOk problemVerdict judged listed firstRefusal boundsChecks endsChecks tablesWithin termsWithin allWithin nowhereCrossed symmetric same all within factoring columnsFrom nextColumn rows goesOn nextEntry entries takeOff scaledBy at table tabulate form rowWidth leastMember leastValue nonzero shows tried first stoppedFactor solvedEntry solvedRows solved sum only floorDiv wholeRoot rootWithin problemBox boxed boxOf sidesFrom halfSide smallerHalf secondBound firstHalf bound atCentre gradient highGradient lowGradient step stepAt bits trial lowered absℤ minℤ maxℤ ceilDiv rootAbove leastRoot printed readingText problemText verdictText boxText numbered lines line numbers decimal natural digits
 caseP = refl

@@ -1,4 +1,4 @@
--- The starred cases of docs/RULES.md, W1 to W12: what the definitions give, beside what is expected. One list with one proof.
+-- The starred cases of docs/RULES.md, W1 to W12 and W24 to W30: what the definitions give, beside what is expected. One list with one proof.
 use mathlib.Core.Path.{_≡_, refl}
 use mathlib.Core.Bool.{true}
 use mathlib.Core.List.{List, [], _∷_, map}
@@ -9,11 +9,12 @@ use Rattle.integers.specs.Sum.{sum, only, except}
 use Rattle.integers.specs.Division.{floorDiv, ceilDiv}
 use Rattle.integers.specs.Root.{wholeRoot, rootWithin, rootAbove, leastRoot}
 use Rattle.tables.specs.Matrix.{at, nth, table, tabulate, form, gram, rowWidth}
-use Rattle.tables.specs.Checks.{all, firstRefusal, orderOk, orderOf, entryChecks, within, allWithin, tablesWithin, termsWithin, nowhereCrossed, same, symmetric, boundsChecks}
+use Rattle.tables.specs.Checks.{all, firstRefusal, orderOk, orderOf, entryChecks, within, allWithin, tablesWithin, termsWithin, nowhereCrossed, same, symmetric, boundsChecks, endsChecks}
 use Rattle.tables.specs.Entering.{entered}
-use Rattle.tables.specs.Problem.{problemOf}
+use Rattle.tables.specs.Problem.{problemOf, constraintEntered}
 use Rattle.tables.specs.Answers.{after}
 use Rattle.tables.specs.Members.{PositiveDefinite}
+use Rattle.tables.specs.declared.Refusal.the-variants.{Lopsided, Reversed}
 use Rattle.tables.specs.declared.Answer.{Answer as TestAnswer}
 use Rattle.tables.specs.declared.Answer.the-variants.{Yes}
 use Rattle.cholesky.specs.Scale.{takeOff, scaledBy}
@@ -28,7 +29,7 @@ use Rattle.verdict.specs.Judge.{Judgement, definite, notDefinite, undecided, li
 use Rattle.steps.specs.Steps.{lowered, trial, bits, step, stepAt}
 use Rattle.centre.specs.Centre.{lowGradient, highGradient, gradient, atCentre}
 use Rattle.sides.specs.Sides.{bound, firstHalf, secondBound, smallerHalf, halfSide, sidesFrom, boxOf}
-use Rattle.enclosure.specs.Box.{Box, sides, empty, boxed, problemBox, boxing}
+use Rattle.enclosure.specs.Box.{Box, sides, empty, refused, boxed, problemBox, boxing}
 
 data Answer : Type 0 where
   verdict : Judgement → Answer
@@ -55,9 +56,15 @@ offered n t f a = record { rules = test (factorTested (pos n) true t t f); expec
 abbrev least : ℕ → List ℤ → List ℤ → ℤ → Line
 least n t x v = record { rules = value (leastValue n (at n t) (at n t) (nth x)); expected = value v }
 
--- the box of order 1: M = [m], a, α, c
+-- the box: a thin table, linear terms from a to b, α, c; of order 1; and there with equal ends
+abbrev boxed-thin : ℕ → List ℤ → List ℤ → List ℤ → ℤ → List ℤ → Box → Line
+boxed-thin n t a b α c x = record { rules = box (boxing (pos n) true (problemOf n t t a b α c)); expected = box x }
+
+abbrev boxed-between : ℤ → ℤ → ℤ → ℤ → ℤ → Box → Line
+boxed-between m a b α c x = boxed-thin 1 (m ∷ []) (a ∷ []) (b ∷ []) α (c ∷ []) x
+
 abbrev boxed-one : ℤ → ℤ → ℤ → ℤ → Box → Line
-boxed-one m a α c b = record { rules = box (boxing (pos 1) true (problemOf 1 (m ∷ []) (m ∷ []) (a ∷ []) α (c ∷ []))); expected = box b }
+boxed-one m a α c x = boxed-between m a a α c x
 
 -- [1 3; 3 10], and 2^16 times its exact Cholesky factor
 abbrev narrow : List ℤ
@@ -85,10 +92,20 @@ lines =
     ∷ boxed-one (pos 4) (pos 0) (pos 0) (pos 0) (sides (pos 0 ∷ pos 0 ∷ []))
     -- case P, W21
     ∷ boxed-one (pos 4) (negsuc 7) (pos 0) (pos 2) (sides (negsuc 0 ∷ pos 5 ∷ []))
+    -- ends apart, W24 to W26
+    ∷ boxed-between (pos 4) (negsuc 3) (pos 4) (pos 0) (pos 0) (sides (negsuc 3 ∷ pos 4 ∷ []))
+    ∷ boxed-between (pos 4) (negsuc 7) (negsuc 3) (pos 0) (pos 2) (sides (negsuc 2 ∷ pos 7 ∷ []))
+    ∷ boxed-between (pos 4) (negsuc 0) (pos 1) (negsuc 2) (pos 0) empty
+    -- around a centre below 0, W30
+    ∷ boxed-between (pos 4) (pos 4) (pos 8) (pos 0) (negsuc 1) (sides (negsuc 6 ∷ pos 3 ∷ []))
+    -- 16, also where 8 would be next, and behind 5: W27 to W29
+    ∷ boxed-between (pos 4) (pos 1) (pos 0) (pos 0) (pos 0) (refused Reversed)
+    ∷ boxed-between (pos 1) (pos 1) (pos 0) (pos 0) (pos 0) (refused Reversed)
+    ∷ boxed-thin 2 (pos 1 ∷ pos 2 ∷ pos 3 ∷ pos 4 ∷ []) (pos 1 ∷ pos 0 ∷ []) (pos 0 ∷ pos 0 ∷ []) (pos 0) (pos 0 ∷ pos 0 ∷ []) (refused Lopsided)
     ∷ []
 
 as-printed : map (λ (l : Line). l .rules) lines ≡ map (λ (l : Line). l .expected) lines
-unfolding judging judged listed factorTested factorAnswer factorShape factorEntry accepts rowPasses radius residual gram except after entered firstRefusal entryChecks orderOk orderOf boundsChecks tablesWithin allWithin nowhereCrossed symmetric same all within factoring columnsFrom nextColumn rows goesOn nextEntry entries takeOff scaledBy at table tabulate form rowWidth leastMember leastValue nonzero shows tried first stoppedFactor solvedEntry solvedRows solved sum only floorDiv wholeRoot rootWithin boxing problemBox termsWithin boxed boxOf sidesFrom halfSide smallerHalf secondBound firstHalf bound atCentre gradient highGradient lowGradient step stepAt bits trial lowered absℤ minℤ maxℤ ceilDiv rootAbove leastRoot
+unfolding judging judged listed factorTested factorAnswer factorShape factorEntry accepts rowPasses radius residual gram except after entered firstRefusal entryChecks orderOk orderOf boundsChecks endsChecks constraintEntered tablesWithin allWithin nowhereCrossed symmetric same all within factoring columnsFrom nextColumn rows goesOn nextEntry entries takeOff scaledBy at table tabulate form rowWidth leastMember leastValue nonzero shows tried first stoppedFactor solvedEntry solvedRows solved sum only floorDiv wholeRoot rootWithin boxing problemBox termsWithin boxed boxOf sidesFrom halfSide smallerHalf secondBound firstHalf bound atCentre gradient highGradient lowGradient step stepAt bits trial lowered absℤ minℤ maxℤ ceilDiv rootAbove leastRoot
 as-printed = refl
 
 -- so every member of [1 3; 3 10], on which the judge is undecided, is positive definite

@@ -30,7 +30,7 @@ pub record Alike (s s′ : List ℕ) (l l′ : Layout) : Type 0 where
 module _ {s s′ : List ℕ} {l l′ : Layout} (a : Alike s s′ l l′) where
   present-alike : allPresent l ≡ allPresent l′
   unfolding allPresent all seen startOf
-  present-alike = rw (a .kinds Kind.Order, a .kinds Kind.Low, a .kinds Kind.High, a .kinds Kind.Linear, a .kinds Kind.Limit, a .kinds Kind.Centre)
+  present-alike = rw (a .kinds Kind.Order, a .kinds Kind.Low, a .kinds Kind.High, a .kinds Kind.LinearLow, a .kinds Kind.Limit, a .kinds Kind.Centre, a .kinds Kind.LinearHigh)
 
   order-alike : orderIn s l ≡ orderIn s′ l′
   unfolding orderIn
@@ -38,7 +38,7 @@ module _ {s s′ : List ℕ} {l l′ : Layout} (a : Alike s s′ l l′) where
 
   sizes-alike : (n : ℕ) → lengthsOk l n ≡ lengthsOk l′ n
   unfolding lengthsOk all lengthOf
-  sizes-alike n = rw (a .sizes Kind.Order, a .sizes Kind.Low, a .sizes Kind.High, a .sizes Kind.Linear, a .sizes Kind.Limit, a .sizes Kind.Centre)
+  sizes-alike n = rw (a .sizes Kind.Order, a .sizes Kind.Low, a .sizes Kind.High, a .sizes Kind.LinearLow, a .sizes Kind.Limit, a .sizes Kind.Centre, a .sizes Kind.LinearHigh)
 
   checks-alike : fieldChecks s l ≡ fieldChecks s′ l′
   unfolding fieldChecks
@@ -47,7 +47,7 @@ module _ {s s′ : List ℕ} {l l′ : Layout} (a : Alike s s′ l l′) where
   problem-alike : problemIn s l ≡ problemIn s′ l′
   unfolding problemIn
   problem-alike =
-      rw (order-alike, a .contents Kind.Low, a .contents Kind.High, a .contents Kind.Linear, a .contents Kind.Limit, a .contents Kind.Centre)
+      rw (order-alike, a .contents Kind.Low, a .contents Kind.High, a .contents Kind.LinearLow, a .contents Kind.LinearHigh, a .contents Kind.Limit, a .contents Kind.Centre)
 
   pub read-alike : readIn s l ≡ readIn s′ l′
   read-alike = go (firstRefusal (fieldChecks s′ l′)) refl

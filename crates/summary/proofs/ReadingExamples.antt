@@ -8,9 +8,9 @@ use Rattle.words.specs.Numbers.{fromLeBytes, unsignedAt, signedAt, numbersOf, p
 use Rattle.tables.specs.Matrix.{at}
 use Rattle.tables.specs.Problem.{problemOf}
 use Rattle.tables.specs.Ranges.{greatestOrder, tableRoom}
-use Rattle.tables.specs.Checks.{all, firstRefusal, orderOk, within, allWithin, nowhereCrossed, same, symmetric, tablesWithin, termsWithin, boundsChecks}
+use Rattle.tables.specs.Checks.{all, firstRefusal, orderOk, within, allWithin, nowhereCrossed, same, symmetric, tablesWithin, termsWithin, boundsChecks, endsChecks}
 use Rattle.tables.specs.declared.Refusal.{Refusal}
-use Rattle.tables.specs.declared.Refusal.the-variants.{Order, Range, Crossed, Tag, Absent, Size, Long}
+use Rattle.tables.specs.declared.Refusal.the-variants.{Order, Range, Crossed, Tag, Absent, Size, Long, Reversed}
 use Rattle.tables.specs.declared.Checked.the-variants.{Passed, Refused}
 use Rattle.fields.specs.Fields.{kindIn, kindOf, tagged, fieldAt}
 use Rattle.fields.specs.Layouts.{startOf, lengthOf, seen, unseen, placed, walkOn, walkFields, walk, walked, content}
@@ -28,9 +28,18 @@ short x = x ∷ replicate 3 0
 abbrev long : ℕ → List ℕ
 long x = x ∷ replicate 7 0
 
--- case P (W21 of docs/RULES.md), with other contents of the tags 01, 02 and 06
+abbrev minusEight : List ℕ
+minusEight = 0xf8 ∷ replicate 7 0xff
+
+-- case P (W21 of docs/RULES.md), with other contents of the tags 01, 02, 06 and 07
+abbrev six : List ℕ → ℕ → List ℕ → List ℕ
+six n l c = field 1 n ++ field 2 (short l) ++ field 3 (short 4) ++ field 4 minusEight ++ field 5 (long 0) ++ field 6 c
+
+abbrev seven : List ℕ → ℕ → List ℕ → List ℕ → List ℕ
+seven n l c b = six n l c ++ field 7 b
+
 abbrev file : List ℕ → ℕ → List ℕ → List ℕ
-file n l c = field 1 n ++ field 2 (short l) ++ field 3 (short 4) ++ field 4 (0xf8 ∷ replicate 7 0xff) ++ field 5 (long 0) ++ field 6 c
+file n l c = seven n l c minusEight
 
 -- ---- readings
 abbrev refused : Refusal → Reading
@@ -40,12 +49,14 @@ refused r = record { checked = Refused r; problem = noProblem }
 abbrev alone : ℕ → ℤ → List ℤ
 alone room x = x ∷ replicate (room - 1) (pos 0)
 
+-- case P with another high end
+abbrev upTo : ℤ → Reading
+upTo b =
+    let m = alone tableRoom (pos 4) in
+    record { checked = Passed; problem = problemOf 1 m m (alone greatestOrder (negsuc 7)) (alone greatestOrder b) (pos 0) (alone greatestOrder (pos 2)) }
+
 abbrev readingP : Reading
-readingP =
-    record {
-      checked = Passed;
-      problem = problemOf 1 (alone tableRoom (pos 4)) (alone tableRoom (pos 4)) (alone greatestOrder (negsuc 7)) (pos 0) (alone greatestOrder (pos 2));
-    }
+readingP = upTo (negsuc 7)
 
 record Line : Type 0 where
   bytes : List ℕ
@@ -55,10 +66,13 @@ abbrev lines : List Line
 lines =
     record { bytes = file (1 ∷ []) 4 (long 2); expected = readingP }
     -- fields in another order
-    ∷ record { bytes = field 6 (long 2) ++ field 5 (long 0) ++ field 3 (short 4) ++ field 1 (1 ∷ []) ++ field 4 (0xf8 ∷ replicate 7 0xff) ++ field 2 (short 4); expected = readingP }
+    ∷ record { bytes = field 6 (long 2) ++ field 5 (long 0) ++ field 3 (short 4) ++ field 1 (1 ∷ []) ++ field 7 minusEight ++ field 4 minusEight ++ field 2 (short 4); expected = readingP }
+    -- a high end of its own
+    ∷ record { bytes = seven (1 ∷ []) 4 (long 2) (long 3); expected = upTo (pos 3) }
     -- 13, also where a field that is there has another length
     ∷ record { bytes = []; expected = refused Absent }
     ∷ record { bytes = field 1 (1 ∷ 1 ∷ []) ++ field 2 (short 4); expected = refused Absent }
+    ∷ record { bytes = six (1 ∷ []) 4 (long 2); expected = refused Absent }
     -- 14 for tag 01 comes before 1
     ∷ record { bytes = file [] 4 (long 2); expected = refused Size }
     ∷ record { bytes = file (suc greatestOrder ∷ 0 ∷ []) 4 (long 2); expected = refused Size }
@@ -71,6 +85,11 @@ lines =
     ∷ record { bytes = file (1 ∷ []) 5 (0 ∷ long 1); expected = refused Size }
     ∷ record { bytes = file (1 ∷ []) 5 (0 ∷ 0 ∷ 1 ∷ replicate 5 0); expected = refused Range }
     ∷ record { bytes = file (1 ∷ []) 5 (long 2); expected = refused Crossed }
+    -- 14 and 3 of tag 07, and 16, behind 4
+    ∷ record { bytes = seven (1 ∷ []) 4 (long 2) (short 2); expected = refused Size }
+    ∷ record { bytes = seven (1 ∷ []) 4 (long 2) (replicate 7 0 ++ 1 ∷ []); expected = refused Range }
+    ∷ record { bytes = seven (1 ∷ []) 4 (long 2) (0xf7 ∷ replicate 7 0xff); expected = refused Reversed }
+    ∷ record { bytes = seven (1 ∷ []) 5 (long 2) (0xf7 ∷ replicate 7 0xff); expected = refused Crossed }
     -- 15 comes before 11, from one byte more than the longest file has
     ∷ record { bytes = replicate longest 0; expected = refused Tag }
     ∷ record { bytes = replicate (suc longest) 0; expected = refused Long }
@@ -80,5 +99,5 @@ as-worked-out : map (λ (l : Line). reading (l .bytes)) lines ≡ map (λ (l : L
 unfolding reading readWalked readIn readAs readingOf problemIn fieldChecks allPresent orderIn lengthsOk
     content lengthOf walked walk walkFields walkOn seen startOf unseen placed fieldAt tagged kindOf kindIn
     unsignedAt fromLeBytes signedAt numbersOf paddedNumbersOf
-    all firstRefusal orderOk within allWithin nowhereCrossed same symmetric tablesWithin termsWithin boundsChecks at
+    all firstRefusal orderOk within allWithin nowhereCrossed same symmetric tablesWithin termsWithin boundsChecks endsChecks at
 as-worked-out = refl

@@ -34,9 +34,10 @@ called-for : (n : ℕ) (k : Kind) → getD (lengthsFor n) (placeOf k) 0 ≡ leng
 called-for n Kind.Order = refl
 called-for n Kind.Low = refl
 called-for n Kind.High = refl
-called-for n Kind.Linear = refl
+called-for n Kind.LinearLow = refl
 called-for n Kind.Limit = refl
 called-for n Kind.Centre = refl
+called-for n Kind.LinearHigh = refl
 
 -- each field has the length that n calls for
 pub length-is : (l : Layout) (n : ℕ) → lengthsOk l n ≡ true → (k : Kind) → lengthOf l k ≡ lengthFor n k
@@ -71,7 +72,8 @@ problem-rooms s l h =
       order = h;
       low = length-paddedNumbersOf w32 tableRoom _ _ (table-fits h);
       high = length-paddedNumbersOf w32 tableRoom _ _ (table-fits h);
-      linear = length-paddedNumbersOf w64 greatestOrder _ _ h;
+      linear-low = length-paddedNumbersOf w64 greatestOrder _ _ h;
+      linear-high = length-paddedNumbersOf w64 greatestOrder _ _ h;
       centre = length-paddedNumbersOf w64 greatestOrder _ _ h;
     }
 

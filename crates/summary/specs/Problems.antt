@@ -41,9 +41,10 @@ abbrev pub lengthFor : ℕ → Kind → ℕ
 lengthFor n Kind.Order = 1
 lengthFor n Kind.Low = n * n * bytes w32
 lengthFor n Kind.High = n * n * bytes w32
-lengthFor n Kind.Linear = n * bytes w64
+lengthFor n Kind.LinearLow = n * bytes w64
 lengthFor n Kind.Limit = bytes w64
 lengthFor n Kind.Centre = n * bytes w64
+lengthFor n Kind.LinearHigh = n * bytes w64
 
 abbrev pub lengthsFor : ℕ → List ℕ
 lengthsFor n = map (lengthFor n) kinds
@@ -52,7 +53,7 @@ lengthsFor n = map (lengthFor n) kinds
 unfoldable pub lengthsOk : Layout → ℕ → Bool
 lengthsOk l n = all kindCount (λ k. eqb (getD (l .lengths) k 0) (getD (lengthsFor n) k 0))
 
--- R5.11: 13; 14 of tag 01; 1; 14 of tags 02 to 06
+-- R5.11: 13; 14 of tag 01; 1; 14 of tags 02 to 07
 unfoldable pub fieldChecks : List ℕ → Layout → List Check
 fieldChecks s l =
     record { passes = allPresent l; otherwise = Absent }
@@ -69,7 +70,8 @@ problemIn s l =
     n
     (paddedNumbersOf w32 tableRoom (content s l Kind.Low) (n * n))
     (paddedNumbersOf w32 tableRoom (content s l Kind.High) (n * n))
-    (paddedNumbersOf w64 greatestOrder (content s l Kind.Linear) n)
+    (paddedNumbersOf w64 greatestOrder (content s l Kind.LinearLow) n)
+    (paddedNumbersOf w64 greatestOrder (content s l Kind.LinearHigh) n)
     (signedAt w64 (content s l Kind.Limit) 0)
     (paddedNumbersOf w64 greatestOrder (content s l Kind.Centre) n)
 
@@ -78,14 +80,14 @@ unfoldable pub noProblem : Problem
 noProblem =
     let table = replicate tableRoom (pos 0) in
     let vector = replicate greatestOrder (pos 0) in
-    problemOf 0 table table vector (pos 0) vector
+    problemOf 0 table table vector vector (pos 0) vector
 
 -- the problem where nothing refuses it, else the refusal
 unfoldable pub readAs : Checked → Problem → Reading
 readAs Checked.Passed p = record { checked = Checked.Passed; problem = p }
 readAs (Checked.Refused r) p = record { checked = Checked.Refused r; problem = noProblem }
 
--- R17.5: 3, 4, 5
+-- R17.5: 3, 4, 5, 16
 unfoldable pub readingOf : Problem → Reading
 readingOf p = readAs (firstRefusal (problemChecks p)) p
 
@@ -110,7 +112,8 @@ pub record ProblemRooms (p : Problem) : Type 0 where
   pub order : p .constraint .order ≤ greatestOrder
   pub low : length (p .constraint .low) ≡ tableRoom
   pub high : length (p .constraint .high) ≡ tableRoom
-  pub linear : length (p .constraint .linear) ≡ greatestOrder
+  pub linear-low : length (p .constraint .linear .low) ≡ greatestOrder
+  pub linear-high : length (p .constraint .linear .high) ≡ greatestOrder
   pub centre : length (p .centre) ≡ greatestOrder
 
 -- what the code asks of a layout: the fields lie in the file, and have the sizes that belong to n
@@ -120,7 +123,8 @@ pub record FieldsFit (s : List ℕ) (l : Layout) : Type 0 where
   pub order : orderIn s l ≤ greatestOrder
   pub sizes : lengthsOk l (orderIn s l) ≡ true
 
--- ---- what a reading means: a problem that is handed out has an order, checks 3, 4 and 5 let it through, and its arrays have their sizes
+-- ---- what a reading means: a problem that is handed out has an order, checks 3, 4, 5 and 16 let it through, and its arrays have their
+-- sizes
 pub record LetThrough (p : Problem) : Type 0 where
   pub order : orderOk (pos (p .constraint .order)) ≡ true
   pub checks : firstRefusal (problemChecks p) ≡ Checked.Passed

@@ -24,6 +24,7 @@ use tables::TABLE_ROOM;
 use tables::Table;
 use tables::Vector;
 use tables::problem::Constraint;
+use tables::problem::Linear;
 use tables::problem::Problem;
 
 // A file has at most 4096 bytes (R17.1 of docs/RULES.md).
@@ -39,11 +40,15 @@ pub struct Reading {
 fn no_problem() -> Problem
     ensures { λ r. ⌜ r ≡ noProblem ⌝ }
 {
+    let linear = Linear {
+        low: [0; GREATEST_ORDER],
+        high: [0; GREATEST_ORDER],
+    };
     let constraint = Constraint {
         order: 0,
         low: [0; TABLE_ROOM],
         high: [0; TABLE_ROOM],
-        linear: [0; GREATEST_ORDER],
+        linear,
         limit: 0,
     };
     Problem {
@@ -57,12 +62,12 @@ fn all_present(layout: Layout) -> bool
     ensures { λ r. ⌜ r ≡ allPresent layout ⌝ }
 {
     let starts = layout.starts;
-    let mut k = 0;
-    while k < KINDS {
-        if starts[k] == 0 {
+    let mut place = 0;
+    while place < KINDS {
+        if starts[place] == 0 {
             return false;
         }
-        k += 1;
+        place += 1;
     }
     true
 }
@@ -74,7 +79,7 @@ fn lengths_for(n: usize) -> [usize; KINDS]
 {
     let table = n * n * words::SHORT_SIZE;
     let vector = n * words::SIZE;
-    [1, table, table, vector, words::SIZE, vector]
+    [1, table, table, vector, words::SIZE, vector, vector]
 }
 
 // 14: whether each field has the length that n calls for.
@@ -168,11 +173,15 @@ fn problem_in(file: &[u8], layout: Layout) -> Problem
     ensures { λ r. ⌜ r ≡ problemIn (now (file .entry)) layout ⌝ }
 {
     let n = order_in(file, layout) as usize;
+    let linear = Linear {
+        low: vector_in(file, layout, Kind::LinearLow, n),
+        high: vector_in(file, layout, Kind::LinearHigh, n),
+    };
     let constraint = Constraint {
         order: n,
         low: table_in(file, layout, Kind::Low, n * n),
         high: table_in(file, layout, Kind::High, n * n),
-        linear: vector_in(file, layout, Kind::Linear, n),
+        linear,
         limit: number_in(file, layout, Kind::Limit),
     };
     Problem {
@@ -181,7 +190,7 @@ fn problem_in(file: &[u8], layout: Layout) -> Problem
     }
 }
 
-// 3, 4 and 5.
+// 3, 4, 5 and 16.
 fn check_problem(problem: Problem) -> Checked
     requires { ⌜ ProblemRooms problem ⌝ }
     ensures { λ r. ⌜ r ≡ firstRefusal (problemChecks problem) ⌝ }
@@ -190,10 +199,16 @@ fn check_problem(problem: Problem) -> Checked
     let low = constraint.low;
     let high = constraint.high;
     let linear = constraint.linear;
+    let from = linear.low;
+    let to = linear.high;
     let centre = problem.centre;
     let n = constraint.order;
-    let within = tables::sized_within(n, true, &linear, constraint.limit, &centre);
-    tables::check_bounds(n, within, &low, &high)
+    let within = tables::sized_within(n, true, &from, &to, constraint.limit, &centre);
+    let checked = tables::check_bounds(n, within, &low, &high);
+    match checked {
+        Checked::Passed => tables::check_ends(n, &from, &to),
+        Checked::Refused(r) => Checked::Refused(r),
+    }
 }
 
 // A problem where it passes them, or the first refusal.
@@ -230,7 +245,7 @@ fn read_in(file: &[u8], layout: Layout) -> Reading
 }
 
 // The problem of a summary file, of any bytes at all: 15; then field by field 10, 11, 12; then 13; 14 for tag 01; 1; 14 for the other
-// tags; 3, 4, 5.
+// tags; 3, 4, 5, 16.
 pub fn read(file: &[u8]) -> Reading
     ensures exact { λ r. ⌜ r ≡ reading (now (file .entry)) ⌝ }
     ensures meaning { λ r. ⌜ (r .checked ≡ Passed → LetThrough (r .problem)) ⌝ }

@@ -12,7 +12,6 @@ use Rattle.integers.proofs.Parts.{≤-out}
 use Rattle.tables.specs.Ranges.{greatestOrder, tableRoom, entryRange}
 use Rattle.tables.specs.Matrix.{Matrix, nth, at}
 use Rattle.tables.specs.Checks.{all, within, allWithin, tablesWithin, nowhereCrossed, same, symmetric, boundsChecks, firstRefusal, orderOk, orderOf, entryChecks}
-use Rattle.tables.specs.Answers.{after}
 use Rattle.tables.specs.Entering.{Exact, Blank, Over, Laid, Entered, doorChecks, entered}
 use Rattle.tables.specs.declared.Refusal.{Refusal}
 use Rattle.tables.specs.declared.Refusal.the-variants.{Order}
@@ -20,7 +19,7 @@ use Rattle.tables.specs.declared.Checked.{Checked}
 use Rattle.tables.specs.declared.Checked.the-variants.{Passed, Refused}
 use Rattle.tables.proofs.Matrix.{nth-padded, at-padded, table-fits}
 use Rattle.tables.proofs.Checks.{false-of, first-passes, first-refuses, first-none, first-passed, rest-passed, more-checks, no-more-checks, order-of, passed-bounds, and-left}
-use Rattle.tables.proofs.Answers.{after-refused, after-passed, prefix-passed}
+use Rattle.tables.proofs.Answers.{after-refused, after-passed, after-means, prefix-passed}
 
 -- ---- a list of numbers with zeros behind it
 abbrev pub zeros : ℕ → List ℤ
@@ -64,14 +63,14 @@ over-padded {k} {x} e h q = rw (q, ← e) (laid-zeros tableRoom x (omega (arith,
 pub over-room : {k : ℕ} (x : List ℤ) {t : List ℤ} → length x ≡ k → k ≤ tableRoom → Over k x t → length t ≡ tableRoom
 over-room {k} x e h q = ap length q ∙ rw (length-append, e, length-drop, length-replicate) (omega arith)
 
--- ---- zeros behind the tables change no check
-pub range-padded : (b m : ℕ) {x x′ : List ℤ} → Padded x x′ → allWithin b m x′ ≡ allWithin b m x
+-- ---- checks look at the numbers alone, and zeros behind the tables change none
+pub range-same : (b m : ℕ) (x x′ : List ℤ) → nth x′ ≡ nth x → allWithin b m x′ ≡ allWithin b m x
 unfolding allWithin
-range-padded b m p = ap (λ (f : ℕ → ℤ). all m (λ i. within b (f i))) (padded-nth p)
+range-same b m x x′ p = ap (λ (f : ℕ → ℤ). all m (λ i. within b (f i))) p
 
-crossed-padded : (m : ℕ) {x x′ y y′ : List ℤ} → Padded x x′ → Padded y y′ → nowhereCrossed m x′ y′ ≡ nowhereCrossed m x y
+pub crossed-same : (m : ℕ) (x x′ y y′ : List ℤ) → nth x′ ≡ nth x → nth y′ ≡ nth y → nowhereCrossed m x′ y′ ≡ nowhereCrossed m x y
 unfolding nowhereCrossed
-crossed-padded m p q = ap₂ (λ (f g : ℕ → ℤ). all m (λ i. leZ (f i) (g i))) (padded-nth p) (padded-nth q)
+crossed-same m x x′ y y′ p q = ap₂ (λ (f g : ℕ → ℤ). all m (λ i. leZ (f i) (g i))) p q
 
 symmetric-padded : (n : ℕ) {x x′ : List ℤ} → Padded x x′ → symmetric n x′ ≡ symmetric n x
 unfolding symmetric
@@ -90,7 +89,7 @@ others-passed false n l u e = cc (first-passed _ _ e)
 module _ {l u l′ u′ : List ℤ} (p : Padded l l′) (q : Padded u u′) where
   checks-padded : (others : Bool) (n : ℕ) → boundsChecks others n l′ u′ ≡ boundsChecks others n l u
   unfolding boundsChecks tablesWithin
-  checks-padded others n = rw (range-padded entryRange (n * n) p, range-padded entryRange (n * n) q, crossed-padded (n * n) p q, symmetric-padded n p, symmetric-padded n q)
+  checks-padded others n = rw (range-same entryRange (n * n) l l′ (padded-nth p), range-same entryRange (n * n) u u′ (padded-nth q), crossed-same (n * n) l l′ u u′ (padded-nth p) (padded-nth q), symmetric-padded n p, symmetric-padded n q)
 
 -- what checks 1 and 2 say
 pub entry-passed : (n : ℤ) (sized : Bool) → firstRefusal (entryChecks n sized) ≡ Passed → (orderOk n ≡ true) × (sized ≡ true)
@@ -198,12 +197,8 @@ module _ (n : ℤ) (sized others : Bool) (l u : List ℤ) where
 
     -- what holds of each refusal, and of the act behind the door, holds of the whole
     pub entered-means : (P : A → Type 0) → ((r : Refusal) → P (refused r)) → (Behind n sized others l u → P a) → P (entered refused n sized others l u a)
-    unfolding entered after
-    entered-means P f g = go (firstRefusal (doorChecks n sized others l u)) refl
-      where
-        go : (k : Checked) → firstRefusal (doorChecks n sized others l u) ≡ k → P (after refused k a)
-        go Passed q = g (behind q)
-        go (Refused r) q = f r
+    unfolding entered
+    entered-means P f g = after-means refused (firstRefusal (doorChecks n sized others l u)) a P f (λ q. g (behind q))
 
 -- where the sizes fail, nothing else is asked
 pub entered-sized : (n : ℤ) (sized others : Bool) (l u : List ℤ) {r : Checked} {l′ u′ : List ℤ} → Entered n sized (sized && others) l u r l′ u′ → Entered n sized others l u r l′ u′

@@ -9,7 +9,7 @@ use Rattle.tables.specs.Refusals.{refusalNumber}
 use Rattle.tables.specs.Checks.{Check, firstRefusal}
 use Rattle.tables.specs.Answers.{after, yesOrNo, answerCode}
 use Rattle.tables.specs.declared.Refusal.{Refusal}
-use Rattle.tables.specs.declared.Refusal.the-variants.{Order, Length, Range, Crossed, Lopsided, Factor, Vector, Flat, Far, Cut, Tag, Again, Absent, Size, Long}
+use Rattle.tables.specs.declared.Refusal.the-variants.{Order, Length, Range, Crossed, Lopsided, Factor, Vector, Flat, Far, Cut, Tag, Again, Absent, Size, Long, Reversed}
 use Rattle.tables.specs.declared.Checked.{Checked}
 use Rattle.tables.specs.declared.Checked.the-variants.{Passed, Refused}
 use Rattle.tables.specs.declared.Answer.{Answer}
@@ -33,6 +33,12 @@ module _ {A : Type 0} (refused : Refusal → A) where
   pub after-passed : {k : Checked} (a : A) → k ≡ Passed → a ≡ after refused k a
   unfolding after
   after-passed a e = rw e
+
+  -- what holds of each refusal, and of the answer where the checks pass, holds of the whole
+  pub after-means : (k : Checked) (a : A) (P : A → Type 0) → ((r : Refusal) → P (refused r)) → (k ≡ Passed → P a) → P (after refused k a)
+  unfolding after
+  after-means Passed a P f g = g refl
+  after-means (Refused r) a P f g = f r
 
   -- an answer that is no refusal: the checks passed
   pub after-is : (k : Checked) (a b : A) → ((r : Refusal) → refused r ≡ b → ⊥) → after refused k a ≡ b → (k ≡ Passed) × (a ≡ b)
@@ -73,6 +79,7 @@ refusal-positive Again = omega arith
 refusal-positive Absent = omega arith
 refusal-positive Size = omega arith
 refusal-positive Long = omega arith
+refusal-positive Reversed = omega arith
 
 pub code-yes : (a : Answer) → answerCode a ≡ pos 0 → a ≡ Answer.Yes
 unfolding answerCode

@@ -4,6 +4,7 @@ pub mod Checks
 pub mod CheckedTables
 pub mod Answers
 pub mod Admission
+pub mod Problems
 pub mod Forms
 pub mod Dominance
 pub mod Triangular

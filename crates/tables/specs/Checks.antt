@@ -1,4 +1,4 @@
--- R5 of docs/RULES.md, checks 1 to 5: which refusal a problem gets. A check is completed over all of the input before another begins.
+-- R5 of docs/RULES.md, checks 1 to 5 and 16: which refusal a problem gets. Each is completed over all of the input before the next.
 use mathlib.Core.Bool.{Bool, true, false, _&&_}
 use mathlib.Core.List.{List, [], _∷_}
 use Prim.Native.Nat.{ℕ, zero, suc, _*_}
@@ -8,7 +8,7 @@ use lib.Signed.{leZ}
 use Rattle.tables.specs.Ranges.{greatestOrder, entryRange, linearRange, limitRange, centreRange}
 use Rattle.tables.specs.Matrix.{nth, at}
 use Rattle.tables.specs.declared.Refusal.{Refusal}
-use Rattle.tables.specs.declared.Refusal.the-variants.{Order, Length, Range, Crossed, Lopsided}
+use Rattle.tables.specs.declared.Refusal.the-variants.{Order, Length, Range, Crossed, Lopsided, Reversed}
 use Rattle.tables.specs.declared.Checked.{Checked}
 use Rattle.tables.specs.declared.Checked.the-variants.{Passed, Refused}
 
@@ -46,7 +46,7 @@ within b x = leb (natAbs x) b
 unfoldable pub allWithin : ℕ → ℕ → List ℤ → Bool
 allWithin b m x = all m (λ k. within b (nth x k))
 
--- 4, R4.4: none of the first m numbers of l is above that of u
+-- 4 and 16, R4.4 and R4.16: none of the first m numbers of l is above that of u
 unfoldable pub nowhereCrossed : ℕ → List ℤ → List ℤ → Bool
 nowhereCrossed m l u = all m (λ k. leZ (nth l k) (nth u k))
 
@@ -65,9 +65,10 @@ symmetric n t = all n (rowSymmetric n t)
 unfoldable pub tablesWithin : ℕ → List ℤ → List ℤ → Bool
 tablesWithin m l u = allWithin entryRange m l && allWithin entryRange m u
 
--- linear terms a, limit α and centre c of order n are in their ranges
-unfoldable pub termsWithin : ℕ → List ℤ → ℤ → List ℤ → Bool
-termsWithin n a α c = allWithin linearRange n a && (within limitRange α && allWithin centreRange n c)
+-- linear terms from a to b, limit α and centre c of order n are in their ranges
+unfoldable pub termsWithin : ℕ → List ℤ → List ℤ → ℤ → List ℤ → Bool
+termsWithin n a b α c =
+    allWithin linearRange n a && (allWithin linearRange n b && (within limitRange α && allWithin centreRange n c))
 
 -- ---- the checks, by their numbers
 abbrev pub checkOrder : ℤ → Check
@@ -86,6 +87,9 @@ checkCrossed n l u = record { passes = nowhereCrossed (n * n) l u; otherwise = C
 abbrev pub checkLopsided : ℕ → List ℤ → List ℤ → Check
 checkLopsided n l u = record { passes = symmetric n l && symmetric n u; otherwise = Lopsided }
 
+abbrev pub checkReversed : ℕ → List ℤ → List ℤ → Check
+checkReversed n a b = record { passes = nowhereCrossed n a b; otherwise = Reversed }
+
 -- 1 and 2, in front of every act: `sized` says whether each lent buffer has the size that n calls for
 unfoldable pub entryChecks : ℤ → Bool → List Check
 entryChecks n sized = checkOrder n ∷ checkLength sized ∷ []
@@ -93,6 +97,10 @@ entryChecks n sized = checkOrder n ∷ checkLength sized ∷ []
 -- 3, 4 and 5, of bounds l and u of order n: `others` says whether the act's other numbers are in their ranges
 unfoldable pub boundsChecks : Bool → ℕ → List ℤ → List ℤ → List Check
 boundsChecks others n l u = checkRange (others && tablesWithin (n * n) l u) ∷ checkCrossed n l u ∷ checkLopsided n l u ∷ []
+
+-- 16, of linear terms from a to b
+unfoldable pub endsChecks : ℕ → List ℤ → List ℤ → List Check
+endsChecks n a b = checkReversed n a b ∷ []
 
 -- of bounds alone
 abbrev pub tableChecks : ℕ → List ℤ → List ℤ → List Check

@@ -1,4 +1,4 @@
--- R3 of docs/RULES.md: the members of bounds, positive definiteness, and the margin.
+-- R3 of docs/RULES.md: the members of bounds, linear terms between their ends, positive definiteness, and the margin.
 -- R3.1: fractions are whole numbers over a single denominator, at least 1, and statements have it multiplied away.
 use mathlib.Core.Path.{_≡_}
 use mathlib.Core.Logic.{_≢_}
@@ -14,6 +14,17 @@ pub record Member (n : ℕ) (L U N : Matrix) (q : ℤ) : Type 0 where
   pub symmetric : (i j : ℕ) → i < n → j < n → N i j ≡ N j i
   pub low : (i j : ℕ) → i < n → j < n → (q *ℤ L i j) ≤ℤ N i j
   pub high : (i j : ℕ) → i < n → j < n → N i j ≤ℤ (q *ℤ U i j)
+
+-- R2.4: linear terms are known between two ends
+pub record Ends : Type 0 where
+  pub low : ℕ → ℤ
+  pub high : ℕ → ℤ
+
+-- R3.8: A over s lies between them, where s ≥ 1 and s low ≤ A ≤ s high
+pub record Between (n : ℕ) (e : Ends) (A : ℕ → ℤ) (s : ℤ) : Type 0 where
+  pub whole : pos 1 ≤ℤ s
+  pub low : (k : ℕ) → k < n → (s *ℤ e .low k) ≤ℤ A k
+  pub high : (k : ℕ) → k < n → A k ≤ℤ (s *ℤ e .high k)
 
 -- x is not the zero vector
 pub record Nonzero (n : ℕ) (x : ℕ → ℤ) : Type 0 where

@@ -23,7 +23,7 @@ factorRange = 2 ^ 26
 abbrev pub vectorRange : ℕ
 vectorRange = 2 ^ 15
 
--- R2.4: the linear terms a(i)
+-- R2.4: both ends of the linear terms a(i)
 abbrev pub linearRange : ℕ
 linearRange = 2 ^ 36
 

@@ -3,7 +3,7 @@ use Prim.Native.Nat.{ℕ}
 use Prim.Native.String.{String}
 use Rattle.tables.specs.declared.Refusal.{Refusal}
 use Rattle.tables.specs.declared.Refusal.the-variants.{Order, Length, Range, Crossed, Lopsided, Factor, Vector, Flat}
-use Rattle.tables.specs.declared.Refusal.the-variants.{Far, Cut, Tag, Again, Absent, Size, Long}
+use Rattle.tables.specs.declared.Refusal.the-variants.{Far, Cut, Tag, Again, Absent, Size, Long, Reversed}
 
 -- a line of R4's table; no contract cites the word
 pub record RefusalLine : Type 0 where
@@ -26,6 +26,7 @@ refusalLine Again = record { number = 12; word = "again" }
 refusalLine Absent = record { number = 13; word = "absent" }
 refusalLine Size = record { number = 14; word = "size" }
 refusalLine Long = record { number = 15; word = "long" }
+refusalLine Reversed = record { number = 16; word = "reversed" }
 
 abbrev pub refusalNumber : Refusal → ℕ
 refusalNumber r = refusalLine r .number

@@ -46,7 +46,7 @@ pub fn check_laid(n: usize, within: bool, l: &Table, u: &Table) -> Checked
 
 // Checks 1 to 5 of a call whose bounds stand in l and u, each over the whole input before the next. `sized` says whether all buffers of
 // the call have their sizes, `within` whether its other numbers are in their ranges.
-pub fn check_door(n: i64, sized: bool, within: bool, l: &Table, u: &Table) -> Checked
+fn check_door(n: i64, sized: bool, within: bool, l: &Table, u: &Table) -> Checked
     requires { ⌜ Rooms (now l) (now u) ⌝ }
     ensures { λ r. ⌜ r ≡ firstRefusal (doorChecks n sized within (now (l .entry)) (now (u .entry))) ⌝ }
 {

@@ -1,4 +1,4 @@
-// Bounded symmetric matrices, R2, R4 and R5 of docs/RULES.md: refusals, and the checks 1 to 5 of a problem.
+// Bounded symmetric matrices, R2, R4 and R5 of docs/RULES.md: refusals, and the checks 1 to 5 and 16 of a problem.
 ghost use mathlib.Core.Path.{_≡_};
 ghost use mathlib.Core.Bool.{true, _&&_};
 ghost use mathlib.Core.List.{_++_};
@@ -11,7 +11,7 @@ ghost use Rattle.tables.specs.Ranges.{greatestOrder};
 ghost use Rattle.tables.specs.Refusals.{refusalNumber};
 ghost use Rattle.tables.specs.Answers.{answerCode};
 ghost use Rattle.tables.specs.Checks.{orderOk, sizesOk, within, allWithin, tablesWithin};
-ghost use Rattle.tables.specs.Checks.{termsWithin, nowhereCrossed, rowSymmetric, symmetric, boundsChecks};
+ghost use Rattle.tables.specs.Checks.{termsWithin, nowhereCrossed, rowSymmetric, symmetric, boundsChecks, endsChecks};
 ghost use Rattle.tables.specs.Checks.{firstRefusal};
 ghost use Rattle.tables.specs.Pairs.{pairBounded, rowBounded, tablesBounded};
 
@@ -48,7 +48,7 @@ pub const FACTOR_RANGE: i64 = 1 << 26;
 // Entries of a vector are within ±2^15 (R2.7).
 pub const VECTOR_RANGE: i64 = 1 << 15;
 
-// Linear terms are within ±2^36 (R2.4).
+// Both ends of a linear term are within ±2^36 (R2.4).
 pub const LINEAR_RANGE: i64 = 1 << 36;
 
 // The limit is within ±2^54 (R2.5).
@@ -77,6 +77,7 @@ pub enum Refusal {
     Absent,
     Size,
     Long,
+    Reversed,
 }
 
 // What checks find: nothing to refuse, or the first refusal.
@@ -112,6 +113,7 @@ pub fn refusal_number(r: Refusal) -> u8
         Refusal::Absent => 13,
         Refusal::Size => 14,
         Refusal::Long => 15,
+        Refusal::Reversed => 16,
     }
 }
 
@@ -341,12 +343,26 @@ pub fn check_bounds(n: usize, within: bool, low: &[i64], high: &[i64]) -> Checke
     Checked::Refused(Refusal::Range)
 }
 
-// Whether the linear terms, the limit and the centre are within their ranges.
-fn terms_within(n: usize, linear: &[i64], limit: i64, centre: &[i64]) -> bool
-    requires { ⌜ (n ≤ length (now linear)) × (n ≤ length (now centre)) ⌝ }
-    ensures { λ r. ⌜ r ≡ termsWithin n (now (linear .entry)) limit (now (centre .entry)) ⌝ }
+// Check 16, of the ends of n linear terms.
+pub fn check_ends(n: usize, low: &[i64], high: &[i64]) -> Checked
+    requires { ⌜ (n ≤ length (now low)) × (n ≤ length (now high)) ⌝ }
+    ensures { λ r. ⌜ r ≡ firstRefusal (endsChecks n (now (low .entry)) (now (high .entry))) ⌝ }
 {
-    if !all_within(linear, n, LINEAR_RANGE) {
+    if nowhere_crossed(low, high, n) {
+        return Checked::Passed;
+    }
+    Checked::Refused(Refusal::Reversed)
+}
+
+// Whether the ends of the linear terms, the limit and the centre are within their ranges.
+fn terms_within(n: usize, low: &[i64], high: &[i64], limit: i64, centre: &[i64]) -> bool
+    requires { ⌜ (n ≤ length (now low)) × (n ≤ length (now high)) × (n ≤ length (now centre)) ⌝ }
+    ensures { λ r. ⌜ r ≡ termsWithin n (now (low .entry)) (now (high .entry)) limit (now (centre .entry)) ⌝ }
+{
+    if !all_within(low, n, LINEAR_RANGE) {
+        return false;
+    }
+    if !all_within(high, n, LINEAR_RANGE) {
         return false;
     }
     if !within(limit, LIMIT_RANGE) {
@@ -356,12 +372,19 @@ fn terms_within(n: usize, linear: &[i64], limit: i64, centre: &[i64]) -> bool
 }
 
 // The same, asked only where the buffers have their sizes.
-pub fn sized_within(n: usize, sized: bool, linear: &[i64], limit: i64, centre: &[i64]) -> bool
-    requires { ⌜ (sized ≡ true → (n ≤ length (now linear)) × (n ≤ length (now centre))) ⌝ }
-    ensures { λ r. ⌜ r ≡ (sized && termsWithin n (now (linear .entry)) limit (now (centre .entry))) ⌝ }
+pub fn sized_within(
+    n: usize,
+    sized: bool,
+    low: &[i64],
+    high: &[i64],
+    limit: i64,
+    centre: &[i64],
+) -> bool
+    requires { ⌜ (sized ≡ true → (n ≤ length (now low)) × (n ≤ length (now high)) × (n ≤ length (now centre))) ⌝ }
+    ensures { λ r. ⌜ r ≡ (sized && termsWithin n (now (low .entry)) (now (high .entry)) limit (now (centre .entry))) ⌝ }
 {
     if !sized {
         return false;
     }
-    terms_within(n, linear, limit, centre)
+    terms_within(n, low, high, limit, centre)
 }

@@ -6,6 +6,7 @@ use native.Mathlib.Numerals.{add-one}
 use Rattle.integers.proofs.Machine.{clean-result}
 use Rattle.tables.specs.Ranges.{greatestOrder}
 use Rattle.tables.specs.Matrix.{at, nth}
+use Rattle.tables.specs.Problem.{endsOf}
 use Rattle.centre.specs.Centre.{gradient}
 use Rattle.tables.specs.Buffers.{Filled}
 use Rattle.tables.proofs.Buffers.{filled-none, filled-more}
@@ -13,10 +14,10 @@ use Rattle.centre.proofs.gradients.Statement.{statement}
 use Rattle.centre.proofs.gradients.Tie as tie
 
 abbrev Inv-loop : tie.InvT-loop
-Inv-loop n low high a c g₀ k₀ g k = (k ≤ n) × Filled greatestOrder k (gradient n (at n low) (at n high) (nth a) (nth c)) g
+Inv-loop n low high a b c g₀ k₀ g k = (k ≤ n) × Filled greatestOrder k (gradient n (at n low) (at n high) (endsOf a b) (nth c)) g
 
 abbrev μ-loop : tie.MeasureT-loop
-μ-loop n low high a c g₀ k₀ g k = n - k
+μ-loop n low high a b c g₀ k₀ g k = n - k
 
 loop-again : tie.Need-loop-again Inv-loop μ-loop
 loop-again c =

@@ -8,6 +8,13 @@ use Rattle.tables.proofs.Checks.{call-true, call-false}
 use Rattle.tables.proofs.terms_within.Statement.{statement}
 use Rattle.tables.proofs.terms_within.Tie as tie
 
+-- the low ends passed, and then the high ones
+lows : (c : tie.Else1) → let a = c .before .before .args in allWithin linearRange (a .n) (a .low .now) ≡ true
+lows c = call-true (c .before .all-within .ensures) (c .if1 .left)
+
+highs : (c : tie.Else2) → let a = c .before .before .before .before .args in allWithin linearRange (a .n) (a .high .now) ≡ true
+highs c = call-true (c .before .all-within2 .ensures) (c .if2 .left)
+
 pub terms-within-spec : {M : Type 1} → statement M
 unfolding termsWithin
 terms-within-spec =
@@ -15,19 +22,23 @@ terms-within-spec =
     (tie.spec (λ c κs. (c .pre .0, pos-nonneg linearRange))
     (λ c.
     let a = c .before .before .args in
-    let e : allWithin linearRange (a .n) (a .linear .now) ≡ false = call-false (c .before .all-within .ensures) (c .if1 .taken) in
+    let e : allWithin linearRange (a .n) (a .low .now) ≡ false = call-false (c .before .all-within .ensures) (c .if1 .taken) in
     rw e)
+    (λ c κs. (c .before .before .pre .1, pos-nonneg linearRange))
+    (λ c.
+    let a = c .before .before .before .before .args in
+    let e : allWithin linearRange (a .n) (a .high .now) ≡ false = call-false (c .before .all-within2 .ensures) (c .if2 .taken) in
+    rw (lows (c .before .before), e))
     (λ c κs. pos-nonneg limitRange)
     (λ c.
-    let s = c .before .before .before .before in
-    let a = s .args in
-    let e : allWithin linearRange (a .n) (a .linear .now) ≡ true = call-true (c .before .before .before .all-within .ensures) (c .before .before .if1 .left) in
-    let f : within limitRange (a .limit) ≡ false = rw (clean (s .fits .limit)) at (call-false (c .before .within .ensures) (c .if2 .taken)) in
-    rw (e, f))
-    (λ c κs. (c .before .before .before .before .pre .1, pos-nonneg centreRange))
+    let d = c .before .before in
+    let s = d .before .before .before .before in
+    let f : within limitRange (s .args .limit) ≡ false = rw (clean (s .fits .limit)) at (call-false (c .before .within .ensures) (c .if3 .taken)) in
+    rw (lows (d .before .before), highs d, f))
+    (λ c κs. (c .before .before .before .before .before .before .pre .2, pos-nonneg centreRange))
     (λ c.
-    let s = c .before .before .before .before .before in
-    let a = s .args in
-    let e : allWithin linearRange (a .n) (a .linear .now) ≡ true = call-true (c .before .before .before .before .all-within .ensures) (c .before .before .before .if1 .left) in
-    let f : within limitRange (a .limit) ≡ true = rw (clean (s .fits .limit)) at (call-true (c .before .before .within .ensures) (c .before .if2 .left)) in
-    rw (e, f) (c .all-within2 .ensures)))
+    let e = c .before in
+    let d = e .before .before in
+    let s = d .before .before .before .before in
+    let f : within limitRange (s .args .limit) ≡ true = rw (clean (s .fits .limit)) at (call-true (e .before .within .ensures) (e .if3 .left)) in
+    rw (lows (d .before .before), highs d, f) (c .all-within3 .ensures)))

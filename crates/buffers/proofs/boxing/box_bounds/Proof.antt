@@ -5,6 +5,7 @@ use native.Mathlib.Omega.{arith}
 use borrow.Author.Needs.{needs}
 use Rattle.integers.proofs.Machine.{clean}
 use Rattle.tables.specs.Matrix.{at, nth}
+use Rattle.tables.specs.Problem.{endsOf}
 use Rattle.enclosure.specs.Box.{Box, boxed}
 use Rattle.enclosure.proofs.BoxCases.{given-sides, given-empty, given-refused}
 use Rattle.buffers.proofs.Stores.{vector-stored}
@@ -16,7 +17,7 @@ start c = c .before .before .before
 
 -- the box
 abbrev of : tie.Start → Box
-of s = let a = s .args in boxed (a .n) (at (a .n) (a .low .now)) (at (a .n) (a .high .now)) (nth (a .linear .now)) (a .limit) (nth (a .centre .now))
+of s = let a = s .args in boxed (a .n) (at (a .n) (a .low .now)) (at (a .n) (a .high .now)) (endsOf (a .from .now) (a .to .now)) (a .limit) (nth (a .centre .now))
 
 pub box-bounds-spec : {M : Type 1} → statement M
 box-bounds-spec =

@@ -5,6 +5,8 @@ use lib.IntN.{pos}
 use lib.Signed.{leZ}
 use Rattle.integers.proofs.Machine.{clean, clean-result}
 use Rattle.tables.specs.Matrix.{at}
+use Rattle.tables.specs.Members.{Ends}
+use Rattle.tables.specs.Problem.{endsOf}
 use Rattle.tables.proofs.Checks.{call-true, call-false}
 use Rattle.steps.specs.Steps.{step}
 use Rattle.enclosure.proofs.Readiness.{ready-of}
@@ -28,6 +30,10 @@ passed c = c .before .before .before .before .before .before
 
 abbrev tested : tie.After-near → Bool → Type 0
 tested c b = let a = start c .args in leZ (step (a .n) (at (a .n) (a .low .now)) (at (a .n) (a .high .now))) (pos 0) ≡ b
+
+-- the linear terms
+abbrev ends : tie.Start → Ends
+ends s = endsOf (s .args .from .now) (s .args .to .now)
 
 -- t is above 0
 steep : (c : tie.Else1) → tested (c .before) false
@@ -59,7 +65,7 @@ box-bounds-spec =
     (λ c.
     let k = c .before .before in
     stated-refused _
-    (box-far _ _ _ _ _ _ (steep (c .before)) _ (filled k .gradients .ensures .entries) (call-false (k .near .ensures) (c .if2 .taken))) (start k .pre .2))
+    (box-far _ _ _ (ends (start k)) _ _ (steep (c .before)) _ (filled k .gradients .ensures .entries) (call-false (k .near .ensures) (c .if2 .taken))) (start k .pre .2))
     -- the box
     (λ c κs. (start (c .before .before .before) .pre .0 .tables, refl))
     (λ c κs. let s = start (c .before .before .before .before) in (s .pre .0, rw (clean (s .fits .limit)) (s .pre .1)))
@@ -71,7 +77,7 @@ box-bounds-spec =
     let t = stepped k .step in
     let d = b .before .before .before .at-centre in
     stated-sides
-    (box-near _ _ _ _ _ _ (steep (e .before)) _ (filled k .gradients .ensures .entries) (call-true (k .near .ensures) (e .if2 .left)) _ (b .before .before .before .before .steps-at .ensures .entries))
+    (box-near _ _ _ (ends (start k)) _ _ (steep (e .before)) _ (filled k .gradients .ensures .entries) (call-true (k .near .ensures) (e .if2 .left)) _ (b .before .before .before .before .steps-at .ensures .entries))
     (rw (clean-result d, d .ensures, clean-result t, t .ensures, clean (start k .fits .limit), c .if3 .taken) at (c .before .box-of .ensures)))
     (λ c.
     let b = c .before .before in
@@ -80,5 +86,5 @@ box-bounds-spec =
     let t = stepped k .step in
     let d = b .before .before .before .at-centre in
     stated-empty
-    (box-near _ _ _ _ _ _ (steep (e .before)) _ (filled k .gradients .ensures .entries) (call-true (k .near .ensures) (e .if2 .left)) _ (b .before .before .before .before .steps-at .ensures .entries))
+    (box-near _ _ _ (ends (start k)) _ _ (steep (e .before)) _ (filled k .gradients .ensures .entries) (call-true (k .near .ensures) (e .if2 .left)) _ (b .before .before .before .before .steps-at .ensures .entries))
     (rw (clean-result d, d .ensures, clean-result t, t .ensures, clean (start k .fits .limit), c .if3 .left) at (c .before .box-of .ensures))))

@@ -4,6 +4,7 @@ use native.Mathlib.Omega.{arith}
 use borrow.Author.Needs.{needs}
 use Rattle.integers.proofs.Machine.{clean}
 use Rattle.tables.specs.Matrix.{at, nth}
+use Rattle.tables.specs.Problem.{endsOf}
 use Rattle.tables.proofs.Buffers.{copied-whole}
 use Rattle.enclosure.specs.Box.{Box, boxed}
 use Rattle.enclosure.proofs.BoxCases.{given-sides, given-empty, given-refused}
@@ -12,7 +13,7 @@ use Rattle.enclosure.proofs.enclose.enclose_bounds.Tie as tie
 
 -- the box
 abbrev of : tie.Start → Box
-of s = let a = s .args in boxed (a .n) (at (a .n) (a .low .now)) (at (a .n) (a .high .now)) (nth (a .linear .now)) (a .limit) (nth (a .centre .now))
+of s = let a = s .args in boxed (a .n) (at (a .n) (a .low .now)) (at (a .n) (a .high .now)) (endsOf (a .from .now) (a .to .now)) (a .limit) (nth (a .centre .now))
 
 pub enclose-bounds-spec : {M : Type 1} → statement M
 enclose-bounds-spec =

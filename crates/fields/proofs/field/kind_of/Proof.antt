@@ -15,6 +15,7 @@ kind-of-spec =
     (λ c. rw (c .match .keys4))
     (λ c. rw (c .match .keys5))
     (λ c. rw (c .match .keys6))
+    (λ c. rw (c .match .keys7))
     (λ c.
     let n = c .match .rest in
-    sym (kind-unlisted kinds _ (n .0 .0 .0 .0 .0 .1, (n .0 .0 .0 .0 .1, (n .0 .0 .0 .1, (n .0 .0 .1, (n .0 .1, (n .1, tt)))))))))
+    sym (kind-unlisted kinds _ (n .0 .0 .0 .0 .0 .0 .1, (n .0 .0 .0 .0 .0 .1, (n .0 .0 .0 .0 .1, (n .0 .0 .0 .1, (n .0 .0 .1, (n .0 .1, (n .1, tt))))))))))

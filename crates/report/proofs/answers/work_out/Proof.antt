@@ -11,7 +11,7 @@ use Rattle.report.proofs.answers.work_out.Tie as tie
 
 -- where the box is asked for
 abbrev start : tie.After-struct-told → tie.Start
-start c = c .before .before .before .before .before .before .before .before .before .before .before .before .before .before .before .before
+start c = c .before .before .before .before .before .before .before .before .before .before .before .before .before .before .before .before .before .before .before
 
 -- the limit is a number of 64 bits
 limit-clean : (c : tie.After-struct-told) → let α = start c .args .problem .constraint .limit in toZ w64 (ofZ w64 α) ≡ α
@@ -24,7 +24,8 @@ work-out-spec =
     (tie.spec
     (λ c. search needs)
     (λ c. search needs)
-    (λ c κs. (tables (c .before .before .before .before .before .before .before .before .before .pre), refl, refl))
+    (λ c κs. (tables (c .before .before .before .before .before .before .before .before .before .before .before .pre), refl, refl))
+    (λ c. search needs)
     (λ c. search needs)
     (λ c. search needs)
     (λ c. search needs)
@@ -32,6 +33,6 @@ work-out-spec =
     (λ c κs. let l = start c .pre in (terms l, rw (limit-clean c) (limit l), refl))
     (λ c.
     record {
-      verdict = c .before .before .before .before .before .before .before .decide .ensures;
+      verdict = c .before .before .before .before .before .before .before .before .decide .ensures;
       box = rw (limit-clean (c .before)) at (c .box-bounds .ensures);
     }))

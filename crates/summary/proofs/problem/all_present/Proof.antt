@@ -25,14 +25,14 @@ all-present-spec =
     tie.close (tie.spec Inv-loop μ-loop
     -- the loop begins
     (λ c. (omega arith, all-none _))
-    -- starts[k]
+    -- starts[place]
     (λ c. omega arith)
     (λ c. omega arith)
     -- return false
-    (λ c. sym (all-false _ kindCount (c .before .before .loop .k) (omega arith) (ap (ltb 0) (c .if1 .taken))))
-    -- k + 1, the measure, the invariant again
+    (λ c. sym (all-false _ kindCount (c .before .before .loop .place) (omega arith) (ap (ltb 0) (c .if1 .taken))))
+    -- place + 1, the measure, the invariant again
     (λ c. omega arith)
     (λ c. omega arith)
-    (λ c. let l = c .before .before .loop in (omega arith, all-more _ (l .k) (l .inv .1) (lt-ltb 0 (getD (c .before .before .before .before .args .layout .starts) (l .k) 0) (omega arith))))
+    (λ c. let l = c .before .before .loop in (omega arith, all-more _ (l .place) (l .inv .1) (lt-ltb 0 (getD (c .before .before .before .before .args .layout .starts) (l .place) 0) (omega arith))))
     -- return true
-    (λ c. let e : c .before .loop .k ≡ kindCount = omega arith in sym (rw e at (c .before .loop .inv .1))))
+    (λ c. let e : c .before .loop .place ≡ kindCount = omega arith in sym (rw e at (c .before .loop .inv .1))))

@@ -26,21 +26,24 @@ problem-in-spec =
     tie.close
     (tie.spec (λ c κs. search needs)
     (λ c. search needs)
-    (λ c. omega (arith, table-fits (small c)))
-    (λ c κs. (c .before .before .pre .inside, omega (arith, length c Kind.Low), table-fits (small c)))
-    (λ c. omega (arith, table-fits (small (c .before))))
-    (λ c κs. let d = c .before in (d .before .before .pre .inside, omega (arith, length d Kind.Low, length d Kind.High), table-fits (small d)))
-    (λ c κs. let d = c .before .before in (d .before .before .pre .inside, omega (arith, length d Kind.Linear), small d))
-    (λ c κs. let d = c .before .before .before in (d .before .before .pre .inside, omega (arith, length d Kind.Limit)))
-    (λ c κs. let d = c .before .before .before .before in (d .before .before .pre .inside, omega (arith, length d Kind.Centre), small d))
+    (λ c κs. (c .before .before .pre .inside, omega (arith, length c Kind.LinearLow), small c))
+    (λ c κs. let d = c .before in (d .before .before .pre .inside, omega (arith, length d Kind.LinearHigh), small d))
+    (λ c. omega (arith, table-fits (small (c .before .before))))
+    (λ c κs. let d = c .before .before in (d .before .before .pre .inside, omega (arith, length d Kind.Low), table-fits (small d)))
+    (λ c. omega (arith, table-fits (small (c .before .before .before))))
+    (λ c κs. let d = c .before .before .before in (d .before .before .pre .inside, omega (arith, length d Kind.Low, length d Kind.High), table-fits (small d)))
+    (λ c κs. let d = c .before .before .before .before in (d .before .before .pre .inside, omega (arith, length d Kind.Limit)))
+    (λ c κs. let d = c .before .before .before .before .before in (d .before .before .pre .inside, omega (arith, length d Kind.Centre), small d))
     (λ c.
-    let d = c .before .before .before in
+    let t = c .before .before in
+    let v = t .before .before in
     rw (
       clean-result (c .before .number-in),
-      d .before .table-in .ensures,
-      d .table-in2 .ensures,
-      c .before .before .vector-in .ensures,
+      v .before .vector-in .ensures,
+      v .vector-in2 .ensures,
+      t .before .table-in .ensures,
+      t .table-in2 .ensures,
       c .before .number-in .ensures,
-      c .vector-in2 .ensures,
-      d .before .before .order-in .ensures,
+      c .vector-in3 .ensures,
+      v .before .before .order-in .ensures,
     )))
