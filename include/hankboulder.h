@@ -5,13 +5,13 @@
  * NUMBERS AND TABLES
  *
  * A problem has an order n, from 1 to HB_MAX_ORDER, and two symmetric n by n tables, low and high: the bounds of a symmetric matrix, entry by entry.
- * That of an ellipsoid has n linear terms, a limit and a centre of n entries besides.
+ * That of an ellipsoid has a low and a high end of n linear terms, a limit and a centre of n entries besides.
  *
  * In a buffer each number is HB_NUMBER_BYTES = 8 bytes: signed, two's complement, low byte first, whatever the processor's own byte order is. A table or
  * a factor has n * n numbers, row by row (the entry of row i and column j, counted from 0, starts at byte 8 * (i * n + j)), so it is HB_TABLE_BYTES(n)
- * bytes long. A vector, the linear terms and a centre have n, and are HB_VECTOR_BYTES(n) bytes long. The sides of a box have 2 * n (the low and the high
- * of side 0, those of side 1, and so on), and are HB_SIDES_BYTES(n) bytes long. Where the processor stores the low byte first, an array of int64_t has
- * this form already and is passed as it is:
+ * bytes long. A vector, an end of the linear terms and a centre have n, and are HB_VECTOR_BYTES(n) bytes long. The sides of a box have
+ * 2 * n (the low and the high of side 0, those of side 1, and so on), and are HB_SIDES_BYTES(n) bytes long. Where the processor stores the
+ * low byte first, an array of int64_t has this form already and is passed as it is:
  *
  *     int64_t low[4] = {2, 1, 1, 2};
  *     ... (const uint8_t *)low, sizeof low ...
@@ -23,7 +23,8 @@
  * - Lengths are in bytes. A pointer must point to as many readable bytes as its length says, and writable ones where it is not const. It may be null
  *   where the length is 0: that is an empty buffer, and is refused by HB_REFUSED_LENGTH if n is good.
  * - Pointers need no alignment.
- * - The buffers of one call must not overlap: nothing is promised where they do. There is one exception: low and high may be the same table.
+ * - The buffers of one call must not overlap: nothing is promised where they do. There are two exceptions, both of buffers that are only
+ *   read: low and high may be the same table, and linear_low and linear_high the same buffer.
  * - A const buffer is only read. A buffer that is not const is written whole, or kept as it was: each function says when. A refused call writes
  *   nothing at all. Nothing is ever written outside of a buffer.
  * - No memory is allocated, nothing is kept between calls, no lock is held, and the archive has no variables. So the functions are reentrant: they may be
@@ -50,7 +51,7 @@ extern "C" {
  * pkg-config has it from here.
  */
 #define HB_VERSION_MAJOR 0
-#define HB_VERSION_MINOR 1
+#define HB_VERSION_MINOR 2
 #define HB_VERSION_PATCH 0
 #define HB_VERSION_STRING HB_VERSION_JOINED(HB_VERSION_MAJOR, HB_VERSION_MINOR, HB_VERSION_PATCH)
 #define HB_VERSION_JOINED(major, minor, patch) HB_VERSION_QUOTED(major) "." HB_VERSION_QUOTED(minor) "." HB_VERSION_QUOTED(patch)
@@ -88,9 +89,9 @@ extern "C" {
 #define HB_BOX_STACK 8192
 
 /*
- * What a function returns: an answer, which is 0 or less, or a refusal, which is 1 or more. The checks are made in rising order, each over the whole
- * input before the next, and the number of the first that fails is returned. Each function says which of them it makes. 10 to 15 refuse a summary file,
- * and are returned by no function of this header.
+ * What a function returns: an answer, which is 0 or less, or a refusal, which is 1 or more. The checks are made in the order in which the
+ * function lists its refusals, each over the whole input before the next, and the number of the first that fails is returned. That order is
+ * rising, but 16 stands between 5 and 8. 10 to 15 refuse a summary file, and are returned by no function of this header.
  */
 enum {
     HB_UNDECIDED = -2,
@@ -116,11 +117,12 @@ enum {
     HB_REFUSED_FLAT = 8,     /* "flat": of a box, t, the step that can be taken off the diagonal, is 0 */
     HB_REFUSED_FAR = 9,      /* "far": of a box, some g(k), the gradient bound at the centre, is above 2^20 */
     HB_REFUSED_CUT = 10,     /* "cut": of a file, a field's three bytes of tag and length are not all there, or its content is not */
-    HB_REFUSED_TAG = 11,     /* "tag": of a file, a tag that is not 01 to 06 */
+    HB_REFUSED_TAG = 11,     /* "tag": of a file, a tag that is not 01 to 07 */
     HB_REFUSED_AGAIN = 12,   /* "again": of a file, a tag already seen */
-    HB_REFUSED_ABSENT = 13,  /* "absent": of a file, one of the six tags is missing */
+    HB_REFUSED_ABSENT = 13,  /* "absent": of a file, one of the seven tags is missing */
     HB_REFUSED_SIZE = 14,    /* "size": of a file, a field is longer or shorter than its tag and the order ask for */
-    HB_REFUSED_LONG = 15     /* "long": of a file, more than 4096 bytes */
+    HB_REFUSED_LONG = 15,    /* "long": of a file, more than 4096 bytes */
+    HB_REFUSED_REVERSED = 16 /* "reversed": of a box or a file, a low linear term is above its high one */
 };
 
 /*
@@ -128,10 +130,11 @@ enum {
  *
  *     static const char *const words[] = HB_REFUSAL_WORDS;
  *
- * words[HB_REFUSED_ORDER] is "order", and so on to words[HB_REFUSED_LONG], "long". words[0] is empty.
+ * words[HB_REFUSED_ORDER] is "order", and so on to words[HB_REFUSED_REVERSED], "reversed". words[0] is empty.
  */
 #define HB_REFUSAL_WORDS \
-    {"", "order", "length", "range", "crossed", "lopsided", "factor", "vector", "flat", "far", "cut", "tag", "again", "absent", "size", "long"}
+    {"", "order", "length", "range", "crossed", "lopsided", "factor", "vector", "flat", "far", "cut", "tag", "again", "absent", "size", \
+     "long", "reversed"}
 
 /*
  * hb_judge: is every matrix between the bounds positive definite?
@@ -240,47 +243,56 @@ int64_t hb_test_vector(int64_t n, const uint8_t *low, size_t low_len, const uint
  *
  *   n                        the order, 1 to 8
  *   low, high                the bounds: HB_TABLE_BYTES(n) bytes each, entries within +-2^20, symmetric, no entry of low above its entry of high
- *   linear                   the linear terms a: HB_VECTOR_BYTES(n) bytes, each within +-2^36
+ *   linear_low, linear_high  the ends of the linear terms a: HB_VECTOR_BYTES(n) bytes each, terms within +-2^36, none of linear_low above
+ *                            its term of linear_high
  *   limit                    the limit, a number within +-2^54
  *   centre                   the centre c, where the box is to have its middle: HB_VECTOR_BYTES(n) bytes, entries within +-2^12
  *   sides                    HB_SIDES_BYTES(n) bytes, written where the answer is HB_BOX and kept as they were where it is any other
- *   low_len, high_len,       the lengths of the five buffers, in bytes. sides has its full size in every call
- *   linear_len, centre_len,
- *   sides_len
+ *   low_len, high_len,       the lengths of the six buffers, in bytes. sides has its full size in every call
+ *   linear_low_len,
+ *   linear_high_len,
+ *   centre_len, sides_len
  *
- * The ellipsoid is every x, of n fractions, for which some symmetric matrix M from low to high has x'Mx + 2a'x <= limit. The centre need not be in
- * it: the box holds the ellipsoid from any centre that is not refused. One near its middle, so where Mc + a is near 0, gives a small box.
+ * The ellipsoid is every x, of n fractions, for which some symmetric matrix M from low to high and some a, of n fractions, from linear_low
+ * to linear_high have x'Mx + 2a'x <= limit. Where the linear terms are known exactly both ends are equal, and may be the same buffer. The
+ * centre need not be in the ellipsoid: the box holds all of it from any centre that is not refused. One near its middle, so where Mc + a is
+ * near 0, gives a small box.
  *
- * A whole number t is looked for, bit by bit, that can be taken off every diagonal entry of low and high so that what is left can still be factored,
- * and for each k a t(k) that can be taken off entry (k,k) alone. g(k) is the greatest magnitude of Mc + a in row k, over all M from low to high. From
- * these half of the width of each side is worked out, every quotient and root rounded up, and side k has c(k) in its middle. The same input has the
- * same answer always.
+ * A whole number t is looked for, bit by bit, that can be taken off every diagonal entry of low and high so that what is left can still be
+ * factored, and for each k a t(k) that can be taken off entry (k,k) alone. g(k) is the greatest magnitude of Mc + a in row k, over all M
+ * from low to high and all a from linear_low to linear_high. From these half of the width of each side is worked out, every quotient and
+ * root rounded up, and side k has c(k) in its middle. The same input has the same answer always.
  *
  * Returns
  *
  *   HB_BOX               every x of the ellipsoid is in the box: for each k, counted from 0, x(k) is at least the low and at most the high of
  *                        side k. Smaller boxes may hold it too, and the ellipsoid may be empty all the same
- *   HB_EMPTY             the ellipsoid is empty: x'Mx + 2a'x > limit for every x and every M from low to high. Nothing is written
+ *   HB_EMPTY             the ellipsoid is empty: x'Mx + 2a'x > limit for every x, every M from low to high and every a from linear_low to
+ *                        linear_high. Nothing is written
  *   HB_REFUSED_ORDER     n is not 1 to 8; no length is looked at
- *   HB_REFUSED_LENGTH    a length is not HB_TABLE_BYTES(n) for low and high, HB_VECTOR_BYTES(n) for linear and centre, HB_SIDES_BYTES(n) for sides; too
- *                        long is refused like too short
- *   HB_REFUSED_RANGE     an entry of low or high is beyond +-2^20, a linear term beyond +-2^36, the limit beyond +-2^54, or an entry of the centre
- *                        beyond +-2^12
+ *   HB_REFUSED_LENGTH    a length is not HB_TABLE_BYTES(n) for low and high, HB_VECTOR_BYTES(n) for linear_low, linear_high and centre,
+ *                        HB_SIDES_BYTES(n) for sides; too long is refused like too short
+ *   HB_REFUSED_RANGE     an entry of low or high is beyond +-2^20, a term of linear_low or linear_high beyond +-2^36, the limit beyond
+ *                        +-2^54, or an entry of the centre beyond +-2^12
  *   HB_REFUSED_CROSSED   an entry of low is above its entry of high
  *   HB_REFUSED_LOPSIDED  low or high is not symmetric
- *   HB_REFUSED_FLAT      t is 0: with 1 taken off the diagonal factoring does not end. Not every matrix from low to high is positive definite, or by too
- *                        little, or the bounds are too far apart to show it. linear, limit and centre play no part in it
- *   HB_REFUSED_FAR       some g(k) is above 2^20: the centre is too far from the ellipsoid's middle, or the bounds are too far apart. Another centre
- *                        may do
+ *   HB_REFUSED_REVERSED  a term of linear_low is above its term of linear_high
+ *   HB_REFUSED_FLAT      t is 0: with 1 taken off the diagonal factoring does not end. Not every matrix from low to high is positive
+ *                        definite, or by too little, or the bounds are too far apart to show it. Linear terms, limit and centre play no
+ *                        part in it
+ *   HB_REFUSED_FAR       some g(k) is above 2^20: the centre is too far from the ellipsoid's middle, or the bounds, or the ends of the
+ *                        linear terms, are too far apart. Another centre may do
  *
  * and nothing else. Every refusal comes before 'empty'. What sides holds before the call plays no part.
  *
- * Buffers: at any address; none overlaps another, but low and high may be the same table. Nothing is allocated. Reentrant.
+ * Buffers: at any address; none overlaps another, but low and high may be the same table, and linear_low and linear_high the same buffer.
+ * Nothing is allocated. Reentrant.
  * Stack: HB_BOX_STACK bytes.
  * Time: up to 20 factorings for t and, for each t(k) but the last, up to 20 of the rows from k on.
  */
-int64_t hb_box(int64_t n, const uint8_t *low, size_t low_len, const uint8_t *high, size_t high_len, const uint8_t *linear, size_t linear_len,
-               int64_t limit, const uint8_t *centre, size_t centre_len, uint8_t *sides, size_t sides_len);
+int64_t hb_box(int64_t n, const uint8_t *low, size_t low_len, const uint8_t *high, size_t high_len, const uint8_t *linear_low,
+               size_t linear_low_len, const uint8_t *linear_high, size_t linear_high_len, int64_t limit, const uint8_t *centre,
+               size_t centre_len, uint8_t *sides, size_t sides_len);
 
 #ifdef __cplusplus
 }

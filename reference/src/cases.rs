@@ -1,4 +1,4 @@
-//! The worked cases W1 to W23, and cases for the mistakes that docs/RULES.md
+//! The worked cases W1 to W29, and cases for the mistakes that docs/RULES.md
 //! remarks on. Expected answers are literals.
 
 use std::fmt;
@@ -44,13 +44,15 @@ impl fmt::Display for Case {
     }
 }
 
-/// Every case: W1 to W20, W21 (case P), then those for the mistakes.
+/// Every case: W1 to W20, W21 (case P), W24 to W29, then those for the mistakes,
+/// W22 and W23 among them.
 pub fn listed_cases() -> Vec<Case> {
     [
         judged_matrices(),
         judged_boxes(),
         judged_refusals(),
         vec![case_p()],
+        two_ends(),
         wrong_turns(),
     ]
     .concat()
@@ -98,10 +100,27 @@ fn case_p() -> Case {
     let file = bytes(
         "01 0100 01, 02 0400 04000000, 03 0400 04000000, \
          04 0800 F8FFFFFFFFFFFFFF, 05 0800 0000000000000000, \
-         06 0800 0200000000000000",
+         06 0800 0200000000000000, 07 0800 F8FFFFFFFFFFFFFF",
     );
     let expected = "definite; row 129007; side -1 5";
     Case::new("case P", expected, output(&file))
+}
+
+/// Boxes whose linear terms have unequal ends.
+fn two_ends() -> Vec<Case> {
+    let lopsided = enclosed("[1 2; 3 4]", (&[1, 0], &[0, 0]), 0, &[0, 0]);
+    vec![
+        ends((-4, 4), 0, 0, "side -4 4"),
+        ends((-8, -4), 0, 2, "side -3 7"),
+        ends((-1, 1), -3, 0, "empty"),
+        ends((1, 0), 0, 0, "refused 16"),
+        Case::new(
+            "box, M = [1], a from 1 to 0, α = 0, c = 0",
+            "refused 16",
+            enclosed("[1]", (&[1], &[0]), 0, &[0]),
+        ),
+        Case::new("box, lopsided, a reversed", "refused 5", lopsided),
+    ]
 }
 
 fn wrong_turns() -> Vec<Case> {
@@ -163,12 +182,25 @@ fn stop(matrix: &str, expected: &str) -> Case {
     Case::new(&format!("stop of {matrix}"), expected, answer(got))
 }
 
-/// A box of order 1 with centre 0.
+/// A box of order 1 with equal ends and centre 0.
 fn boxed(matrix: &str, linear: i64, limit: i64, expected: &str) -> Case {
-    let m = numbers(matrix);
-    let problem = Problem::read(1, &m, &m, &[linear], limit, &[0]);
     let subject = format!("box, M = {matrix}, a = {linear}, α = {limit}, c = 0");
-    Case::new(&subject, expected, answer(problem.map(|p| box_lines(&p))))
+    let got = enclosed(matrix, (&[linear], &[linear]), limit, &[0]);
+    Case::new(&subject, expected, got)
+}
+
+/// The box of [4] with linear terms between two ends.
+fn ends((least, most): (i64, i64), limit: i64, centre: i64, expected: &str) -> Case {
+    let subject = format!("box, M = [4], a from {least} to {most}, α = {limit}, c = {centre}");
+    let got = enclosed("[4]", (&[least], &[most]), limit, &[centre]);
+    Case::new(&subject, expected, got)
+}
+
+/// The lines of a thin box, or its refusal by 3, 4, 5 or 16.
+fn enclosed(matrix: &str, linear: (&[i64], &[i64]), limit: i64, centre: &[i64]) -> String {
+    let m = numbers(matrix);
+    let problem = Problem::read(centre.len(), &m, &m, linear.0, linear.1, limit, centre);
+    answer(problem.map(|p| box_lines(&p)))
 }
 
 fn order(n: i64, expected: &str) -> Case {

@@ -64,10 +64,10 @@ pub fn single_steps(bounds: &Bounds) -> Vec<i128> {
         .collect()
 }
 
-/// R13.1: g(k), from the least and the greatest entry k of Mc + a, where the
-/// entries of M in that row are chosen independently.
+/// R13.1: g(k), from the least and the greatest entry k of Mc + a, where a(k)
+/// and the entries of M in that row are chosen independently.
 pub fn gradient_bound(problem: &Problem, k: usize) -> i128 {
-    let (mut least, mut greatest) = (problem.linear[k], problem.linear[k]);
+    let (mut least, mut greatest) = (problem.linear_low[k], problem.linear_high[k]);
     for (j, c) in problem.centre.iter().enumerate() {
         let from_low = problem.bounds.low[k][j] * c;
         let from_high = problem.bounds.high[k][j] * c;
@@ -79,9 +79,14 @@ pub fn gradient_bound(problem: &Problem, k: usize) -> i128 {
 
 /// R13.2: D.
 pub fn limit_at_centre(problem: &Problem) -> i128 {
-    problem.limit
-        - 2 * inner_product(&problem.linear, &problem.centre)
-        - least_value(&problem.bounds, &problem.centre)
+    problem.limit - least_linear(problem) - least_value(&problem.bounds, &problem.centre)
+}
+
+/// R13.2: the least of 2a'c, term by term.
+fn least_linear(problem: &Problem) -> i128 {
+    let ends = problem.linear_low.iter().zip(&problem.linear_high);
+    let terms = ends.zip(&problem.centre);
+    terms.map(|((l, h), c)| (2 * l * c).min(2 * h * c)).sum()
 }
 
 fn inner_product(x: &[i128], y: &[i128]) -> i128 {
@@ -135,13 +140,15 @@ fn sides(problem: &Problem, t: i128, g: &[i128]) -> Enclosure {
     Enclosure::Sides(steps.into_iter().enumerate().map(side).collect())
 }
 
-/// The box: checks 1 to 5, 8, 9, then the answer (R5.5, R14). Only a box that is
-/// given is written.
+/// The box: checks 1 to 5, 16, 8, 9, then the answer (R5.5, R14). Only a box that
+/// is given is written.
+#[allow(clippy::too_many_arguments)]
 pub fn enclose(
     n: i64,
     low: &[i64],
     high: &[i64],
-    linear: &[i64],
+    linear_low: &[i64],
+    linear_high: &[i64],
     limit: i64,
     centre: &[i64],
     sides: &mut [i64],
@@ -151,11 +158,12 @@ pub fn enclose(
     check_lengths(&[
         (low.len(), table),
         (high.len(), table),
-        (linear.len(), order),
+        (linear_low.len(), order),
+        (linear_high.len(), order),
         (centre.len(), order),
         (sides.len(), sides_size(order)),
     ])?;
-    let problem = Problem::read(order, low, high, linear, limit, centre)?;
+    let problem = Problem::read(order, low, high, linear_low, linear_high, limit, centre)?;
     let answer = enclosure(&problem)?;
     if let Enclosure::Sides(list) = &answer {
         // R14.4

@@ -19,7 +19,7 @@ pub const UNDECIDED: i64 = -2;
 
 /// R15.3: how many numbers belong to an order.
 type Count = fn(usize) -> usize;
-/// The numbers of a, c or a vector.
+/// The numbers of an end of a, of c or of a vector.
 const LIST: Count = |order| order;
 
 /// Checks 1 and 2 over bytes, then the numbers of each buffer.
@@ -114,24 +114,29 @@ pub fn judged(
 }
 
 /// The box.
+#[allow(clippy::too_many_arguments)]
 pub fn enclose(
     n: i64,
     low: &[u8],
     high: &[u8],
-    linear: &[u8],
+    linear_low: &[u8],
+    linear_high: &[u8],
     limit: i64,
     centre: &[u8],
     sides: &mut [u8],
 ) -> i64 {
-    enclosure_code(&enclosed(n, low, high, linear, limit, centre, sides))
+    let answer = enclosed(n, low, high, linear_low, linear_high, limit, centre, sides);
+    enclosure_code(&answer)
 }
 
 /// The box, with all that its return value leaves out.
+#[allow(clippy::too_many_arguments)]
 pub fn enclosed(
     n: i64,
     low: &[u8],
     high: &[u8],
-    linear: &[u8],
+    linear_low: &[u8],
+    linear_high: &[u8],
     limit: i64,
     centre: &[u8],
     sides: &mut [u8],
@@ -139,12 +144,13 @@ pub fn enclosed(
     let buffers = [
         (low, table_size as Count),
         (high, table_size),
-        (linear, LIST),
+        (linear_low, LIST),
+        (linear_high, LIST),
         (centre, LIST),
         (&*sides, sides_size),
     ];
-    let [low, high, linear, centre, mut pairs] = read(n, buffers)?;
-    let answer = enclosure::enclose(n, &low, &high, &linear, limit, &centre, &mut pairs)?;
+    let [low, high, least, most, centre, mut pairs] = read(n, buffers)?;
+    let answer = enclosure::enclose(n, &low, &high, &least, &most, limit, &centre, &mut pairs)?;
     write(&pairs, sides);
     Ok(answer)
 }

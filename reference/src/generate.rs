@@ -4,10 +4,12 @@
 mod calls;
 mod files;
 pub mod numbers;
+mod points;
 mod problems;
 
 pub use calls::{BoxCall, FactorCall, JudgeCall, VectorCall};
 pub use files::DrawnFile;
+pub use points::{Fractions, Point};
 
 use crate::problem::Bounds;
 use crate::random::Random;
@@ -45,8 +47,10 @@ pub struct RawProblem {
     pub low: Vec<i64>,
     /// U, row by row
     pub high: Vec<i64>,
-    /// a
-    pub linear: Vec<i64>,
+    /// a_low
+    pub linear_low: Vec<i64>,
+    /// a_high
+    pub linear_high: Vec<i64>,
     /// α
     pub limit: i64,
     /// c
@@ -74,8 +78,8 @@ impl Generator {
         }
     }
 
-    /// A problem of any kind and order, thin or wide, that checks 1 to 5 let
-    /// through.
+    /// A problem of any kind and order, thin or wide, that checks 1 to 5 and 16
+    /// let through.
     pub fn any_problem(&mut self) -> RawProblem {
         let kind = self.random.pick(&KINDS);
         let order = self.random.between(1, 8) as usize;

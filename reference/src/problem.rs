@@ -1,4 +1,4 @@
-//! A problem and checks 1 to 5: R2, R4.1 to R4.5 and R5.
+//! A problem, checks 1 to 5 and 16: R2, R4.1 to R4.5, R4.16 and R5.
 
 use crate::refusal::{require, Refusal};
 
@@ -33,13 +33,16 @@ pub struct Bounds {
     pub high: Table,
 }
 
-/// The interval bounds with the linear terms, the limit and the centre.
+/// The interval bounds with both ends of the linear terms, the limit and the
+/// centre.
 #[derive(Clone, Debug, PartialEq, Eq)]
 pub struct Problem {
     /// L and U
     pub bounds: Bounds,
-    /// a
-    pub linear: Vec<i128>,
+    /// a_low
+    pub linear_low: Vec<i128>,
+    /// a_high
+    pub linear_high: Vec<i128>,
     /// α
     pub limit: i128,
     /// c
@@ -73,26 +76,31 @@ impl Bounds {
 }
 
 impl Problem {
-    /// Checks 3, 4 and 5 of an act or file that gives a whole problem. The
+    /// Checks 3, 4, 5 and 16 of an act or file that gives a whole problem. The
     /// slices have passed check 2 or 14.
     pub fn read(
         order: usize,
         low: &[i64],
         high: &[i64],
-        linear: &[i64],
+        linear_low: &[i64],
+        linear_high: &[i64],
         limit: i64,
         centre: &[i64],
     ) -> Result<Problem, Refusal> {
         check_ranges(&[
             (low, ENTRY_RANGE),
             (high, ENTRY_RANGE),
-            (linear, LINEAR_RANGE),
+            (linear_low, LINEAR_RANGE),
+            (linear_high, LINEAR_RANGE),
             (&[limit], LIMIT_RANGE),
             (centre, CENTRE_RANGE),
         ])?;
+        let bounds = Bounds::after_range_check(order, low, high)?;
+        check_ends(linear_low, linear_high)?;
         Ok(Problem {
-            bounds: Bounds::after_range_check(order, low, high)?,
-            linear: widen(linear),
+            bounds,
+            linear_low: widen(linear_low),
+            linear_high: widen(linear_high),
             limit: i128::from(limit),
             centre: widen(centre),
         })
@@ -117,6 +125,12 @@ fn check_ranges(lists: &[(&[i64], i128)]) -> Result<(), Refusal> {
         .iter()
         .all(|(list, range)| widen(list).iter().all(|entry| entry.abs() <= *range));
     require(all, Refusal::Range)
+}
+
+/// Check 16: no linear term's low end is above its high end (R4.16).
+fn check_ends(linear_low: &[i64], linear_high: &[i64]) -> Result<(), Refusal> {
+    let reversed = linear_low.iter().zip(linear_high).any(|(l, h)| l > h);
+    require(!reversed, Refusal::Reversed)
 }
 
 /// R15.3: the numbers of a table or factor.

@@ -1,4 +1,4 @@
-//! The fifteen refusals: R4. Refusal k is rule R4.k.
+//! The sixteen refusals: R4. Refusal k is rule R4.k.
 
 /// Why a call or a file is refused.
 #[derive(Clone, Copy, Debug, PartialEq, Eq)]
@@ -33,10 +33,12 @@ pub enum Refusal {
     Size,
     /// 15, file: 4097 bytes or more
     Long,
+    /// 16: a linear term's low end above its high end
+    Reversed,
 }
 
 /// Each refusal with its number and its word.
-pub const REFUSALS: [(Refusal, i64, &str); 15] = [
+pub const REFUSALS: [(Refusal, i64, &str); 16] = [
     (Refusal::Order, 1, "order"),
     (Refusal::Length, 2, "length"),
     (Refusal::Range, 3, "range"),
@@ -52,6 +54,7 @@ pub const REFUSALS: [(Refusal, i64, &str); 15] = [
     (Refusal::Absent, 13, "absent"),
     (Refusal::Size, 14, "size"),
     (Refusal::Long, 15, "long"),
+    (Refusal::Reversed, 16, "reversed"),
 ];
 
 impl Refusal {

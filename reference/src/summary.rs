@@ -14,12 +14,14 @@ pub const TAG_ORDER: u8 = 1;
 pub const TAG_LOW: u8 = 2;
 /// R16.2: U
 pub const TAG_HIGH: u8 = 3;
-/// R16.2: a
-pub const TAG_LINEAR: u8 = 4;
+/// R16.2: a_low
+pub const TAG_LINEAR_LOW: u8 = 4;
 /// R16.2: α
 pub const TAG_LIMIT: u8 = 5;
 /// R16.2: c
 pub const TAG_CENTRE: u8 = 6;
+/// R16.2: a_high
+pub const TAG_LINEAR_HIGH: u8 = 7;
 
 /// R16.2: bytes of a number of L and U.
 pub const TABLE_WIDTH: usize = 4;
@@ -42,7 +44,8 @@ pub fn fields(file: &[u8]) -> Result<Vec<Field<'_>>, Refusal> {
     let mut rest = file;
     while !rest.is_empty() {
         let (field, after) = split_field(rest)?;
-        require((TAG_ORDER..=TAG_CENTRE).contains(&field.tag), Refusal::Tag)?;
+        let known = (TAG_ORDER..=TAG_LINEAR_HIGH).contains(&field.tag);
+        require(known, Refusal::Tag)?;
         let seen = found.iter().any(|earlier| earlier.tag == field.tag);
         require(!seen, Refusal::Again)?;
         found.push(field);
@@ -76,9 +79,10 @@ pub fn read_problem(file: &[u8]) -> Result<Problem, Refusal> {
     let order_content = content(TAG_ORDER)?;
     let low = content(TAG_LOW)?;
     let high = content(TAG_HIGH)?;
-    let linear = content(TAG_LINEAR)?;
+    let linear_low = content(TAG_LINEAR_LOW)?;
     let limit = content(TAG_LIMIT)?;
     let centre = content(TAG_CENTRE)?;
+    let linear_high = content(TAG_LINEAR_HIGH)?;
     // R17.3
     check_sizes(&[(order_content, 1)])?;
     let order = check_order(i64::from(order_content[0]))?;
@@ -88,16 +92,18 @@ pub fn read_problem(file: &[u8]) -> Result<Problem, Refusal> {
     check_sizes(&[
         (low, table),
         (high, table),
-        (linear, list),
+        (linear_low, list),
         (limit, NUMBER_WIDTH),
         (centre, list),
+        (linear_high, list),
     ])?;
     // R17.5
     Problem::read(
         order,
         &decode(low, TABLE_WIDTH),
         &decode(high, TABLE_WIDTH),
-        &decode(linear, NUMBER_WIDTH),
+        &decode(linear_low, NUMBER_WIDTH),
+        &decode(linear_high, NUMBER_WIDTH),
         decode(limit, NUMBER_WIDTH)[0],
         &decode(centre, NUMBER_WIDTH),
     )
@@ -132,12 +138,13 @@ pub fn encode(numbers: &[i64], width: usize) -> Vec<u8> {
     numbers.iter().flat_map(bytes).collect()
 }
 
-/// The six fields of a problem given as plain numbers, in rising order of tag.
+/// The seven fields of a problem given as plain numbers, in rising order of tag.
 pub fn problem_fields(
     n: u8,
     low: &[i64],
     high: &[i64],
-    linear: &[i64],
+    linear_low: &[i64],
+    linear_high: &[i64],
     limit: i64,
     centre: &[i64],
 ) -> Vec<(u8, Vec<u8>)> {
@@ -145,9 +152,10 @@ pub fn problem_fields(
         (TAG_ORDER, vec![n]),
         (TAG_LOW, encode(low, TABLE_WIDTH)),
         (TAG_HIGH, encode(high, TABLE_WIDTH)),
-        (TAG_LINEAR, encode(linear, NUMBER_WIDTH)),
+        (TAG_LINEAR_LOW, encode(linear_low, NUMBER_WIDTH)),
         (TAG_LIMIT, encode(&[limit], NUMBER_WIDTH)),
         (TAG_CENTRE, encode(centre, NUMBER_WIDTH)),
+        (TAG_LINEAR_HIGH, encode(linear_high, NUMBER_WIDTH)),
     ]
 }
 

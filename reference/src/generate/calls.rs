@@ -49,7 +49,8 @@ pub struct BoxCall {
     pub n: i64,
     pub low: Vec<u8>,
     pub high: Vec<u8>,
-    pub linear: Vec<u8>,
+    pub linear_low: Vec<u8>,
+    pub linear_high: Vec<u8>,
     pub limit: i64,
     pub centre: Vec<u8>,
     pub sides: Vec<u8>,
@@ -141,7 +142,8 @@ impl Generator {
             n: problem.order as i64,
             low: bytes(&problem.low),
             high: bytes(&problem.high),
-            linear: bytes(&problem.linear),
+            linear_low: bytes(&problem.linear_low),
+            linear_high: bytes(&problem.linear_high),
             limit: problem.limit,
             centre: bytes(&problem.centre),
             sides: self.buffer(sides_size(problem.order)),
@@ -149,7 +151,8 @@ impl Generator {
         let buffers = &mut [
             &mut call.low,
             &mut call.high,
-            &mut call.linear,
+            &mut call.linear_low,
+            &mut call.linear_high,
             &mut call.centre,
             &mut call.sides,
         ];
@@ -211,11 +214,20 @@ impl Generator {
     }
 
     /// Now and then a linear term, limit or centre entry that check 3 refuses,
-    /// or one at the end of its range.
+    /// or one at the end of its range, or a linear term that check 16 refuses.
     pub(super) fn damage_terms(&mut self, problem: &mut RawProblem) {
         let k = self.random.index(problem.order);
         if self.random.one_in(4 * FAULT_SHARE) {
-            problem.linear[k] = self.beyond(LINEAR_RANGE);
+            let end = self.beyond(LINEAR_RANGE);
+            match self.random.index(3) {
+                0 => problem.linear_low[k] = end,
+                1 => problem.linear_high[k] = end,
+                _ => (problem.linear_low[k], problem.linear_high[k]) = (end, end),
+            }
+        }
+        if self.random.one_in(2 * FAULT_SHARE) {
+            let step = self.random.pick(&[1, 1000, 2 * LINEAR_RANGE as i64]);
+            problem.linear_low[k] = problem.linear_high[k].saturating_add(step);
         }
         if self.random.one_in(4 * FAULT_SHARE) {
             problem.limit = self.beyond(LIMIT_RANGE);

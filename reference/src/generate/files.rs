@@ -50,7 +50,7 @@ impl Generator {
         let place = self.random.index(fields.len());
         let other = self.random.index(fields.len());
         match self.random.index(8) {
-            0 => fields[place].0 = self.random.pick(&[0, 7, 8, 0x10, 0x81, 0xFF]),
+            0 => fields[place].0 = self.random.pick(&[0, 8, 9, 0x10, 0x81, 0xFF]),
             1 => fields[place].0 = fields[other].0,
             2 => fields.insert(place, fields[other].clone()),
             3 => drop(fields.remove(place)),
@@ -106,7 +106,8 @@ fn file_fields(problem: &RawProblem) -> Vec<Field> {
         problem.order as u8,
         &four_bytes(&problem.low),
         &four_bytes(&problem.high),
-        &problem.linear,
+        &problem.linear_low,
+        &problem.linear_high,
         problem.limit,
         &problem.centre,
     )

@@ -1,4 +1,4 @@
-//! Problems that checks 1 to 5 let through.
+//! Problems that checks 1 to 5 and 16 let through.
 
 use super::{Generator, ProblemKind, RawProblem};
 use crate::enclosure::greatest_step;
@@ -57,12 +57,14 @@ impl Generator {
     fn with_terms(&mut self, order: usize, low: Vec<i64>, high: Vec<i64>) -> RawProblem {
         let centre = self.centre(order);
         let linear = self.linear(order, &low, &centre);
+        let (linear_low, linear_high) = self.linear_ends(&linear);
         let limit = self.limit(order, &low, &linear, &centre);
         RawProblem {
             order,
             low,
             high,
-            linear,
+            linear_low,
+            linear_high,
             limit,
             centre,
         }
@@ -192,6 +194,21 @@ impl Generator {
             linear.push((base + offset).clamp(-LINEAR, LINEAR));
         }
         linear
+    }
+
+    /// The two ends of linear terms: equal in half of all problems, otherwise up
+    /// to a width to either side.
+    fn linear_ends(&mut self, linear: &[i64]) -> (Vec<i64>, Vec<i64>) {
+        let width = self
+            .random
+            .pick(&[1, 5, 1000, 1 << 16, 1 << 20, 2 * LINEAR]);
+        let width = if self.random.one_in(2) { 0 } else { width };
+        let mut end = |sign: i64| -> Vec<i64> {
+            let moved = |term: &i64| term + sign * self.random.between(0, width);
+            let terms = linear.iter().map(moved);
+            terms.map(|term| term.clamp(-LINEAR, LINEAR)).collect()
+        };
+        (end(-1), end(1))
     }
 
     /// A limit near 2a'c + c'Lc, where D is near 0, or anywhere.

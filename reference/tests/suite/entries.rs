@@ -48,7 +48,7 @@ fn numbers_are_signed_with_the_low_byte_first() {
     let m = [4, 0, 0, 0, 0, 0, 0, 0];
     let a = [0xF8, 0xFF, 0xFF, 0xFF, 0xFF, 0xFF, 0xFF, 0xFF];
     let c = [2, 0, 0, 0, 0, 0, 0, 0];
-    assert_eq!(entries::enclose(1, &m, &m, &a, 0, &c, &mut sides), 0);
+    assert_eq!(entries::enclose(1, &m, &m, &a, &a, 0, &c, &mut sides), 0);
     let low = [0xFF; 8];
     let high = [5, 0, 0, 0, 0, 0, 0, 0];
     assert_eq!(sides, [low, high].concat()[..]);

@@ -1,4 +1,4 @@
-//! The summary file: refusals 10 to 15, and 1, 3, 4, 5 of a file.
+//! The summary file: refusals 10 to 15, and 1, 3, 4, 5, 16 of a file.
 
 use hankboulder_reference::cases::bytes;
 use hankboulder_reference::refusal::Refusal;
@@ -7,10 +7,11 @@ use hankboulder_reference::summary::{decode, encode, fields, read_problem, write
 const N: &str = "01 0100 01";
 const L: &str = "02 0400 04000000";
 const U: &str = "03 0400 04000000";
-const A: &str = "04 0800 F8FFFFFFFFFFFFFF";
+const A_LOW: &str = "04 0800 F8FFFFFFFFFFFFFF";
 const ALPHA: &str = "05 0800 0000000000000000";
 const C: &str = "06 0800 0200000000000000";
-const CASE_P: [&str; 6] = [N, L, U, A, ALPHA, C];
+const A_HIGH: &str = "07 0800 F8FFFFFFFFFFFFFF";
+const CASE_P: [&str; 7] = [N, L, U, A_LOW, ALPHA, C, A_HIGH];
 
 /// The refusal number of a file, or 0.
 fn refusal(file: &[u8]) -> i64 {
@@ -35,7 +36,8 @@ fn case_p_is_read() {
     assert_eq!(problem.bounds.order, 1);
     assert_eq!(problem.bounds.low, [[4]]);
     assert_eq!(problem.bounds.high, [[4]]);
-    assert_eq!(problem.linear, [-8]);
+    assert_eq!(problem.linear_low, [-8]);
+    assert_eq!(problem.linear_high, [-8]);
     assert_eq!(problem.limit, 0);
     assert_eq!(problem.centre, [2]);
 }
@@ -43,7 +45,7 @@ fn case_p_is_read() {
 #[test]
 fn fields_may_stand_in_any_order() {
     let expected = read_problem(&bytes(&CASE_P.concat())).unwrap();
-    for turn in 0..6 {
+    for turn in 0..7 {
         let mut parts = CASE_P.to_vec();
         parts.rotate_left(turn);
         assert_eq!(read_problem(&bytes(&parts.concat())).unwrap(), expected);
@@ -58,7 +60,9 @@ fn refusal_10_of_bytes_left_over_and_of_lengths_past_the_end() {
     assert_eq!(refusal_of(&["01 01"]), 10);
     assert_eq!(refusal_of(&["01 0100"]), 10);
     assert_eq!(refusal_of(&["02 0001", &"00".repeat(255)]), 10);
-    for tail in ["00", "FF", "01", "01 00", "07 00", "FF FF", "06 0100"] {
+    for tail in [
+        "00", "FF", "01", "01 00", "07 00", "08 00", "FF FF", "07 0100",
+    ] {
         let parts = [&CASE_P[..], &[tail]].concat();
         assert_eq!(refusal_of(&parts), 10, "tail {tail}");
     }
@@ -75,7 +79,7 @@ fn refusal_10_comes_before_11_and_12_of_the_same_field() {
 #[test]
 fn every_shorter_part_of_case_p_is_10_or_13() {
     let file = bytes(&CASE_P.concat());
-    let starts = [0, 4, 11, 18, 29, 40];
+    let starts = [0, 4, 11, 18, 29, 40, 51];
     for length in 0..file.len() {
         let expected = if starts.contains(&length) { 13 } else { 10 };
         assert_eq!(refusal(&file[..length]), expected, "{length} bytes");
@@ -84,7 +88,7 @@ fn every_shorter_part_of_case_p_is_10_or_13() {
 
 #[test]
 fn refusal_11_of_every_other_tag() {
-    for tag in (0..=255_u8).filter(|tag| !(1..=6).contains(tag)) {
+    for tag in (0..=255_u8).filter(|tag| !(1..=7).contains(tag)) {
         assert_eq!(refusal(&[tag, 0, 0]), 11);
         assert_eq!(refusal(&[tag, 1, 0, 9]), 11);
         let tail = format!("{tag:02X} 0000");
@@ -106,22 +110,26 @@ fn refusal_12_of_every_tag() {
 fn an_earlier_field_comes_before_a_later_one() {
     assert_eq!(refusal_of(&[N, N, "02 FFFF"]), 12);
     assert_eq!(refusal_of(&[N, N, "FF"]), 12);
-    assert_eq!(refusal_of(&[N, N, "07 0000"]), 12);
-    assert_eq!(refusal_of(&["07 0000", N, N]), 11);
-    assert_eq!(refusal_of(&["07 0000", "01"]), 11);
-    assert_eq!(refusal_of(&[N, "08 0000", "02 FFFF"]), 11);
+    assert_eq!(refusal_of(&[N, N, "08 0000"]), 12);
+    assert_eq!(refusal_of(&["08 0000", N, N]), 11);
+    assert_eq!(refusal_of(&["08 0000", "01"]), 11);
+    assert_eq!(refusal_of(&[N, "09 0000", "02 FFFF"]), 11);
+    assert_eq!(refusal_of(&[A_HIGH, A_HIGH, "08 0000"]), 12);
 }
 
 #[test]
 fn refusal_13_of_every_absent_tag_before_any_size() {
     assert_eq!(refusal(&[]), 13);
-    for place in 0..6 {
+    for place in 0..7 {
         let mut parts = CASE_P.to_vec();
         parts.remove(place);
         assert_eq!(refusal_of(&parts), 13);
     }
     assert_eq!(refusal_of(&["01 0000"]), 13);
-    assert_eq!(refusal_of(&["01 0100 FF", L, U, A, ALPHA]), 13);
+    assert_eq!(refusal_of(&["01 0100 FF", L, U, A_LOW, ALPHA, A_HIGH]), 13);
+    // A file of the time before tag 07.
+    assert_eq!(refusal_of(&CASE_P[..6]), 13);
+    assert_eq!(refusal_of(&["01 0100 FF", L, U, A_LOW, ALPHA, C]), 13);
 }
 
 #[test]
@@ -138,24 +146,29 @@ fn refusal_1_of_a_file_reads_one_unsigned_byte() {
         assert_eq!(refusal_of(&with(0, &field)), 1, "n = {n}");
     }
     // 1 comes before 14 of the other tags, and before 3.
-    let wrong_size = ["01 0100 FF", "02 0000", U, A, ALPHA, C];
+    let wrong_size = ["01 0100 FF", "02 0000", U, A_LOW, ALPHA, C, "07 0000"];
     assert_eq!(refusal_of(&wrong_size), 1);
-    let wrong_entry = ["01 0100 00", "02 0400 00000080", U, A, ALPHA, C];
+    let wrong_entry = ["01 0100 00", "02 0400 00000080", U, A_LOW, ALPHA, C, A_HIGH];
     assert_eq!(refusal_of(&wrong_entry), 1);
 }
 
 #[test]
 fn refusal_14_of_every_other_tag() {
-    for place in 1..6 {
+    for place in 1..7 {
         let tag = place + 1;
         let right = if tag <= 3 { 4 } else { 8 };
         for length in [0, 1, 3, 4, 5, 7, 8, 9, 16, 64] {
             let field = format!("{tag:02X} {length:02X}00 {}", "00".repeat(length));
             let expected = if length == right { 0 } else { 14 };
             let got = refusal_of(&with(place, &field));
-            // A zero L or U of the right length is let through or crossed.
-            let crossed = length == right && tag == 3;
-            assert_eq!(got, if crossed { 4 } else { expected });
+            // A zero of the right length is let through, crossed (U) or reversed
+            // (the low end of a).
+            let expected = match (length == right, tag) {
+                (true, 3) => 4,
+                (true, 4) => 16,
+                _ => expected,
+            };
+            assert_eq!(got, expected, "tag {tag}, {length} bytes");
         }
     }
     // The fields of order 1 are too short for the orders 2 to 8.
@@ -167,7 +180,17 @@ fn refusal_14_of_every_other_tag() {
 
 #[test]
 fn refusal_14_comes_before_3() {
-    let parts = [N, "02 0400 00000080", U, A, ALPHA, "06 0000"];
+    let parts = [N, "02 0400 00000080", U, A_LOW, ALPHA, "06 0000", A_HIGH];
+    assert_eq!(refusal_of(&parts), 14);
+    let parts = [
+        N,
+        "02 0400 00000080",
+        U,
+        A_LOW,
+        ALPHA,
+        C,
+        "07 0700 00000000000000",
+    ];
     assert_eq!(refusal_of(&parts), 14);
 }
 
@@ -184,6 +207,8 @@ fn refusal_3_of_every_field() {
         (4, "05 0800 0000000000000080"),
         (5, "06 0800 0110000000000000"),
         (5, "06 0800 FFEFFFFFFFFFFFFF"),
+        (6, "07 0800 0100000010000000"),
+        (6, "07 0800 FFFFFFFFEFFFFFFF"),
     ];
     for (place, field) in beyond {
         assert_eq!(refusal_of(&with(place, field)), 3, "{field}");
@@ -191,7 +216,8 @@ fn refusal_3_of_every_field() {
     let ends = [
         (1, "02 0400 0000F0FF"),
         (2, "03 0400 00001000"),
-        (3, "04 0800 0000000010000000"),
+        (3, "04 0800 00000000F0FFFFFF"),
+        (6, "07 0800 0000000010000000"),
         (4, "05 0800 0000000000004000"),
         (5, "06 0800 00F0FFFFFFFFFFFF"),
     ];
@@ -200,15 +226,21 @@ fn refusal_3_of_every_field() {
     }
 }
 
-/// A file of order 2 with these tables and case-P-like terms of zero.
+/// A file of order 2 with these tables, and terms of zero.
 fn order_2(low: [i64; 4], high: [i64; 4], centre: [i64; 2]) -> i64 {
+    with_ends(low, high, centre, ([0, 0], [0, 0]))
+}
+
+/// The same with these ends of the linear terms.
+fn with_ends(low: [i64; 4], high: [i64; 4], centre: [i64; 2], ends: ([i64; 2], [i64; 2])) -> i64 {
     let file = write_summary(&[
         (1, vec![2]),
         (2, encode(&low, 4)),
         (3, encode(&high, 4)),
-        (4, vec![0; 16]),
+        (4, encode(&ends.0, 8)),
         (5, vec![0; 8]),
         (6, encode(&centre, 8)),
+        (7, encode(&ends.1, 8)),
     ]);
     refusal(&file)
 }
@@ -228,13 +260,30 @@ fn refusals_3_4_5_of_a_file_in_this_order() {
 }
 
 #[test]
+fn refusal_16_of_a_file_comes_last() {
+    let good = [4, 1, 1, 4];
+    let code = |low, centre, ends| with_ends(low, good, centre, ends);
+    assert_eq!(code(good, [0, 0], ([1, 0], [0, 0])), 16);
+    assert_eq!(code(good, [0, 0], ([0, 1], [5, 0])), 16);
+    assert_eq!(code(good, [0, 0], ([-1, -1], [0, 5])), 0);
+    // 3, 4 and 5 come before it; and a flat table is none of a file's checks.
+    assert_eq!(code(good, [0, 4097], ([1, 0], [0, 0])), 3);
+    assert_eq!(code([5, 1, 1, 4], [0, 0], ([1, 0], [0, 0])), 4);
+    assert_eq!(code([4, 1, 0, 4], [0, 0], ([1, 0], [0, 0])), 5);
+    assert_eq!(code([0, 0, 0, 0], [0, 0], ([1, 0], [0, 0])), 16);
+    // Out of range and reversed: 3.
+    assert_eq!(code(good, [0, 0], ([(1 << 36) + 1, 0], [0, 0])), 3);
+    assert_eq!(code(good, [0, 0], ([0, 0], [-(1 << 36) - 1, 0])), 3);
+}
+
+#[test]
 fn refusal_15_comes_first_and_4096_bytes_pass_it() {
     assert_eq!(refusal(&[0; 4097]), 15);
     assert_eq!(refusal(&[0; 4096]), 11);
     assert_eq!(refusal(&vec![0xFF; 70000]), 15);
     // Case P with U lengthened to 4096 bytes in all, then one more.
     let head = bytes(&[N, L].concat());
-    let tail = bytes(&[A, ALPHA, C].concat());
+    let tail = bytes(&[A_LOW, ALPHA, C, A_HIGH].concat());
     for (size, expected) in [(4096, 14), (4097, 15)] {
         let length = size - head.len() - tail.len() - 3;
         let field = write_summary(&[(3, vec![0; length])]);

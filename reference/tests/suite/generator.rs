@@ -8,7 +8,7 @@ use hankboulder_reference::judge::{verdict, List, Verdict};
 use hankboulder_reference::problem::Bounds;
 use hankboulder_reference::program::output;
 
-use crate::support::{judge, numbers, run_box};
+use crate::support::{enclose_problem, judge, numbers, run_box};
 
 /// How often each answer was met.
 type Counts = BTreeMap<i64, usize>;
@@ -77,7 +77,7 @@ fn box_calls_meet_every_answer() {
         let mut call = generator.box_call();
         run_box(&mut call)
     });
-    assert_met(&counts, &[-1, 0, 1, 2, 3, 4, 5, 8, 9]);
+    assert_met(&counts, &[-1, 0, 1, 2, 3, 4, 5, 8, 9, 16]);
 }
 
 /// The answers of a file: the refusal number, or 0.
@@ -95,7 +95,7 @@ fn summary_files_meet_every_answer() {
         let number = text.strip_prefix("refused ");
         number.map_or(0, |number| number.trim_end().parse().unwrap())
     });
-    assert_met(&counts, &[0, 1, 3, 4, 5, 10, 11, 12, 13, 14, 15]);
+    assert_met(&counts, &[0, 1, 3, 4, 5, 10, 11, 12, 13, 14, 15, 16]);
     let words: Vec<&str> = texts.keys().map(String::as_str).collect();
     let expected = [
         "box",
@@ -185,11 +185,35 @@ fn every_order_is_met_and_problems_are_let_through() {
         let problem = generator.any_problem();
         let n = problem.order;
         assert_eq!(problem.low.len(), n * n);
-        assert_eq!(problem.linear.len(), n);
+        assert_eq!(problem.linear_low.len(), n);
+        assert_eq!(problem.linear_high.len(), n);
         assert!(judge(n, &problem.low, &problem.high).code <= 0);
+        let (code, _) = enclose_problem(&problem);
+        assert!([-1, 0, 8, 9].contains(&code), "{code}: {problem:?}");
         n as i64
     });
     assert_met(&counts, &[1, 2, 3, 4, 5, 6, 7, 8]);
+}
+
+/// Ends that are equal, a little and much apart, each with boxes that are given.
+#[test]
+fn ends_of_linear_terms_are_equal_and_apart() {
+    let mut generator = Generator::new(60);
+    let mut met = [Counts::new(), Counts::new(), Counts::new()];
+    for _ in 0..3000 {
+        let problem = generator.any_problem();
+        let ends = problem.linear_low.iter().zip(&problem.linear_high);
+        let kind = match ends.map(|(l, h)| h - l).max().unwrap() {
+            0 => 0,
+            1..=5 => 1,
+            _ => 2,
+        };
+        let (code, _) = enclose_problem(&problem);
+        *met[kind].entry(code).or_default() += 1;
+    }
+    for counts in met {
+        assert_met(&counts, &[-1, 0, 8, 9]);
+    }
 }
 
 #[test]

@@ -10,3 +10,4 @@ mod properties;
 mod readings;
 mod refusals;
 mod support;
+mod two_ends;

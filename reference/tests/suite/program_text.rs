@@ -8,24 +8,26 @@ use hankboulder_reference::generate::{Generator, RawProblem, KINDS};
 use hankboulder_reference::program::output;
 use hankboulder_reference::summary::{problem_fields, write_summary};
 
-use crate::support::{enclose, judge};
+use crate::support::{enclose_problem, judge};
 
 /// The file of a thin problem with centre 0.
 fn file(matrix: &str, linear: &[i64], limit: i64) -> Vec<u8> {
     let n = linear.len();
     let m = numbers(matrix);
-    write_summary(&problem_fields(n as u8, &m, &m, linear, limit, &vec![0; n]))
+    let centre = vec![0; n];
+    let fields = problem_fields(n as u8, &m, &m, linear, linear, limit, &centre);
+    write_summary(&fields)
 }
 
 const CASE_P: &str = "01 0100 01, 02 0400 04000000, 03 0400 04000000, \
                       04 0800 F8FFFFFFFFFFFFFF, 05 0800 0000000000000000, \
-                      06 0800 0200000000000000";
+                      06 0800 0200000000000000, 07 0800 F8FFFFFFFFFFFFFF";
 const CASE_P_OUTPUT: &str = "definite\nrow 129007\nside -1 5\n";
 
 #[test]
 fn case_p() {
     let input = bytes(CASE_P);
-    assert_eq!(input.len(), 51);
+    assert_eq!(input.len(), 62);
     assert_eq!(output(&input), CASE_P_OUTPUT);
 }
 
@@ -52,8 +54,8 @@ fn the_command_cases_counts_every_case() {
     let done = Command::new(env!("CARGO_BIN_EXE_cases")).output().unwrap();
     assert!(done.status.success());
     let text = String::from_utf8(done.stdout).unwrap();
-    assert_eq!(text.lines().count(), 31);
-    assert!(text.ends_with("\n30 passed, 0 failed\n"));
+    assert_eq!(text.lines().count(), 37);
+    assert!(text.ends_with("\n36 passed, 0 failed\n"));
 }
 
 #[test]
@@ -61,8 +63,10 @@ fn file_refusals() {
     assert_eq!(output(&[]), "refused 13\n");
     assert_eq!(output(&[1]), "refused 10\n");
     assert_eq!(output(&[0; 4097]), "refused 15\n");
-    let crossed = problem_fields(1, &[2], &[1], &[0], 0, &[0]);
+    let crossed = problem_fields(1, &[2], &[1], &[0], &[0], 0, &[0]);
     assert_eq!(output(&write_summary(&crossed)), "refused 4\n");
+    let reversed = problem_fields(1, &[1], &[1], &[1], &[0], 0, &[0]);
+    assert_eq!(output(&write_summary(&reversed)), "refused 16\n");
 }
 
 #[test]
@@ -102,8 +106,7 @@ fn text_of_entries(problem: &RawProblem) -> String {
         -1 => format!("not\nvector{}\n", words(&judged.vector)),
         _ => "undecided\n".to_string(),
     };
-    let (low, high) = (&problem.low, &problem.high);
-    match enclose(low, high, &problem.linear, problem.limit, &problem.centre) {
+    match enclose_problem(problem) {
         (0, sides) => {
             let lines = sides.chunks(2).map(|side| format!("side{}\n", words(side)));
             text.extend(lines);
@@ -124,7 +127,8 @@ fn the_program_and_the_byte_entries_agree() {
                 order as u8,
                 &problem.low,
                 &problem.high,
-                &problem.linear,
+                &problem.linear_low,
+                &problem.linear_high,
                 problem.limit,
                 &problem.centre,
             );

@@ -4,7 +4,7 @@ use hankboulder_reference::entries;
 use hankboulder_reference::generate::{Generator, ProblemKind, RawProblem, KINDS};
 use hankboulder_reference::random::Random;
 
-use crate::support::{bytes, corners, enclose, judge, minors_positive, quadratic_form};
+use crate::support::{bytes, corners, enclose_problem, judge, minors_positive, quadratic_form};
 
 /// Problems of every kind and order, thin and wide, several of each.
 fn problems(seed: u64, orders: std::ops::RangeInclusive<usize>, rounds: usize) -> Vec<RawProblem> {
@@ -251,24 +251,30 @@ fn grid(n: usize, count: i64) -> Vec<Vec<i64>> {
     list
 }
 
-/// Checks a box against every grid point of every corner's ellipsoid. Gives the
-/// number of points found.
+/// The least 2a'x over all choices of one end for each linear term.
+fn least_linear_part(problem: &RawProblem, x: &[i64]) -> i128 {
+    let mut least = vec![0];
+    for (k, x) in x.iter().enumerate() {
+        let ends = [problem.linear_low[k], problem.linear_high[k]];
+        let with = |a: i64| {
+            least
+                .iter()
+                .map(move |sum| sum + 2 * i128::from(a) * i128::from(*x))
+        };
+        least = ends.into_iter().flat_map(with).collect();
+    }
+    least.into_iter().min().unwrap()
+}
+
+/// Checks a box against every grid point of the ellipsoid of every corner and of
+/// every choice of ends. Gives the number of points found.
 fn check_box(problem: &RawProblem, denominator: i64, points: &[Vec<i64>]) -> (i64, usize) {
-    let RawProblem {
-        order,
-        low,
-        high,
-        linear,
-        limit,
-        centre,
-    } = problem;
-    let (code, sides) = enclose(low, high, linear, *limit, centre);
-    let members = corners(*order, low, high);
+    let (code, sides) = enclose_problem(problem);
+    let members = corners(problem.order, &problem.low, &problem.high);
     let q = i128::from(denominator);
     let mut found = 0;
     for x in points {
-        let linear_part: i64 = linear.iter().zip(x).map(|(a, x)| 2 * a * x).sum();
-        let rest = i128::from(*limit) * q * q - i128::from(linear_part) * q;
+        let rest = i128::from(problem.limit) * q * q - least_linear_part(problem, x) * q;
         if code > 0 || members.iter().all(|m| quadratic_form(m, x) > rest) {
             continue;
         }
@@ -299,14 +305,20 @@ fn small_ellipsoid(random: &mut Random, n: usize) -> RawProblem {
         }
     }
     let mut list = |range: i64| -> Vec<i64> { (0..n).map(|_| random.within(range)).collect() };
-    let (linear, centre) = (list(6), list(2));
+    let (linear_low, centre) = (list(6), list(2));
+    let width = random.pick(&[0, 1, 4]);
+    let linear_high = linear_low
+        .iter()
+        .map(|a| a + random.between(0, width))
+        .collect();
     let lowest = random.pick(&[-6, -6, -200]);
     let limit = random.between(lowest, 30);
     RawProblem {
         order: n,
         low,
         high,
-        linear,
+        linear_low,
+        linear_high,
         limit,
         centre,
     }

@@ -1,4 +1,4 @@
-//! Refusals 1 to 9: each position, the ends of each range, and the order of
+//! Refusals 1 to 9 and 16: each position, the ends of each range, and the order of
 //! checks.
 
 use hankboulder_reference::entries;
@@ -14,7 +14,8 @@ struct Call {
     high: Vec<u8>,
     factor: Vec<u8>,
     vector: Vec<u8>,
-    linear: Vec<u8>,
+    linear_low: Vec<u8>,
+    linear_high: Vec<u8>,
     limit: i64,
     centre: Vec<u8>,
     sides: Vec<u8>,
@@ -27,7 +28,7 @@ const ACTS: [(Act, &[i64]); 4] = [
     (test_factor, &[6]),
     (test_vector, &[7]),
     (judge, &[]),
-    (enclose, &[8, 9]),
+    (enclose, &[16, 8, 9]),
 ];
 
 fn test_factor(call: &mut Call) -> i64 {
@@ -48,7 +49,8 @@ fn enclose(call: &mut Call) -> i64 {
         call.n,
         &call.low,
         &call.high,
-        &call.linear,
+        &call.linear_low,
+        &call.linear_high,
         call.limit,
         &call.centre,
         &mut call.sides,
@@ -63,7 +65,8 @@ fn good_call() -> Call {
         high: bytes(&[4, 2, 2, 6]),
         factor: bytes(&[1, 2, 0, 3]),
         vector: bytes(&[1, -1]),
-        linear: bytes(&[0, 0]),
+        linear_low: bytes(&[0, 0]),
+        linear_high: bytes(&[0, 0]),
         limit: 10,
         centre: bytes(&[0, 0]),
         sides: bytes(&[7, 7, 7, 7]),
@@ -72,6 +75,12 @@ fn good_call() -> Call {
 
 fn set(buffer: &mut [u8], place: usize, number: i64) {
     buffer[8 * place..8 * place + 8].copy_from_slice(&number.to_le_bytes());
+}
+
+/// Sets both ends of a linear term.
+fn set_both(call: &mut Call, place: usize, number: i64) {
+    set(&mut call.linear_low, place, number);
+    set(&mut call.linear_high, place, number);
 }
 
 /// Puts the fault with this refusal number in a call. Faults of different
@@ -94,7 +103,8 @@ fn put_fault(call: &mut Call, number: i64) {
             set(&mut call.low, 0, 1);
             set(&mut call.high, 0, 1);
         }
-        9 => set(&mut call.linear, 1, 1 << 30),
+        9 => set(&mut call.linear_high, 1, 1 << 30),
+        16 => set(&mut call.linear_low, 0, 1),
         _ => unreachable!(),
     }
 }
@@ -117,7 +127,7 @@ fn good_calls_are_let_through() {
 
 #[test]
 fn of_several_faults_the_first_in_the_order_of_checks_is_given() {
-    let mut met = [0; 10];
+    let mut met = [0; 17];
     for (act, own) in ACTS {
         let checks = [&[1, 2, 3, 4, 5], own].concat();
         for chosen in 1..1_u32 << checks.len() {
@@ -132,14 +142,15 @@ fn of_several_faults_the_first_in_the_order_of_checks_is_given() {
             met[faults[0] as usize] += 1;
         }
     }
-    assert!(met[1..].iter().all(|count| *count > 0));
+    let asked = [1, 2, 3, 4, 5, 6, 7, 8, 9, 16];
+    assert!(asked.iter().all(|number| met[*number] > 0), "{met:?}");
 }
 
 #[test]
 fn faults_of_another_act_are_not_asked() {
     for (act, own) in ACTS {
         let mut call = good_call();
-        let others = [6, 7, 8, 9].iter().filter(|other| !own.contains(other));
+        let others = [6, 7, 16, 8, 9].iter().filter(|other| !own.contains(other));
         others.for_each(|other| put_fault(&mut call, *other));
         assert!(run(act, &call) <= 0);
     }
@@ -183,7 +194,8 @@ fn buffers(act: usize, call: &mut Call) -> Vec<&mut Vec<u8>> {
         high,
         factor,
         vector,
-        linear,
+        linear_low,
+        linear_high,
         centre,
         sides,
         ..
@@ -192,7 +204,7 @@ fn buffers(act: usize, call: &mut Call) -> Vec<&mut Vec<u8>> {
         0 => vec![low, high, factor],
         1 => vec![low, high, vector],
         2 => vec![low, high, factor, vector],
-        _ => vec![low, high, linear, centre, sides],
+        _ => vec![low, high, linear_low, linear_high, centre, sides],
     }
 }
 
@@ -233,7 +245,8 @@ fn refusal_2_is_not_asked_of_buffers_of_other_acts() {
     call.sides.clear();
     assert_eq!(run(test_factor, &call), 0);
     call = good_call();
-    call.linear.clear();
+    call.linear_low.clear();
+    call.linear_high.clear();
     call.sides.clear();
     assert_eq!(run(judge, &call), 0);
 }
@@ -277,7 +290,10 @@ fn refusal_3_of_the_box_covers_linear_terms_limit_and_centre() {
     for place in 0..2 {
         for number in beyond(1 << 36) {
             let mut call = good_call();
-            set(&mut call.linear, place, number);
+            set(&mut call.linear_low, place, number);
+            assert_eq!(run(enclose, &call), 3);
+            call = good_call();
+            set(&mut call.linear_high, place, number);
             assert_eq!(run(enclose, &call), 3);
         }
         for number in beyond(1 << 12) {
@@ -297,7 +313,8 @@ fn refusal_3_of_the_box_covers_linear_terms_limit_and_centre() {
 fn the_ends_of_the_other_ranges_pass_3() {
     for sign in [-1, 1] {
         let mut call = good_call();
-        set(&mut call.linear, 0, sign << 36);
+        set(&mut call.linear_low, 0, -1 << 36);
+        set(&mut call.linear_high, 0, sign << 36);
         assert_eq!(run(enclose, &call), 9);
         call = good_call();
         call.limit = sign << 54;
@@ -393,30 +410,54 @@ fn refusal_8_where_a_diagonal_entry_is_1_or_less() {
 fn refusal_9_at_every_place_and_with_the_centre() {
     for place in 0..2 {
         let mut call = good_call();
-        set(&mut call.linear, place, 1 << 20);
+        set_both(&mut call, place, 1 << 20);
         assert_eq!(run(enclose, &call), 0);
-        set(&mut call.linear, place, -(1 << 20) - 1);
+        set_both(&mut call, place, -(1 << 20) - 1);
+        assert_eq!(run(enclose, &call), 9);
+        // One end is enough, either one.
+        set(&mut call.linear_high, place, 1 << 20);
+        assert_eq!(run(enclose, &call), 9);
+        set(&mut call.linear_low, place, -(1 << 20));
+        assert_eq!(run(enclose, &call), 0);
+        set(&mut call.linear_high, place, (1 << 20) + 1);
         assert_eq!(run(enclose, &call), 9);
     }
     // At c = (1, 0) row 1 gives 4 and row 2 gives 1 to 2.
     for (linear, code) in [((1 << 20) - 4, 0), ((1 << 20) - 3, 9)] {
         let mut call = good_call();
         set(&mut call.centre, 0, 1);
-        set(&mut call.linear, 0, linear);
+        set_both(&mut call, 0, linear);
         assert_eq!(run(enclose, &call), code);
     }
     for (linear, code) in [((1 << 20) - 2, 0), ((1 << 20) - 1, 9)] {
         let mut call = good_call();
         set(&mut call.centre, 0, 1);
-        set(&mut call.linear, 1, linear);
+        set_both(&mut call, 1, linear);
         assert_eq!(run(enclose, &call), code);
     }
 }
 
 #[test]
-fn the_table_has_fifteen_numbers_and_words() {
+fn refusal_16_at_every_place_and_equal_ends_pass() {
+    for place in 0..2 {
+        for (least, most, code) in [(1, 0, 16), (0, 0, 0), (-1, 0, 0), (0, -1, 16)] {
+            let mut call = good_call();
+            set(&mut call.linear_low, place, least);
+            set(&mut call.linear_high, place, most);
+            assert_eq!(run(enclose, &call), code, "{least} to {most}");
+        }
+        let mut call = good_call();
+        set(&mut call.linear_low, place, 1 << 36);
+        set(&mut call.linear_high, place, -1 << 36);
+        assert_eq!(run(enclose, &call), 16);
+    }
+}
+
+#[test]
+fn the_table_has_sixteen_numbers_and_words() {
     let words = "order length range crossed lopsided factor vector flat far \
-                 cut tag again absent size long";
+                 cut tag again absent size long reversed";
+    assert_eq!(REFUSALS.len(), 16);
     for (place, word) in words.split_whitespace().enumerate() {
         let refusal = REFUSALS[place].0;
         assert_eq!(refusal.number(), place as i64 + 1);

@@ -2,7 +2,7 @@
 //! library's.
 
 use hankboulder_reference::entries;
-use hankboulder_reference::generate::BoxCall;
+use hankboulder_reference::generate::{BoxCall, RawProblem};
 
 /// Contents of output buffers before a call.
 pub const UNWRITTEN: i64 = 0x5A5A_5A5A_5A5A_5A5A;
@@ -50,23 +50,38 @@ pub fn run_box(call: &mut BoxCall) -> i64 {
         call.n,
         &call.low,
         &call.high,
-        &call.linear,
+        &call.linear_low,
+        &call.linear_high,
         call.limit,
         &call.centre,
         &mut call.sides,
     )
 }
 
-/// The box's return value and the sides.
+/// The box's return value and the sides, with equal ends of the linear terms.
 pub fn enclose(low: &[i64], high: &[i64], a: &[i64], limit: i64, c: &[i64]) -> (i64, Vec<i64>) {
-    let mut call = BoxCall {
-        n: a.len() as i64,
-        low: bytes(low),
-        high: bytes(high),
-        linear: bytes(a),
+    enclose_problem(&RawProblem {
+        order: a.len(),
+        low: low.to_vec(),
+        high: high.to_vec(),
+        linear_low: a.to_vec(),
+        linear_high: a.to_vec(),
         limit,
-        centre: bytes(c),
-        sides: bytes(&vec![UNWRITTEN; 2 * a.len()]),
+        centre: c.to_vec(),
+    })
+}
+
+/// The box's return value and the sides of a whole problem.
+pub fn enclose_problem(problem: &RawProblem) -> (i64, Vec<i64>) {
+    let mut call = BoxCall {
+        n: problem.order as i64,
+        low: bytes(&problem.low),
+        high: bytes(&problem.high),
+        linear_low: bytes(&problem.linear_low),
+        linear_high: bytes(&problem.linear_high),
+        limit: problem.limit,
+        centre: bytes(&problem.centre),
+        sides: bytes(&vec![UNWRITTEN; 2 * problem.order]),
     };
     let code = run_box(&mut call);
     (code, numbers(&call.sides))
