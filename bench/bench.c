@@ -139,22 +139,24 @@ static int64_t tuned_judge_side(int64_t n, const struct problem *problem)
 static int64_t library_box(int64_t n, const struct problem *problem)
 {
     size_t table = HB_TABLE_BYTES(n), vector = HB_VECTOR_BYTES(n);
-    return hb_box(n, bytes(problem->low), table, bytes(problem->high), table, bytes(problem->linear), vector, problem->limit, bytes(problem->centre),
-                  vector, (uint8_t *)out.sides, HB_SIDES_BYTES(n));
+    return hb_box(n, bytes(problem->low), table, bytes(problem->high), table, bytes(problem->linear_low), vector,
+                  bytes(problem->linear_high), vector, problem->limit, bytes(problem->centre), vector, (uint8_t *)out.sides,
+                  HB_SIDES_BYTES(n));
 }
 
 static int64_t plain_box_side(int64_t n, const struct problem *problem)
 {
     size_t order = (size_t)n, count = order * order;
-    return plain_box(n, problem->low, count, problem->high, count, problem->linear, order, problem->limit, problem->centre, order, out.sides,
-                     2 * order);
+    return plain_box(n, problem->low, count, problem->high, count, problem->linear_low, order, problem->linear_high, order, problem->limit,
+                     problem->centre, order, out.sides, 2 * order);
 }
 
 static int64_t tuned_box_side(int64_t n, const struct problem *problem)
 {
     size_t table = HB_TABLE_BYTES(n), vector = HB_VECTOR_BYTES(n);
-    return tuned_box(n, bytes(problem->low), table, bytes(problem->high), table, bytes(problem->linear), vector, problem->limit,
-                     bytes(problem->centre), vector, (uint8_t *)out.sides, HB_SIDES_BYTES(n));
+    return tuned_box(n, bytes(problem->low), table, bytes(problem->high), table, bytes(problem->linear_low), vector,
+                     bytes(problem->linear_high), vector, problem->limit, bytes(problem->centre), vector, (uint8_t *)out.sides,
+                     HB_SIDES_BYTES(n));
 }
 
 /* The peers are the last two. */
@@ -162,7 +164,7 @@ enum { LIBRARY, PLAIN, TUNED, LAPACK_SIDE, ARB_SIDE, SIDES };
 
 #define COMPARED_SIDES 3
 #define LEAST_ANSWER HB_UNDECIDED
-#define ANSWERS (HB_REFUSED_FAR - LEAST_ANSWER + 1)
+#define ANSWERS (HB_REFUSED_REVERSED - LEAST_ANSWER + 1)
 
 static const char *const side_names[SIDES] = {"library", "plain C", "tuned C", "dpotrf", "arb_mat_cho"};
 

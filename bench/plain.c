@@ -419,10 +419,10 @@ static int64_t greatest_step(struct trial *trial, int64_t first, int64_t last)
     return step;
 }
 
-/* g(k): the greatest magnitude of M(k)c + a(k) over the bounds */
-static int64_t gradient(int64_t n, const int64_t *low, const int64_t *high, const int64_t *centre, int64_t linear)
+/* g(k): the greatest magnitude of M(k)c + a(k) over the bounds and the ends of a(k) */
+static int64_t gradient(int64_t n, const int64_t *low, const int64_t *high, const int64_t *centre, int64_t linear_low, int64_t linear_high)
 {
-    int64_t least = linear, greatest = linear;
+    int64_t least = linear_low, greatest = linear_high;
     for (int64_t j = 0; j < n; j++) {
         int64_t from_low = low[j] * centre[j], from_high = high[j] * centre[j];
         least += from_low < from_high ? from_low : from_high;
@@ -436,6 +436,17 @@ static int64_t inner_product(int64_t n, const int64_t *x, const int64_t *y)
     int64_t sum = 0;
     for (int64_t i = 0; i < n; i++)
         sum += x[i] * y[i];
+    return sum;
+}
+
+/* The least 2a'c over the ends of a, term by term */
+static int64_t least_linear(int64_t n, const int64_t *linear_low, const int64_t *linear_high, const int64_t *centre)
+{
+    int64_t sum = 0;
+    for (int64_t k = 0; k < n; k++) {
+        int64_t from_low = 2 * linear_low[k] * centre[k], from_high = 2 * linear_high[k] * centre[k];
+        sum += from_low < from_high ? from_low : from_high;
+    }
     return sum;
 }
 
@@ -455,31 +466,44 @@ static int64_t least_radius(int64_t step, int64_t bound)
     return root + (root * root < square);
 }
 
-int64_t plain_box(int64_t n, const int64_t *low, size_t low_count, const int64_t *high, size_t high_count, const int64_t *linear, size_t linear_count,
-                  int64_t limit, const int64_t *centre, size_t centre_count, int64_t *sides, size_t sides_count)
+/* What the box is asked about, after check 2 */
+struct ellipsoid {
+    int64_t n;
+    const int64_t *low;
+    const int64_t *high;
+    const int64_t *linear_low;
+    const int64_t *linear_high;
+    int64_t limit;
+    const int64_t *centre;
+};
+
+/* Checks 3, 4, 5 and 16 of the box: 0, or the number of the refusal */
+static int64_t check_ellipsoid(const struct ellipsoid *e)
 {
-    struct trial trial;
-    int64_t g[PLAIN_MAX_ORDER], y[PLAIN_MAX_ORDER];
-    if (n < 1 || n > PLAIN_MAX_ORDER)
-        return 1;
-    size_t order = (size_t)n, count = order * order;
-    if (low_count != count || high_count != count || linear_count != order || centre_count != order || sides_count != 2 * order)
-        return 2;
-    if (!tables_in_range(n, low, high) || !in_range(linear, n, LINEAR_RANGE) || !within(limit, LIMIT_RANGE) || !in_range(centre, n, CENTRE_RANGE))
+    if (!tables_in_range(e->n, e->low, e->high) || !in_range(e->linear_low, e->n, LINEAR_RANGE) ||
+        !in_range(e->linear_high, e->n, LINEAR_RANGE) || !within(e->limit, LIMIT_RANGE) || !in_range(e->centre, e->n, CENTRE_RANGE))
         return 3;
-    int64_t refusal = check_shape(n, low, high);
+    int64_t refusal = check_shape(e->n, e->low, e->high);
     if (refusal)
         return refusal;
-    start_trials(&trial, n, low, high);
+    return crossed(e->linear_low, e->linear_high, e->n) ? 16 : 0;
+}
+
+/* Checks 8 and 9, then the answer */
+static int64_t enclose(const struct ellipsoid *e, int64_t *sides)
+{
+    struct trial trial;
+    int64_t n = e->n, g[PLAIN_MAX_ORDER], y[PLAIN_MAX_ORDER];
+    start_trials(&trial, n, e->low, e->high);
     int64_t t = greatest_step(&trial, 0, n);
     if (t == 0)
         return 8;
     for (int64_t k = 0; k < n; k++) {
-        g[k] = gradient(n, low + k * n, high + k * n, centre, linear[k]);
+        g[k] = gradient(n, e->low + k * n, e->high + k * n, e->centre, e->linear_low[k], e->linear_high[k]);
         if (g[k] > GRADIENT_RANGE)
             return 9;
     }
-    int64_t d = limit - 2 * inner_product(n, linear, centre) - pairs_form(n, low, high, centre);
+    int64_t d = e->limit - least_linear(n, e->linear_low, e->linear_high, e->centre) - pairs_form(n, e->low, e->high, e->centre);
     int64_t b = d + ceiling_quotient(inner_product(n, g, g), t);
     if (b < 0)
         return -1;
@@ -493,8 +517,23 @@ int64_t plain_box(int64_t n, const int64_t *low, size_t low_count, const int64_t
         int64_t step = greatest_step(&trial, k, k + 1);
         int64_t z = step > 0 ? least_radius(step, b2) : y[k];
         int64_t h = z < y[k] ? z : y[k];
-        sides[2 * k] = centre[k] - h;
-        sides[2 * k + 1] = centre[k] + h;
+        sides[2 * k] = e->centre[k] - h;
+        sides[2 * k + 1] = e->centre[k] + h;
     }
     return 0;
+}
+
+int64_t plain_box(int64_t n, const int64_t *low, size_t low_count, const int64_t *high, size_t high_count, const int64_t *linear_low,
+                  size_t linear_low_count, const int64_t *linear_high, size_t linear_high_count, int64_t limit, const int64_t *centre,
+                  size_t centre_count, int64_t *sides, size_t sides_count)
+{
+    struct ellipsoid ellipsoid = {n, low, high, linear_low, linear_high, limit, centre};
+    if (n < 1 || n > PLAIN_MAX_ORDER)
+        return 1;
+    size_t order = (size_t)n, count = order * order;
+    if (low_count != count || high_count != count || linear_low_count != order || linear_high_count != order || centre_count != order ||
+        sides_count != 2 * order)
+        return 2;
+    int64_t refusal = check_ellipsoid(&ellipsoid);
+    return refusal ? refusal : enclose(&ellipsoid, sides);
 }

@@ -39,7 +39,8 @@ int64_t plain_pairs_judge(int64_t n, const int64_t *low, size_t low_count, const
  * The box with its checks: 0, and the sides are written, low and high for each k; -1 empty; or the number of the refusal.
  * The tables are copied once; each trial sets diagonal entries of the copies and factors them whole.
  */
-int64_t plain_box(int64_t n, const int64_t *low, size_t low_count, const int64_t *high, size_t high_count, const int64_t *linear, size_t linear_count,
-                  int64_t limit, const int64_t *centre, size_t centre_count, int64_t *sides, size_t sides_count);
+int64_t plain_box(int64_t n, const int64_t *low, size_t low_count, const int64_t *high, size_t high_count, const int64_t *linear_low,
+                  size_t linear_low_count, const int64_t *linear_high, size_t linear_high_count, int64_t limit, const int64_t *centre,
+                  size_t centre_count, int64_t *sides, size_t sides_count);
 
 #endif

@@ -51,7 +51,7 @@ static int64_t verdict(int64_t n, const struct problem *problem)
     return plain_pairs_judge(n, problem->low, count, problem->high, count, factor, count, vector, (size_t)n);
 }
 
-/* A centre, linear terms that put the ellipsoid's middle near it, and a limit with which the ellipsoid is not empty: a box is given. */
+/* A centre, linear terms with ends up to 100 apart that put the ellipsoid's middle near it, and a limit with which it is not empty */
 static void draw_terms(int64_t n, struct problem *problem)
 {
     for (int64_t i = 0; i < n; i++)
@@ -61,9 +61,10 @@ static void draw_terms(int64_t n, struct problem *problem)
         int64_t product = 0;
         for (int64_t j = 0; j < n; j++)
             product += problem->low[i * n + j] * problem->centre[j];
-        problem->linear[i] = draw(-1000, 1000) - product;
+        problem->linear_low[i] = draw(-1000, 1000) - product;
+        problem->linear_high[i] = problem->linear_low[i] + draw(0, 100);
         /* 2a'c + c'Mc, the value at the centre */
-        problem->limit += (2 * problem->linear[i] + product) * problem->centre[i];
+        problem->limit += (2 * problem->linear_low[i] + product) * problem->centre[i];
     }
 }
 
@@ -173,11 +174,11 @@ static int64_t draw_wild(void)
     return k < 6 ? wild[k] : draw(INT64_MIN / 2, INT64_MAX / 2 - 1);
 }
 
-/* Changes one entry or two, or an entry and its mirror image */
+/* Changes one entry or two, or an entry and its mirror image, or one end of a linear term or both */
 static void spoil(int64_t n, struct problem *problem)
 {
-    int64_t i = draw(0, n - 1), j = draw(0, n - 1), kind = draw(0, 4);
-    int64_t *table = draw(0, 1) ? problem->low : problem->high;
+    int64_t i = draw(0, n - 1), j = draw(0, n - 1), kind = draw(0, 6);
+    int64_t *table = draw(0, 1) ? problem->low : problem->high, *end = draw(0, 1) ? problem->linear_low : problem->linear_high;
     if (kind == 0)
         table[i * n + j] = draw_wild();
     else if (kind == 1)
@@ -186,8 +187,12 @@ static void spoil(int64_t n, struct problem *problem)
         problem->low[i * n + j] = problem->low[j * n + i] = problem->high[i * n + j] + draw(0, 1);
     else if (kind == 3)
         problem->low[i * n + j] = problem->high[j * n + i] = draw_wild();
+    else if (kind == 4)
+        problem->linear_low[i] = problem->linear_high[i] = draw(0, 1) ? draw_wild() : HB_LINEAR_RANGE + draw(0, 1);
+    else if (kind == 5)
+        end[i] = draw(0, 1) ? draw_wild() : draw(-HB_LINEAR_RANGE - 1, HB_LINEAR_RANGE + 1);
     else
-        problem->linear[i] = draw(0, 1) ? draw_wild() : HB_LINEAR_RANGE + draw(0, 1);
+        problem->linear_low[i] = problem->linear_high[i] + draw(-1, 1);
 }
 
 /* Offers a factor and a vector that fit, or nearly so */

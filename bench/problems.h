@@ -17,16 +17,18 @@ struct problem {
     int64_t high[MAX_ENTRIES];
     int64_t factor[MAX_ENTRIES];
     int64_t vector[HB_MAX_ORDER];
-    int64_t linear[HB_MAX_ORDER];
+    int64_t linear_low[HB_MAX_ORDER];
+    int64_t linear_high[HB_MAX_ORDER];
     int64_t limit;
     int64_t centre[HB_MAX_ORDER];
 };
 
 /*
- * By the judge's answer. Definite ones have bounds up to 2 apart; their factor is accepted, but for one in eight; a box is given. Of those that are not
- * definite, three in four have a tried vector, anywhere in the list, and one in four is made for a solved one. Undecided ones are thin, and B'B for a
- * whole-number B that is not singular: x'Mx >= 1 for all whole x but 0, so that all vectors are looked at. There is none of order 1. The last two kinds
- * are thin: the low tables of the definite ones, and those of the ones that are not, which are singular.
+ * By the judge's answer. Definite ones have bounds up to 2 apart and ends of the linear terms up to 100 apart; their factor is accepted, but
+ * for one in eight; a box is given. Of those that are not definite, three in four have a tried vector, anywhere in the list, and one in four
+ * is made for a solved one. Undecided ones are thin, and B'B for a whole-number B that is not singular: x'Mx >= 1 for all whole x but 0, so
+ * that all vectors are looked at. There is none of order 1. The last two kinds are thin: the low tables of the definite ones, and those of
+ * the ones that are not, which are singular.
  */
 enum kind { DEFINITE, NOT_DEFINITE, UNDECIDED, THIN, SINGULAR, KINDS };
 

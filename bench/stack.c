@@ -17,7 +17,7 @@
 #define ENTRIES 4
 #define KINDS 10
 #define LEAST_ANSWER (-2)
-#define ANSWERS (HB_REFUSED_FAR - LEAST_ANSWER + 1)
+#define ANSWERS (HB_REFUSED_REVERSED - LEAST_ANSWER + 1)
 
 /* What the calls are made with. The processor stores the low byte first, so that tables of int64_t are the library's bytes. */
 struct input {
@@ -26,7 +26,8 @@ struct input {
     int64_t high[MAX_ENTRIES];
     int64_t factor[MAX_ENTRIES];
     int64_t vector[HB_MAX_ORDER];
-    int64_t linear[HB_MAX_ORDER];
+    int64_t linear_low[HB_MAX_ORDER];
+    int64_t linear_high[HB_MAX_ORDER];
     int64_t limit;
     int64_t centre[HB_MAX_ORDER];
 };
@@ -71,8 +72,9 @@ static void call_test_vector(void)
 static void call_box(void)
 {
     frame = __builtin_frame_address(0);
-    answer = hb_box(input.n, bytes(input.low), HB_TABLE_BYTES(input.n), bytes(input.high), HB_TABLE_BYTES(input.n), bytes(input.linear),
-                    HB_VECTOR_BYTES(input.n), input.limit, bytes(input.centre), HB_VECTOR_BYTES(input.n), (uint8_t *)sides, HB_SIDES_BYTES(input.n));
+    answer = hb_box(input.n, bytes(input.low), HB_TABLE_BYTES(input.n), bytes(input.high), HB_TABLE_BYTES(input.n), bytes(input.linear_low),
+                    HB_VECTOR_BYTES(input.n), bytes(input.linear_high), HB_VECTOR_BYTES(input.n), input.limit, bytes(input.centre),
+                    HB_VECTOR_BYTES(input.n), (uint8_t *)sides, HB_SIDES_BYTES(input.n));
 }
 
 /* An entry: its call, what the header says of its stack, the most that was measured at each order, and how often each answer was given. */
@@ -210,7 +212,10 @@ static void draw_bounds(int kind)
         draw_refused(kind - 7);
 }
 
-/* A centre, linear terms that put the middle of the ellipsoid near it, and a limit with which it may be empty; or any terms and limit. */
+/*
+ * A centre, linear terms that put the middle of the ellipsoid near it, with ends up to 100 apart and now and then reversed, and a limit
+ * with which it may be empty; or any terms and limit.
+ */
 static void draw_terms(int near)
 {
     int64_t centres = near ? 100 : HB_CENTRE_RANGE, others = near ? 1000 : 1 << 20;
@@ -221,9 +226,10 @@ static void draw_terms(int near)
         int64_t product = 0;
         for (int64_t j = 0; j < input.n; j++)
             product += input.low[i * input.n + j] * input.centre[j];
-        input.linear[i] = draw(-others, others) - product;
+        input.linear_low[i] = draw(-others, others) - product;
+        input.linear_high[i] = input.linear_low[i] + (draw(0, 200) == 0 ? -1 : draw(0, 100));
         if (near)
-            input.limit += (2 * input.linear[i] + product) * input.centre[i];
+            input.limit += (2 * input.linear_low[i] + product) * input.centre[i];
     }
 }
 

@@ -713,10 +713,9 @@ INLINED int64_t magnitude(int64_t x)
     return x < 0 ? -x : x;
 }
 
-/* g(k): the greatest magnitude of M(k)c + a(k) over the bounds */
-static int64_t gradient(int64_t n, const number *low, const number *high, const number *centre, int64_t linear)
+/* g(k): the greatest magnitude of M(k)c + a(k) over the bounds, from the ends of a(k) */
+static int64_t gradient(int64_t n, const number *low, const number *high, const number *centre, int64_t least, int64_t greatest)
 {
-    int64_t least = linear, greatest = linear;
     for (int64_t j = 0; j < n; j++) {
         int64_t c = centre[j], below = c < 0 ? high[j] : low[j], above = c < 0 ? low[j] : high[j];
         least += below * c;
@@ -757,49 +756,64 @@ static int halves(int64_t n, int64_t t, int64_t d, const int64_t *g, int64_t *y,
 }
 
 /* Check 3 of the linear terms, the limit and the centre */
-static int terms_in_range(int64_t n, const number *linear, int64_t limit, const number *centre)
+static int terms_in_range(int64_t n, const number *linear_low, const number *linear_high, int64_t limit, const number *centre)
 {
     int good = within(limit, LIMIT_RANGE);
     for (int64_t k = 0; k < n; k++)
-        good &= within(linear[k], LINEAR_RANGE) & within(centre[k], CENTRE_RANGE);
+        good &= within(linear_low[k], LINEAR_RANGE) & within(linear_high[k], LINEAR_RANGE) & within(centre[k], CENTRE_RANGE);
     return good;
 }
 
+/* Check 16 */
+static int reversed(int64_t n, const number *linear_low, const number *linear_high)
+{
+    int bad = 0;
+    for (int64_t k = 0; k < n; k++)
+        bad |= linear_low[k] > linear_high[k];
+    return bad;
+}
+
 /* The least value of the centre, which may be 0, and the part of the linear terms in D */
-static int64_t at_centre(int64_t n, const number *low, const number *high, const number *linear, int64_t limit, const number *centre)
+static int64_t at_centre(int64_t n, const number *low, const number *high, const number *linear_low, const number *linear_high,
+                         int64_t limit, const number *centre)
 {
     int64_t x[ORDER], sum = 0;
     for (int64_t k = 0; k < n; k++) {
         x[k] = centre[k];
-        sum += linear[k] * x[k];
+        sum += x[k] * (x[k] < 0 ? linear_high[k] : linear_low[k]);
     }
     return limit - 2 * sum - least_value(n, low, high, x);
 }
 
-int64_t tuned_box(int64_t n, const uint8_t *low_bytes, size_t low_len, const uint8_t *high_bytes, size_t high_len, const uint8_t *linear_bytes,
-                  size_t linear_len, int64_t limit, const uint8_t *centre_bytes, size_t centre_len, uint8_t *sides_bytes, size_t sides_len)
+int64_t tuned_box(int64_t n, const uint8_t *low_bytes, size_t low_len, const uint8_t *high_bytes, size_t high_len,
+                  const uint8_t *linear_low_bytes, size_t linear_low_len, const uint8_t *linear_high_bytes, size_t linear_high_len,
+                  int64_t limit, const uint8_t *centre_bytes, size_t centre_len, uint8_t *sides_bytes, size_t sides_len)
 {
-    const number *low = numbers(low_bytes), *high = numbers(high_bytes), *linear = numbers(linear_bytes), *centre = numbers(centre_bytes);
+    const number *low = numbers(low_bytes), *high = numbers(high_bytes), *centre = numbers(centre_bytes);
+    const number *linear_low = numbers(linear_low_bytes), *linear_high = numbers(linear_high_bytes);
     number *sides = (number *)sides_bytes;
     int64_t h[ORDER][ORDER], g[ORDER], y[ORDER], steps[ORDER], bound;
     if (n < 1 || n > ORDER)
         return 1;
     size_t table = (size_t)(8 * n * n), entries = (size_t)(8 * n);
-    if (low_len != table || high_len != table || linear_len != entries || centre_len != entries || sides_len != 2 * entries)
+    if (low_len != table || high_len != table || linear_low_len != entries || linear_high_len != entries || centre_len != entries ||
+        sides_len != 2 * entries)
         return 2;
-    if (!terms_in_range(n, linear, limit, centre))
+    if (!terms_in_range(n, linear_low, linear_high, limit, centre))
         return 3;
     if (!scale(n, low, high, h))
         return refusal(n, low, high);
+    if (reversed(n, linear_low, linear_high))
+        return 16;
     int64_t t = greatest_step(n, 0, 1, h);
     if (t == 0)
         return 8;
     for (int64_t k = 0; k < n; k++) {
-        g[k] = gradient(n, low + k * n, high + k * n, centre, linear[k]);
+        g[k] = gradient(n, low + k * n, high + k * n, centre, linear_low[k], linear_high[k]);
         if (g[k] > GRADIENT_RANGE)
             return 9;
     }
-    if (!halves(n, t, at_centre(n, low, high, linear, limit, centre), g, y, &bound))
+    if (!halves(n, t, at_centre(n, low, high, linear_low, linear_high, limit, centre), g, y, &bound))
         return -1;
     steps_at(n, h, steps);
     for (int64_t k = 0; k < n; k++) {

@@ -21,7 +21,8 @@ int64_t tuned_test_vector(int64_t n, const uint8_t *low, size_t low_len, const u
 int64_t tuned_judge(int64_t n, const uint8_t *low, size_t low_len, const uint8_t *high, size_t high_len, uint8_t *factor, size_t factor_len,
                     uint8_t *vector, size_t vector_len);
 
-int64_t tuned_box(int64_t n, const uint8_t *low, size_t low_len, const uint8_t *high, size_t high_len, const uint8_t *linear, size_t linear_len,
-                  int64_t limit, const uint8_t *centre, size_t centre_len, uint8_t *sides, size_t sides_len);
+int64_t tuned_box(int64_t n, const uint8_t *low, size_t low_len, const uint8_t *high, size_t high_len, const uint8_t *linear_low,
+                  size_t linear_low_len, const uint8_t *linear_high, size_t linear_high_len, int64_t limit, const uint8_t *centre,
+                  size_t centre_len, uint8_t *sides, size_t sides_len);
 
 #endif

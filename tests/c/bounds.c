@@ -50,36 +50,43 @@ static int64_t value(const int64_t *matrix, const int64_t *linear, const int64_t
     return sum;
 }
 
+/* What the coefficients of a test are within, either way */
+static const int64_t greatest[ORDER] = {2500, 250};
+
+/* Whether halves are the numbers' own, rounded outward: the low one by at most 1/2 down, the high one by at most 1/2 up */
+static int rounded_outward(int64_t low, int64_t high, int64_t half_low, int64_t half_high)
+{
+    return 2 * half_low <= low && low <= 2 * half_low + 1 && 2 * half_high >= high && high >= 2 * half_high - 1;
+}
+
 /*
- * Whether halved sums are right for those before: M/2 is between the bounds for each M that was, by less than 1 more on either side; each x
- * within the greatest coefficients that had x'Mx + 2a'x = limit less some rest is within the limit still; and the limit is no greater than
- * the comment of halve says.
+ * Whether halved sums are right for those before: M/2 and a/2 are between the bounds for each M and a that were, by less than 1 more on
+ * either side; an x that had x'Mx + 2a'x = limit less some rest is within the limit still; and the limit is greater by at most 1/2.
  */
 static int halved_well(void)
 {
     struct sums sums, before;
-    int64_t matrix[ORDER * ORDER], x[ORDER], doubled[ORDER], taken = 0;
-    int corner = (int)between(0, 4), well = 1;
+    int64_t matrix[ORDER * ORDER], linear[ORDER], x[ORDER];
+    int well = 1;
     for (int k = 0; k < ORDER * ORDER; k++) {
         sums.low[k] = between(-(1 << 24), 1 << 24);
         sums.high[k] = sums.low[k] + between(0, 1000);
         matrix[k] = between(sums.low[k], sums.high[k]);
     }
     for (int k = 0; k < ORDER; k++) {
-        sums.linear[k] = between(-((int64_t)1 << 40), (int64_t)1 << 40);
-        x[k] = corner == 4 ? between(-greatest[k], greatest[k]) : corner >> k & 1 ? greatest[k] : -greatest[k];
-        taken += sums.linear[k] % 2 != 0 ? greatest[k] : 0;
+        sums.linear_low[k] = between(-((int64_t)1 << 40), (int64_t)1 << 40);
+        sums.linear_high[k] = sums.linear_low[k] + between(0, 1000);
+        linear[k] = between(sums.linear_low[k], sums.linear_high[k]);
+        x[k] = between(-greatest[k], greatest[k]);
     }
-    sums.limit = value(matrix, sums.linear, x) + between(0, 1);
+    sums.limit = value(matrix, linear, x) + between(0, 1);
     before = sums;
     halve(&sums);
-    for (int k = 0; k < ORDER * ORDER; k++) {
-        well = well && 2 * sums.low[k] <= before.low[k] && before.low[k] <= 2 * sums.low[k] + 1;
-        well = well && 2 * sums.high[k] >= before.high[k] && before.high[k] >= 2 * sums.high[k] - 1;
-    }
+    for (int k = 0; k < ORDER * ORDER; k++)
+        well = well && rounded_outward(before.low[k], before.high[k], sums.low[k], sums.high[k]);
     for (int k = 0; k < ORDER; k++)
-        doubled[k] = 2 * sums.linear[k];
-    return well && value(matrix, doubled, x) <= 2 * sums.limit && 2 * sums.limit <= before.limit + 2 * taken + 1;
+        well = well && rounded_outward(before.linear_low[k], before.linear_high[k], sums.linear_low[k], sums.linear_high[k]);
+    return well && value(matrix, linear, x) <= 2 * sums.limit && 2 * sums.limit <= before.limit + 1;
 }
 
 static void test_halving(void)
@@ -95,33 +102,41 @@ static int64_t boxed(const struct problem *problem, const int64_t *centre, int64
     uint8_t middle[HB_VECTOR_BYTES(ORDER)], found[HB_SIDES_BYTES(ORDER)] = {0};
     int64_t answer;
     store(middle, centre, ORDER);
-    answer = hb_box(ORDER, problem->low, sizeof problem->low, problem->high, sizeof problem->high, problem->linear, sizeof problem->linear,
-                    problem->limit, middle, sizeof middle, found, sizeof found);
+    answer = hb_box(ORDER, problem->low, sizeof problem->low, problem->high, sizeof problem->high, problem->linear_low,
+                    sizeof problem->linear_low, problem->linear_high, sizeof problem->linear_high, problem->limit, middle, sizeof middle,
+                    found, sizeof found);
     load(sides, found, 2 * ORDER);
     return answer;
 }
 
 /*
- * A season of rides with coefficients x, each energy off by noise at most. Returns how often its sums are halved, or -1 where there is no
- * box or x is not in it.
+ * A season of rides with coefficients x, each energy off by noise at most, and the true linear terms anywhere between their ends. Returns
+ * how often its sums are halved, or -1 where there is no box or x is not in it.
  */
 static int boxed_season(void)
 {
     const int64_t x[ORDER] = {between(300, 2400), between(10, 240)}, noise = between(1, 300);
+    const int64_t energy_slack = between(0, 50);
     int64_t count = between(4, 6) << between(0, 9), centre[ORDER], sides[2 * ORDER];
-    struct sums sums = {{0}, {0}, {0}, 0}, copy;
+    struct sums sums = {{0}, {0}, {0}, {0}, 0}, copy;
     struct problem problem;
     int halvings = 0;
     for (int64_t k = 0; k < count; k++) {
         struct ride ride = {{between(1, 40), between(0, 400)}, 0};
         ride.energy = ride.factors[0] * x[0] + ride.factors[1] * x[1] + between(-noise, noise);
-        gather(&sums, &ride, 1, 1, noise * noise);
+        gather(&sums, &ride, 1, 1, energy_slack, noise * noise);
+    }
+    for (int k = 0; k < ORDER; k++) {
+        int64_t shift = between(0, energy_slack * count);
+        sums.linear_low[k] += shift;
+        sums.linear_high[k] += shift;
     }
     for (copy = sums; !fits(&copy); halvings++)
         halve(&copy);
     store(problem.low, copy.low, ORDER * ORDER);
     store(problem.high, copy.high, ORDER * ORDER);
-    store(problem.linear, copy.linear, ORDER);
+    store(problem.linear_low, copy.linear_low, ORDER);
+    store(problem.linear_high, copy.linear_high, ORDER);
     problem.limit = copy.limit;
     solve_centre(&problem, centre);
     if (boxed(&problem, centre, sides) != HB_BOX)
@@ -197,7 +212,8 @@ static void test_width(void)
         draw(&bounds);
         store(problem.low, bounds.low, ORDER * ORDER);
         store(problem.high, bounds.high, ORDER * ORDER);
-        store(problem.linear, zeros, ORDER);
+        store(problem.linear_low, zeros, ORDER);
+        store(problem.linear_high, zeros, ORDER);
         problem.limit = 0;
         shown[0] = hb_judge(ORDER, problem.low, sizeof problem.low, problem.high, sizeof problem.high, factor, sizeof factor, vector,
                             sizeof vector) == HB_DEFINITE;
@@ -219,13 +235,16 @@ static void test_width(void)
     expect("none that is otherwise", -otherwise, 0);
 }
 
-/* A box is far exactly if for some k |Cc + a|(k), and half of the widths in row k times |c|, are above 2^20 together. */
+/*
+ * A box is far exactly if for some k |Cc + a|(k), half of the widths in row k times |c|, and half of the width of a(k) are above 2^20
+ * together; a is the middle of the linear terms.
+ */
 static void test_far(void)
 {
     int64_t far = 0, near = 0, otherwise = 0;
     for (int k = 0; k < 100000; k++) {
         const int64_t size = between(0, 2000), low[ORDER * ORDER] = {between(5000, 9000), 100, 100, between(5000, 9000)};
-        int64_t high[ORDER * ORDER], linear[ORDER], centre[ORDER], sides[2 * ORDER], greatest_twice = 0, answer;
+        int64_t high[ORDER * ORDER], linear_low[ORDER], linear_high[ORDER], centre[ORDER], sides[2 * ORDER], greatest_twice = 0, answer;
         struct problem problem;
         for (int i = 0; i < ORDER; i++) {
             centre[i] = between(-HB_CENTRE_RANGE, HB_CENTRE_RANGE);
@@ -238,13 +257,16 @@ static void test_far(void)
                 twice += (low[i * ORDER + j] + high[i * ORDER + j]) * centre[j];
                 width += (high[i * ORDER + j] - low[i * ORDER + j]) * magnitude(centre[j]);
             }
-            linear[i] = -twice / 2 + between(-1000, 1000);
-            twice = magnitude(twice + 2 * linear[i]) + width;
+            linear_low[i] = -twice / 2 + between(-1000, 1000);
+            linear_high[i] = linear_low[i] + between(0, size) * between(0, 1000);
+            width += linear_high[i] - linear_low[i];
+            twice = magnitude(twice + linear_low[i] + linear_high[i]) + width;
             greatest_twice = twice > greatest_twice ? twice : greatest_twice;
         }
         store(problem.low, low, ORDER * ORDER);
         store(problem.high, high, ORDER * ORDER);
-        store(problem.linear, linear, ORDER);
+        store(problem.linear_low, linear_low, ORDER);
+        store(problem.linear_high, linear_high, ORDER);
         problem.limit = 0;
         answer = boxed(&problem, centre, sides);
         far += answer == HB_REFUSED_FAR;
@@ -271,13 +293,13 @@ static void test_rides(void)
 {
     const struct ride rides[] = {{{10, 100}, 15000}, {{10, 10}, 15000}, {{10, 1}, 1310720}, {{1, 1}, 2000000000}};
     for (size_t k = 0; k < COUNT(rides); k++) {
-        struct sums sums = {{0}, {0}, {0}, 0};
+        struct sums sums = {{0}, {0}, {0}, {0}, 0};
         int64_t counts[4];
         count_rides(&rides[k], counts);
         for (int64_t ride = 0; ride < counts[3]; ride++)
-            gather(&sums, &rides[k], 1, 0, 0);
+            gather(&sums, &rides[k], 1, 0, 0, 0);
         expect("as many rides as are said fit", fits(&sums), 1);
-        gather(&sums, &rides[k], 1, 0, 0);
+        gather(&sums, &rides[k], 1, 0, 0, 0);
         expect("one more does not", !fits(&sums), 1);
     }
 }

@@ -21,7 +21,8 @@
 /* The numbers of a problem, where the processor stores the low byte first */
 struct problem {
     int64_t table[N * N];
-    int64_t linear[N];
+    int64_t linear_low[N];
+    int64_t linear_high[N];
     int64_t centre[N];
 };
 
@@ -51,7 +52,8 @@ static void call(const struct problem *problem, struct result *result)
                                   sizeof result->vector);
     result->answers[1] = hb_test_factor(N, table, size, table, size, bytes(result->factor), sizeof result->factor);
     result->answers[2] = hb_test_vector(N, table, size, table, size, bytes(result->vector), sizeof result->vector);
-    result->answers[3] = hb_box(N, table, size, table, size, bytes(problem->linear), sizeof problem->linear, 100000, bytes(problem->centre),
+    result->answers[3] = hb_box(N, table, size, table, size, bytes(problem->linear_low), sizeof problem->linear_low,
+                                bytes(problem->linear_high), sizeof problem->linear_high, 100000, bytes(problem->centre),
                                 sizeof problem->centre, (uint8_t *)result->sides, sizeof result->sides);
 }
 
@@ -89,7 +91,8 @@ static void make_problems(void)
             problems[1].table[i * N + j] = i == j ? 500000 : (i + j) % 2;
             problems[2].table[i * N + j] = 1;
         }
-        problems[0].linear[i] = -3000 * (i + 1);
+        problems[0].linear_low[i] = -3000 * (i + 1);
+        problems[0].linear_high[i] = -3000 * (i + 1) + 10 * i;
         problems[0].centre[i] = 3 * (i + 1);
     }
     problems[1].table[N * N - 1 - N - 1] = 1;

@@ -196,9 +196,11 @@ struct box_case {
     const char *what;
     int64_t n;
     int64_t table[ENTRIES];
-    int64_t linear[ORDER];
+    int64_t linear_low[ORDER];
+    int64_t linear_high[ORDER];
     int64_t limit;
     int64_t centre[ORDER];
+    size_t linear_high_len;
     size_t sides_len;
     int64_t expected;
     int64_t sides[2 * ORDER];
@@ -208,39 +210,53 @@ struct box_case {
 #define ROUND {5, 1, 1, 5}
 #define ZEROS {0, 0}
 
+/* The lengths of the high linear terms and of the sides */
+#define GOOD WHOLE_VECTOR, WHOLE_SIDES
+
 static const struct box_case box_cases[] = {
-    {"box of [5 1; 1 5] from (1, 0)", 2, ROUND, {1, 1}, 12, {1, 0}, WHOLE_SIDES, HB_BOX, {-4, 6, -4, 4}},
-    {"box of [4 0; 0 100]", 2, {4, 0, 0, 100}, ZEROS, 400, ZEROS, WHOLE_SIDES, HB_BOX, {-12, 12, -3, 3}},
-    {"box of limit 0", 2, ROUND, ZEROS, 0, ZEROS, WHOLE_SIDES, HB_BOX, {0, 0, 0, 0}},
-    {"box of limit -1", 2, ROUND, ZEROS, -1, ZEROS, WHOLE_SIDES, HB_EMPTY, {0}},
-    {"box of the least limit", 2, ROUND, ZEROS, -HB_LIMIT_RANGE, ZEROS, WHOLE_SIDES, HB_EMPTY, {0}},
-    {"box at order 0", 0, ROUND, ZEROS, 0, ZEROS, WHOLE_SIDES, HB_REFUSED_ORDER, {0}},
-    {"box at order 9", 9, ROUND, ZEROS, 0, ZEROS, WHOLE_SIDES, HB_REFUSED_ORDER, {0}},
-    {"box with sides one byte short", 2, ROUND, ZEROS, 0, ZEROS, WHOLE_SIDES - 1, HB_REFUSED_LENGTH, {0}},
-    {"box with sides one number long", 2, ROUND, ZEROS, 0, ZEROS, WHOLE_SIDES + HB_NUMBER_BYTES, HB_REFUSED_LENGTH, {0}},
-    {"box of an entry above the range", 2, {HB_ENTRY_RANGE + 1, 1, 1, 5}, ZEROS, 0, ZEROS, WHOLE_SIDES, HB_REFUSED_RANGE, {0}},
-    {"box of a linear term above the range", 2, ROUND, {0, HB_LINEAR_RANGE + 1}, 0, ZEROS, WHOLE_SIDES, HB_REFUSED_RANGE, {0}},
-    {"box of a limit above the range", 2, ROUND, ZEROS, HB_LIMIT_RANGE + 1, ZEROS, WHOLE_SIDES, HB_REFUSED_RANGE, {0}},
-    {"box of the least 64-bit limit", 2, ROUND, ZEROS, INT64_MIN, ZEROS, WHOLE_SIDES, HB_REFUSED_RANGE, {0}},
-    {"box from a centre beyond the range", 2, ROUND, ZEROS, 0, {0, -HB_CENTRE_RANGE - 1}, WHOLE_SIDES, HB_REFUSED_RANGE, {0}},
-    {"box of a lopsided table", 2, {5, 1, 2, 5}, ZEROS, 0, ZEROS, WHOLE_SIDES, HB_REFUSED_LOPSIDED, {0}},
-    {"box of [1 2; 2 1]", 2, {1, 2, 2, 1}, ZEROS, 0, ZEROS, WHOLE_SIDES, HB_REFUSED_FLAT, {0}},
-    {"box of the same, and far", 2, {1, 2, 2, 1}, {HB_LINEAR_RANGE, 0}, 0, ZEROS, WHOLE_SIDES, HB_REFUSED_FLAT, {0}},
-    {"box of a linear term at its end", 2, ROUND, {0, -HB_LINEAR_RANGE}, 0, ZEROS, WHOLE_SIDES, HB_REFUSED_FAR, {0}},
+    {"box of [5 1; 1 5] from (1, 0)", 2, ROUND, {1, 1}, {1, 1}, 12, {1, 0}, GOOD, HB_BOX, {-4, 6, -4, 4}},
+    {"box of [4 0; 0 100]", 2, {4, 0, 0, 100}, ZEROS, ZEROS, 400, ZEROS, GOOD, HB_BOX, {-12, 12, -3, 3}},
+    {"box of limit 0", 2, ROUND, ZEROS, ZEROS, 0, ZEROS, GOOD, HB_BOX, {0, 0, 0, 0}},
+    {"box of linear terms from -4 to 4 and 0", 2, {4, 0, 0, 4}, {-4, 0}, {4, 0}, 0, ZEROS, GOOD, HB_BOX, {-4, 4, -2, 2}},
+    {"box of linear terms from 4 to 8 and 0, from (-2, 0)", 2, {4, 0, 0, 4}, {4, 0}, {8, 0}, 0, {-2, 0}, GOOD, HB_BOX, {-7, 3, -3, 3}},
+    {"box of limit -1", 2, ROUND, ZEROS, ZEROS, -1, ZEROS, GOOD, HB_EMPTY, {0}},
+    {"box of limit -3 and linear terms from -1 to 1", 2, ROUND, {-1, -1}, {1, 1}, -3, ZEROS, GOOD, HB_EMPTY, {0}},
+    {"box of the least limit", 2, ROUND, ZEROS, ZEROS, -HB_LIMIT_RANGE, ZEROS, GOOD, HB_EMPTY, {0}},
+    {"box at order 0", 0, ROUND, ZEROS, ZEROS, 0, ZEROS, GOOD, HB_REFUSED_ORDER, {0}},
+    {"box at order 9", 9, ROUND, ZEROS, ZEROS, 0, ZEROS, GOOD, HB_REFUSED_ORDER, {0}},
+    {"box with sides one byte short", 2, ROUND, ZEROS, ZEROS, 0, ZEROS, WHOLE_VECTOR, WHOLE_SIDES - 1, HB_REFUSED_LENGTH, {0}},
+    {"box with sides one number long", 2, ROUND, ZEROS, ZEROS, 0, ZEROS, WHOLE_VECTOR, WHOLE_SIDES + 8, HB_REFUSED_LENGTH, {0}},
+    {"box with high terms one byte short", 2, ROUND, ZEROS, ZEROS, 0, ZEROS, WHOLE_VECTOR - 1, WHOLE_SIDES, HB_REFUSED_LENGTH, {0}},
+    {"box with no high terms", 2, ROUND, ZEROS, ZEROS, 0, ZEROS, 0, WHOLE_SIDES, HB_REFUSED_LENGTH, {0}},
+    {"box of an entry above the range", 2, {HB_ENTRY_RANGE + 1, 1, 1, 5}, ZEROS, ZEROS, 0, ZEROS, GOOD, HB_REFUSED_RANGE, {0}},
+    {"box of a low term below the range", 2, ROUND, {0, -HB_LINEAR_RANGE - 1}, ZEROS, 0, ZEROS, GOOD, HB_REFUSED_RANGE, {0}},
+    {"box of a high term above the range", 2, ROUND, ZEROS, {0, HB_LINEAR_RANGE + 1}, 0, ZEROS, GOOD, HB_REFUSED_RANGE, {0}},
+    {"box of a limit above the range", 2, ROUND, ZEROS, ZEROS, HB_LIMIT_RANGE + 1, ZEROS, GOOD, HB_REFUSED_RANGE, {0}},
+    {"box of the least 64-bit limit", 2, ROUND, ZEROS, ZEROS, INT64_MIN, ZEROS, GOOD, HB_REFUSED_RANGE, {0}},
+    {"box from a centre beyond the range", 2, ROUND, ZEROS, ZEROS, 0, {0, -HB_CENTRE_RANGE - 1}, GOOD, HB_REFUSED_RANGE, {0}},
+    {"box of a lopsided table", 2, {5, 1, 2, 5}, ZEROS, ZEROS, 0, ZEROS, GOOD, HB_REFUSED_LOPSIDED, {0}},
+    {"box of the same, the linear terms reversed", 2, {5, 1, 2, 5}, {0, 1}, ZEROS, 0, ZEROS, GOOD, HB_REFUSED_LOPSIDED, {0}},
+    {"box of reversed linear terms", 2, ROUND, {0, 1}, ZEROS, 0, ZEROS, GOOD, HB_REFUSED_REVERSED, {0}},
+    {"box of [1 2; 2 1]", 2, {1, 2, 2, 1}, ZEROS, ZEROS, 0, ZEROS, GOOD, HB_REFUSED_FLAT, {0}},
+    {"box of the same, and far", 2, {1, 2, 2, 1}, {HB_LINEAR_RANGE, 0}, {HB_LINEAR_RANGE, 0}, 0, ZEROS, GOOD, HB_REFUSED_FLAT, {0}},
+    {"box of the same, the linear terms reversed", 2, {1, 2, 2, 1}, {1, 0}, ZEROS, 0, ZEROS, GOOD, HB_REFUSED_REVERSED, {0}},
+    {"box of a low term at its end", 2, ROUND, {0, -HB_LINEAR_RANGE}, ZEROS, 0, ZEROS, GOOD, HB_REFUSED_FAR, {0}},
+    {"box of a high term at its end", 2, ROUND, ZEROS, {0, HB_LINEAR_RANGE}, 0, ZEROS, GOOD, HB_REFUSED_FAR, {0}},
 };
 
 static void run_box_case(const struct box_case *test)
 {
-    uint8_t low[1 + WHOLE], high[1 + WHOLE], linear[1 + WHOLE_VECTOR], centre[1 + WHOLE_VECTOR];
+    uint8_t low[1 + WHOLE], high[1 + WHOLE], linear_low[1 + WHOLE_VECTOR], linear_high[1 + WHOLE_VECTOR], centre[1 + WHOLE_VECTOR];
     uint8_t sides[1 + WHOLE_SIDES + HB_NUMBER_BYTES + 1];
     int64_t answer;
     store(low + 1, test->table, ENTRIES);
     store(high + 1, test->table, ENTRIES);
-    store(linear + 1, test->linear, ORDER);
+    store(linear_low + 1, test->linear_low, ORDER);
+    store(linear_high + 1, test->linear_high, ORDER);
     store(centre + 1, test->centre, ORDER);
     memset(sides, KEPT, sizeof sides);
-    answer = hb_box(test->n, low + 1, WHOLE, high + 1, WHOLE, linear + 1, WHOLE_VECTOR, test->limit, centre + 1, WHOLE_VECTOR, sides + 1,
-                    test->sides_len);
+    answer = hb_box(test->n, low + 1, WHOLE, high + 1, WHOLE, linear_low + 1, WHOLE_VECTOR, linear_high + 1, test->linear_high_len,
+                    test->limit, centre + 1, WHOLE_VECTOR, sides + 1, test->sides_len);
     expect(test->what, answer, test->expected);
     if (answer == HB_BOX) {
         expect("the sides are written", holds(sides + 1, test->sides, 2 * ORDER), 1);
@@ -250,25 +266,38 @@ static void run_box_case(const struct box_case *test)
     }
 }
 
-/* Case P of the rules as firmware would have it: one coefficient, 4 x^2 - 16 x <= 0, so x from 0 to 4, boxed from the centre 2. */
+/*
+ * Case P of the rules as firmware would have it: one coefficient, 4 x^2 - 16 x <= 0, so x from 0 to 4, boxed from the centre 2. With its
+ * linear term up to -4 the box is wider.
+ */
 static void run_box_of_order_1(void)
 {
-    const int64_t matrix[1] = {4}, linear[1] = {-8}, centre[1] = {2}, expected[2] = {-1, 5};
-    uint8_t table[HB_TABLE_BYTES(1)], terms[HB_VECTOR_BYTES(1)], middle[HB_VECTOR_BYTES(1)], sides[HB_SIDES_BYTES(1)];
-    uint8_t same[HB_TABLE_BYTES(1)];
+    const int64_t matrix[1] = {4}, linear[1] = {-8}, greater[1] = {-4}, centre[1] = {2}, expected[2] = {-1, 5}, wider[2] = {-3, 7};
+    uint8_t table[HB_TABLE_BYTES(1)], terms[HB_VECTOR_BYTES(1)], high_terms[HB_VECTOR_BYTES(1)], middle[HB_VECTOR_BYTES(1)];
+    uint8_t sides[HB_SIDES_BYTES(1)], same[HB_TABLE_BYTES(1)];
     store(table, matrix, 1);
     store(same, matrix, 1);
     store(terms, linear, 1);
     store(middle, centre, 1);
-    expect("case P", hb_box(1, table, sizeof table, same, sizeof same, terms, sizeof terms, 0, middle, sizeof middle, sides, sizeof sides), HB_BOX);
+    store(high_terms, linear, 1);
+    expect("case P",
+           hb_box(1, table, sizeof table, same, sizeof same, terms, sizeof terms, high_terms, sizeof high_terms, 0, middle, sizeof middle,
+                  sides, sizeof sides),
+           HB_BOX);
     expect("its side", holds(sides, expected, 2), 1);
+    store(high_terms, greater, 1);
+    expect("case P with a wide linear term",
+           hb_box(1, table, sizeof table, same, sizeof same, terms, sizeof terms, high_terms, sizeof high_terms, 0, middle, sizeof middle,
+                  sides, sizeof sides),
+           HB_BOX);
+    expect("its side", holds(sides, wider, 2), 1);
 }
 
 /* The words stand at their numbers, and there is one for each. */
 static void run_words(void)
 {
     static const char *const words[] = HB_REFUSAL_WORDS;
-    expect("one word for each number", (int64_t)(sizeof words / sizeof words[0]), HB_REFUSED_LONG + 1);
+    expect("one word for each number", (int64_t)(sizeof words / sizeof words[0]), HB_REFUSED_REVERSED + 1);
     expect("no word for 0", strcmp(words[0], ""), 0);
     expect("order", strcmp(words[HB_REFUSED_ORDER], "order"), 0);
     expect("length", strcmp(words[HB_REFUSED_LENGTH], "length"), 0);
@@ -285,12 +314,15 @@ static void run_words(void)
     expect("absent", strcmp(words[HB_REFUSED_ABSENT], "absent"), 0);
     expect("size", strcmp(words[HB_REFUSED_SIZE], "size"), 0);
     expect("long", strcmp(words[HB_REFUSED_LONG], "long"), 0);
+    expect("reversed", strcmp(words[HB_REFUSED_REVERSED], "reversed"), 0);
+    expect("its number", HB_REFUSED_REVERSED, 16);
 }
 
-/* One table may be lent as low and as high. */
+/* One table may be lent as low and as high, and one buffer as both ends of the linear terms. */
 static void run_one_table(void)
 {
     const int64_t numbers[ENTRIES] = ROUND, zeros[ORDER] = ZEROS, still[2 * ORDER] = {0, 0, 0, 0};
+    const int64_t ones[ORDER] = {1, 1}, unit[ORDER] = {1, 0}, around[2 * ORDER] = {-4, 6, -4, 4};
     uint8_t table[WHOLE], factor[WHOLE], vector[WHOLE_VECTOR], terms[WHOLE_VECTOR], middle[WHOLE_VECTOR], sides[WHOLE_SIDES];
     store(table, numbers, ENTRIES);
     store(terms, zeros, ORDER);
@@ -299,8 +331,17 @@ static void run_one_table(void)
     expect("test its factor", hb_test_factor(ORDER, table, WHOLE, table, WHOLE, factor, WHOLE), HB_ACCEPTED);
     store(vector, numbers, ORDER);
     expect("test a vector", hb_test_vector(ORDER, table, WHOLE, table, WHOLE, vector, WHOLE_VECTOR), HB_NO);
-    expect("box it", hb_box(ORDER, table, WHOLE, table, WHOLE, terms, WHOLE_VECTOR, 0, middle, WHOLE_VECTOR, sides, WHOLE_SIDES), HB_BOX);
+    expect("box it",
+           hb_box(ORDER, table, WHOLE, table, WHOLE, terms, WHOLE_VECTOR, terms, WHOLE_VECTOR, 0, middle, WHOLE_VECTOR, sides, WHOLE_SIDES),
+           HB_BOX);
     expect("its sides", holds(sides, still, 2 * ORDER), 1);
+    store(terms, ones, ORDER);
+    store(middle, unit, ORDER);
+    expect("box it from (1, 0)",
+           hb_box(ORDER, table, WHOLE, table, WHOLE, terms, WHOLE_VECTOR, terms, WHOLE_VECTOR, 12, middle, WHOLE_VECTOR, sides,
+                  WHOLE_SIDES),
+           HB_BOX);
+    expect("its sides", holds(sides, around, 2 * ORDER), 1);
 }
 
 /* The version's numbers and its string are one version. */
@@ -330,8 +371,8 @@ int main(void)
     expect("null buffers and order 0", hb_test_factor(0, NULL, 0, NULL, 0, NULL, 0), HB_REFUSED_ORDER);
     expect("null buffers of the judge", hb_judge(1, NULL, 0, NULL, 0, NULL, 0, NULL, 0), HB_REFUSED_LENGTH);
     expect("the same and order 9", hb_judge(9, NULL, 0, NULL, 0, NULL, 0, NULL, 0), HB_REFUSED_ORDER);
-    expect("null buffers of the box", hb_box(1, NULL, 0, NULL, 0, NULL, 0, 0, NULL, 0, NULL, 0), HB_REFUSED_LENGTH);
-    expect("the same and order -1", hb_box(-1, NULL, 0, NULL, 0, NULL, 0, 0, NULL, 0, NULL, 0), HB_REFUSED_ORDER);
+    expect("null buffers of the box", hb_box(1, NULL, 0, NULL, 0, NULL, 0, NULL, 0, 0, NULL, 0, NULL, 0), HB_REFUSED_LENGTH);
+    expect("the same and order -1", hb_box(-1, NULL, 0, NULL, 0, NULL, 0, NULL, 0, 0, NULL, 0, NULL, 0), HB_REFUSED_ORDER);
     printf("%d passed, %d failed\n", passed, failed);
     return failed != 0;
 }

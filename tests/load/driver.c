@@ -53,9 +53,9 @@
 #define BLOCK 120
 #define PROGRESS 10 /* seconds */
 
-/* Answers are -2 to 9, orders 1 to 8 or out of range (0). */
+/* Answers are -2 to 9, and 16, orders 1 to 8 or out of range (0). */
 #define LEAST (-2)
-#define ANSWERS 12
+#define ANSWERS (HB_REFUSED_REVERSED - LEAST + 1)
 #define ORDERS (HB_MAX_ORDER + 1)
 
 struct act {
@@ -76,7 +76,13 @@ static const struct act acts[LOAD_ACTS] = {
     [LOAD_TEST_FACTOR] = {"hb_test_factor",
                           {{HB_ACCEPTED, "accepted"}, {HB_NOT_ACCEPTED, "not accepted"}, REFUSED_1_TO_5, {HB_REFUSED_FACTOR, "factor"}}},
     [LOAD_TEST_VECTOR] = {"hb_test_vector", {{HB_YES, "yes"}, {HB_NO, "no"}, REFUSED_1_TO_5, {HB_REFUSED_VECTOR, "vector"}}},
-    [LOAD_BOX] = {"hb_box", {{HB_BOX, "box"}, {HB_EMPTY, "empty"}, REFUSED_1_TO_5, {HB_REFUSED_FLAT, "flat"}, {HB_REFUSED_FAR, "far"}}},
+    [LOAD_BOX] = {"hb_box",
+                  {{HB_BOX, "box"},
+                   {HB_EMPTY, "empty"},
+                   REFUSED_1_TO_5,
+                   {HB_REFUSED_REVERSED, "reversed"},
+                   {HB_REFUSED_FLAT, "flat"},
+                   {HB_REFUSED_FAR, "far"}}},
 };
 
 /* Calls by act, order and answer. */
@@ -214,7 +220,7 @@ static const char *fault(const struct place *place, const struct load_buffer *bu
 
 static int64_t answered(const struct load_call *call, const struct place *lent) {
     int64_t n = call->n;
-    const struct place *low = &lent[0], *high = &lent[1], *third = &lent[2], *fourth = &lent[3], *fifth = &lent[4];
+    const struct place *low = &lent[0], *high = &lent[1], *third = &lent[2], *fourth = &lent[3], *fifth = &lent[4], *sixth = &lent[5];
     switch (call->act) {
     case LOAD_JUDGE:
         return hb_judge(n, low->lent, low->length, high->lent, high->length, third->lent, third->length, fourth->lent, fourth->length);
@@ -223,8 +229,8 @@ static int64_t answered(const struct load_call *call, const struct place *lent) 
     case LOAD_TEST_VECTOR:
         return hb_test_vector(n, low->lent, low->length, high->lent, high->length, third->lent, third->length);
     default:
-        return hb_box(n, low->lent, low->length, high->lent, high->length, third->lent, third->length, call->limit, fourth->lent, fourth->length,
-                      fifth->lent, fifth->length);
+        return hb_box(n, low->lent, low->length, high->lent, high->length, third->lent, third->length, fourth->lent, fourth->length,
+                      call->limit, fifth->lent, fifth->length, sixth->lent, sixth->length);
     }
 }
 
@@ -233,7 +239,7 @@ static bool is_written(const struct load_call *call, size_t k) {
     if (call->act == LOAD_JUDGE) {
         return (call->answer == HB_DEFINITE && k == 2) || (call->answer == HB_NOT_DEFINITE && k == 3);
     }
-    return call->act == LOAD_BOX && call->answer == HB_BOX && k == 4;
+    return call->act == LOAD_BOX && call->answer == HB_BOX && k == 5;
 }
 
 /* Lends the buffers of a call; which of them are read-only. */

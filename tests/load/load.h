@@ -8,7 +8,7 @@
 enum { LOAD_JUDGE, LOAD_TEST_FACTOR, LOAD_TEST_VECTOR, LOAD_BOX, LOAD_ACTS };
 
 /* The most buffers that an act has. */
-#define LOAD_MOST 5
+#define LOAD_MOST 6
 
 /* A buffer: its bytes before the call and those expected after it. Both pointers are good if the length is 0 too, but have nothing to read. */
 struct load_buffer {

@@ -24,16 +24,18 @@ pub enum Detail {
 pub enum Kind {
     Low,
     High,
-    Linear,
+    LinearLow,
+    LinearHigh,
     Limit,
     Centre,
 }
 
 /// Every kind.
-pub const KINDS: [Kind; 5] = [
+pub const KINDS: [Kind; 6] = [
     Kind::Low,
     Kind::High,
-    Kind::Linear,
+    Kind::LinearLow,
+    Kind::LinearHigh,
     Kind::Limit,
     Kind::Centre,
 ];

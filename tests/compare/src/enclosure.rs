@@ -18,8 +18,10 @@ extern "C" {
         low_len: usize,
         high: *const u8,
         high_len: usize,
-        linear: *const u8,
-        linear_len: usize,
+        linear_low: *const u8,
+        linear_low_len: usize,
+        linear_high: *const u8,
+        linear_high_len: usize,
         limit: i64,
         centre: *const u8,
         centre_len: usize,
@@ -31,10 +33,10 @@ extern "C" {
 /// The box.
 pub const BOX: Act = Act {
     name: "hb_box",
-    answers: &[0, -1, 1, 2, 3, 4, 5, 8, 9],
+    answers: &[0, -1, 1, 2, 3, 4, 5, 16, 8, 9],
     // A table of order 1 is symmetric.
     not_at_order_1: &[5],
-    inputs: 4,
+    inputs: 5,
     limited: true,
     generate,
     reference,
@@ -47,16 +49,23 @@ fn generate(generator: &mut Generator) -> Call {
     Call {
         n: call.n,
         limit: call.limit,
-        buffers: vec![call.low, call.high, call.linear, call.centre, call.sides],
+        buffers: vec![
+            call.low,
+            call.high,
+            call.linear_low,
+            call.linear_high,
+            call.centre,
+            call.sides,
+        ],
     }
 }
 
 fn reference(call: &mut Call) -> Outcome {
     let (n, limit) = (call.n, call.limit);
-    let [low, high, linear, centre, sides] = &mut call.buffers[..] else {
-        unreachable!("the box has five buffers");
+    let [low, high, linear_low, linear_high, centre, sides] = &mut call.buffers[..] else {
+        unreachable!("the box has six buffers");
     };
-    let answer = enclosed(n, low, high, linear, limit, centre, sides);
+    let answer = enclosed(n, low, high, linear_low, linear_high, limit, centre, sides);
     Outcome {
         answer: enclosure_code(&answer),
         detail: match answer {
@@ -72,13 +81,14 @@ fn reference(call: &mut Call) -> Outcome {
 
 /// The kind of the numbers that are beyond their range, where it is one alone.
 fn beyond(call: &Call) -> Option<Kind> {
-    let [low, high, linear, centre, _] = &call.buffers[..] else {
-        unreachable!("the box has five buffers");
+    let [low, high, linear_low, linear_high, centre, _] = &call.buffers[..] else {
+        unreachable!("the box has six buffers");
     };
     let of_kinds = [
         (Kind::Low, numbers(low), ENTRY_RANGE),
         (Kind::High, numbers(high), ENTRY_RANGE),
-        (Kind::Linear, numbers(linear), LINEAR_RANGE),
+        (Kind::LinearLow, numbers(linear_low), LINEAR_RANGE),
+        (Kind::LinearHigh, numbers(linear_high), LINEAR_RANGE),
         (Kind::Limit, vec![call.limit], LIMIT_RANGE),
         (Kind::Centre, numbers(centre), CENTRE_RANGE),
     ];
@@ -91,11 +101,11 @@ fn beyond(call: &Call) -> Option<Kind> {
 }
 
 fn library(n: i64, limit: i64, lent: &[Lent]) -> i64 {
-    let [low, high, linear, centre, sides] = lent else {
-        unreachable!("the box has five buffers");
+    let [low, high, linear_low, linear_high, centre, sides] = lent else {
+        unreachable!("the box has six buffers");
     };
     // SAFETY: each pointer has its length in readable and writable bytes, and no
-    // two overlap.
+    // two overlap, unless both are of the low and the high end.
     unsafe {
         hb_box(
             n,
@@ -103,8 +113,10 @@ fn library(n: i64, limit: i64, lent: &[Lent]) -> i64 {
             low.length,
             high.pointer,
             high.length,
-            linear.pointer,
-            linear.length,
+            linear_low.pointer,
+            linear_low.length,
+            linear_high.pointer,
+            linear_high.length,
             limit,
             centre.pointer,
             centre.length,
@@ -119,8 +131,8 @@ fn confirm(after: &Call, answer: i64) {
     if answer != 0 {
         return;
     }
-    let [_, _, _, centre, sides] = &after.buffers[..] else {
-        unreachable!("the box has five buffers");
+    let [_, _, _, _, centre, sides] = &after.buffers[..] else {
+        unreachable!("the box has six buffers");
     };
     for (c, side) in numbers(centre).iter().zip(numbers(sides).chunks(2)) {
         assert_eq!(side[0] + side[1], 2 * c, "{after:?}");

@@ -5,7 +5,7 @@ use hankboulder_reference::problem::{
 };
 use hankboulder_reference::summary::{
     decode, problem_fields, write_summary, NUMBER_WIDTH, TABLE_WIDTH, TAG_CENTRE, TAG_HIGH,
-    TAG_LIMIT, TAG_LINEAR, TAG_LOW, TAG_ORDER,
+    TAG_LIMIT, TAG_LINEAR_HIGH, TAG_LINEAR_LOW, TAG_LOW, TAG_ORDER,
 };
 
 /// A whole file, with nothing that is refused, from the bytes of any other. The
@@ -21,11 +21,16 @@ pub fn repaired(file: &[u8]) -> Vec<u8> {
     let table = |tag| numbers(content(tag), TABLE_WIDTH, table_size(order), ENTRY_RANGE);
     let list = |tag, count, range| numbers(content(tag), NUMBER_WIDTH, count, range);
     let (low, high) = ordered(&table(TAG_LOW), &table(TAG_HIGH), order);
+    let (linear_low, linear_high) = sorted(
+        &list(TAG_LINEAR_LOW, order, LINEAR_RANGE),
+        &list(TAG_LINEAR_HIGH, order, LINEAR_RANGE),
+    );
     let mut fields = problem_fields(
         order as u8,
         &low,
         &high,
-        &list(TAG_LINEAR, order, LINEAR_RANGE),
+        &linear_low,
+        &linear_high,
         list(TAG_LIMIT, 1, LIMIT_RANGE)[0],
         &list(TAG_CENTRE, order, CENTRE_RANGE),
     );
@@ -67,8 +72,17 @@ fn ordered(low: &[i64], high: &[i64], order: usize) -> (Vec<i64>, Vec<i64>) {
         let (i, j) = (place / order, place % order);
         i.min(j) * order + i.max(j)
     };
-    let places = || (0..table_size(order)).map(upper);
-    let least = places().map(|place| low[place].min(high[place]));
-    let greatest = places().map(|place| low[place].max(high[place]));
+    let mirrored = |table: &[i64]| -> Vec<i64> {
+        let places = (0..table_size(order)).map(upper);
+        places.map(|place| table[place]).collect()
+    };
+    sorted(&mirrored(low), &mirrored(high))
+}
+
+/// The smaller of both numbers at each place, and the greater.
+fn sorted(low: &[i64], high: &[i64]) -> (Vec<i64>, Vec<i64>) {
+    let pairs = || low.iter().zip(high);
+    let least = pairs().map(|(l, h)| *l.min(h));
+    let greatest = pairs().map(|(l, h)| *l.max(h));
     (least.collect(), greatest.collect())
 }

@@ -20,7 +20,7 @@ impl Act {
         match self {
             Act::Judge => 2,
             Act::TestFactor | Act::TestVector => 3,
-            Act::Box => 4,
+            Act::Box => 5,
         }
     }
 }
@@ -59,8 +59,9 @@ impl Call {
                 let call = generator.box_call();
                 limit = call.limit;
                 let bounds = [call.low, call.high];
-                let others = [call.linear, call.centre, call.sides];
-                (call.n, bounds.into_iter().chain(others).collect())
+                let linear = [call.linear_low, call.linear_high];
+                let others = [call.centre, call.sides];
+                (call.n, [&bounds[..], &linear, &others].concat())
             }
         };
         Call {
@@ -81,8 +82,9 @@ impl Call {
             }
             (Act::TestFactor, [low, high, factor]) => entries::test_factor(n, low, high, factor),
             (Act::TestVector, [low, high, vector]) => entries::test_vector(n, low, high, vector),
-            (Act::Box, [low, high, linear, centre, sides]) => {
-                entries::enclose(n, low, high, linear, self.limit, centre, sides)
+            (Act::Box, [low, high, linear_low, linear_high, centre, sides]) => {
+                let limit = self.limit;
+                entries::enclose(n, low, high, linear_low, linear_high, limit, centre, sides)
             }
             _ => unreachable!("each act has its number of buffers"),
         }

@@ -13,7 +13,7 @@ use std::ptr;
 use source::Source;
 
 /// The most buffers that an act has.
-const MOST: usize = 5;
+const MOST: usize = 6;
 
 /// A buffer of a call.
 #[derive(Clone, Copy)]

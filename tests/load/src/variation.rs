@@ -9,6 +9,10 @@ use crate::call::{Act, Call};
 /// Low and high, the buffers that must be symmetric.
 const TABLES: usize = 2;
 
+/// The box's ends of the linear terms.
+const LINEAR_LOW: usize = 2;
+const LINEAR_HIGH: usize = 3;
+
 /// The call with a change: mostly of one number of its inputs, now and then of
 /// the order, of lengths, or of all bytes of an input.
 pub fn varied(call: &Call, random: &mut Random) -> Call {
@@ -60,7 +64,8 @@ fn change_length(call: &mut Call, random: &mut Random) {
 }
 
 /// Changes one number of an input, or the limit. In a table the mirrored entry
-/// is mostly changed with it, and sometimes those of the other table.
+/// is mostly changed with it, and sometimes those of the other table. Of a linear
+/// term both ends are sometimes changed.
 fn change_number(call: &mut Call, random: &mut Random) {
     let inputs = call.act.inputs();
     let choice = random.index(inputs + usize::from(call.act == Act::Box));
@@ -77,6 +82,14 @@ fn change_number(call: &mut Call, random: &mut Random) {
     let after = changed(before, random);
     write(&mut call.buffers[choice], place, after);
     if choice >= TABLES {
+        let end = call.act == Act::Box && [LINEAR_LOW, LINEAR_HIGH].contains(&choice);
+        if end && random.one_in(2) {
+            write(
+                &mut call.buffers[LINEAR_LOW + LINEAR_HIGH - choice],
+                place,
+                after,
+            );
+        }
         return;
     }
     let mirrored = mirrored(place, count);

@@ -7,11 +7,11 @@ use std::path::PathBuf;
 use hankboulder_reference::cases::bytes;
 use hankboulder_reference::generate::RawProblem;
 use hankboulder_reference::summary::{
-    encode, write_summary, MAX_FILE, TABLE_WIDTH, TAG_CENTRE, TAG_HIGH, TAG_LIMIT, TAG_LOW,
-    TAG_ORDER,
+    encode, write_summary, MAX_FILE, TABLE_WIDTH, TAG_CENTRE, TAG_HIGH, TAG_LIMIT, TAG_LINEAR_HIGH,
+    TAG_LINEAR_LOW, TAG_LOW, TAG_ORDER,
 };
 
-use crate::problem_file::{bounds, definite, fields, file, thin, wide, Fields};
+use crate::problem_file::{bounds, definite, ends, fields, file, thin, wide, Fields};
 
 /// A file of the folder. A name that begins with `refused-` goes on with the
 /// number.
@@ -97,6 +97,8 @@ fn cut_and_tag_refusals() -> Vec<Case> {
     let mut no_centre_and_long_order = good();
     no_centre_and_long_order.retain(|field| field.0 != TAG_CENTRE);
     set(&mut no_centre_and_long_order, TAG_ORDER, &[2, 0]);
+    // The file of the time before tag 07
+    let case_p = fields(&thin("[4]", &[-8], 0, &[2]));
     let mut past_the_end = write_summary(&good());
     past_the_end.pop();
     vec![
@@ -106,11 +108,16 @@ fn cut_and_tag_refusals() -> Vec<Case> {
         Case::new("refused-10-with-tag-ff-comes-before-11", followed_by("FF")),
         Case::new("refused-10-again-comes-before-12", followed_by("06 0100")),
         Case::new("refused-11-tag-00", followed_by("00 0000")),
-        Case::new("refused-11-tag-07", led_by("07 0100 02")),
+        Case::new("refused-11-tag-08", led_by("08 0100 02")),
         Case::new("refused-12-order-again", followed_by("01 0100 02")),
         Case::new("refused-12-then-cut", led_by("06 0000 06 0000 01 FFFF")),
+        Case::new("refused-12-linear-high-again", led_by("07 0000")),
         Case::new("refused-13-empty-file", vec![]),
         Case::new("refused-13-no-limit", write_summary(&no_limit)),
+        Case::new(
+            "refused-13-case-p-of-six-fields",
+            write_summary(&case_p[..6]),
+        ),
         Case::new(
             "refused-13-comes-before-14",
             write_summary(&no_centre_and_long_order),
@@ -144,13 +151,18 @@ fn size_refusals() -> Vec<Case> {
         Case::new("refused-14-high-of-order-1", with(TAG_HIGH, &low[..4])),
         Case::new("refused-14-centre-long", with(TAG_CENTRE, &[0; 17])),
         Case::new(
+            "refused-14-linear-high-short",
+            with(TAG_LINEAR_HIGH, &[0; 15]),
+        ),
+        Case::new("refused-14-linear-low-long", with(TAG_LINEAR_LOW, &[0; 24])),
+        Case::new(
             "refused-14-comes-before-3",
             write_summary(&beyond_and_short),
         ),
     ]
 }
 
-/// 3, 4 and 5
+/// 3, 4, 5 and 16
 fn entry_refusals() -> Vec<Case> {
     let changed = |name: &str, change: fn(&mut RawProblem)| {
         let mut problem = definite(2);
@@ -160,7 +172,12 @@ fn entry_refusals() -> Vec<Case> {
     vec![
         changed("refused-03-low-below", |p| p.low[3] = -(1 << 20) - 1),
         changed("refused-03-high-above", |p| p.high[0] = (1 << 20) + 1),
-        changed("refused-03-linear-above", |p| p.linear[1] = (1 << 36) + 1),
+        changed("refused-03-linear-low-above", |p| {
+            p.linear_low[1] = (1 << 36) + 1
+        }),
+        changed("refused-03-linear-high-below", |p| {
+            p.linear_high[0] = -(1 << 36) - 1
+        }),
         changed("refused-03-limit-below", |p| p.limit = -(1 << 54) - 1),
         changed("refused-03-centre-below", |p| p.centre[0] = -(1 << 12) - 1),
         changed("refused-03-comes-before-4-and-5", |p| {
@@ -173,6 +190,18 @@ fn entry_refusals() -> Vec<Case> {
         changed("refused-04-comes-before-5", |p| p.low[2] = p.high[2] + 1),
         changed("refused-05-low-lopsided", |p| p.low[1] -= 1),
         changed("refused-05-high-lopsided", |p| p.high[2] += 1),
+        changed("refused-05-comes-before-16", |p| {
+            p.low[1] -= 1;
+            p.linear_low[0] = p.linear_high[0] + 1;
+        }),
+        changed("refused-16-reversed", |p| {
+            p.linear_low[1] = p.linear_high[1] + 1;
+        }),
+        changed("refused-16-comes-before-the-box-is-flat", |p| {
+            p.low.fill(0);
+            p.high.fill(0);
+            p.linear_low[0] = p.linear_high[0] + 1;
+        }),
     ]
 }
 
@@ -251,6 +280,14 @@ fn boxes() -> Vec<Case> {
         Case::of(
             "sides-without-step-3",
             &thin(stepless, &[1, -2, 3], 100, &[0, 0, 0]),
+        ),
+        Case::of("sides-of-two-ends", &ends("[4]", (-4, 4), 0, 0)),
+        Case::of("sides-of-two-ends-of-case-p", &ends("[4]", (-8, -4), 0, 2)),
+        Case::of("sides-of-two-ends-mirrored", &ends("[4]", (4, 8), 0, -2)),
+        Case::of("definite-empty-for-both-ends", &ends("[4]", (-1, 1), -3, 0)),
+        Case::of(
+            "definite-box-refused-9-by-the-low-end",
+            &ends("[4]", (-(1 << 20) - 1, 0), 0, 0),
         ),
     ]);
     boxes

@@ -4,7 +4,7 @@ use std::collections::{BTreeMap, BTreeSet};
 use std::fmt;
 
 /// Every kind of output.
-pub const KINDS: [&str; 16] = [
+pub const KINDS: [&str; 17] = [
     "refused 1",
     "refused 3",
     "refused 4",
@@ -15,6 +15,7 @@ pub const KINDS: [&str; 16] = [
     "refused 13",
     "refused 14",
     "refused 15",
+    "refused 16",
     "definite; row; side",
     "definite; row; empty",
     "definite; row; box refused 8",

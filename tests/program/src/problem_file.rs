@@ -7,13 +7,15 @@ use hankboulder_reference::summary::{problem_fields, write_summary};
 /// The fields of a file in the order they stand: tag and content.
 pub type Fields = Vec<(u8, Vec<u8>)>;
 
-/// A problem whose bounds are written as in docs/RULES.md, such as `[2 1; 1 2]`.
+/// A problem whose bounds are written as in docs/RULES.md, such as `[2 1; 1 2]`,
+/// with equal ends of the linear terms.
 pub fn wide(low: &str, high: &str, linear: &[i64], limit: i64, centre: &[i64]) -> RawProblem {
     RawProblem {
         order: linear.len(),
         low: numbers(low),
         high: numbers(high),
-        linear: linear.to_vec(),
+        linear_low: linear.to_vec(),
+        linear_high: linear.to_vec(),
         limit,
         centre: centre.to_vec(),
     }
@@ -24,6 +26,14 @@ pub fn thin(matrix: &str, linear: &[i64], limit: i64, centre: &[i64]) -> RawProb
     wide(matrix, matrix, linear, limit, centre)
 }
 
+/// L = U of order 1, with two ends of the linear term.
+pub fn ends(matrix: &str, linear: (i64, i64), limit: i64, centre: i64) -> RawProblem {
+    RawProblem {
+        linear_high: vec![linear.1],
+        ..thin(matrix, &[linear.0], limit, &[centre])
+    }
+}
+
 /// Bounds alone: linear terms, limit and centre are 0.
 pub fn bounds(low: &str, high: &str) -> RawProblem {
     let order = numbers(low).len().isqrt();
@@ -31,8 +41,8 @@ pub fn bounds(low: &str, high: &str) -> RawProblem {
     wide(low, high, &zeros, 0, &zeros)
 }
 
-/// A definite problem of an order that has a box. L, U, a and c have entries of
-/// both signs, and no two rows are alike.
+/// A definite problem of an order that has a box. L, U, both ends of a, and c
+/// have entries of both signs, and no two rows are alike.
 pub fn definite(order: usize) -> RawProblem {
     let places = (0..order * order).map(|place| (place / order, place % order));
     let low = |(i, j): (usize, usize)| {
@@ -46,19 +56,21 @@ pub fn definite(order: usize) -> RawProblem {
         order,
         low: places.clone().map(low).collect(),
         high: places.map(high).collect(),
-        linear: indices.clone().map(|k| 7 - 3 * k).collect(),
+        linear_low: indices.clone().map(|k| 7 - 3 * k).collect(),
+        linear_high: indices.clone().map(|k| 40 - 5 * k).collect(),
         limit: 5000,
         centre: indices.map(|k| k % 3 - 1).collect(),
     }
 }
 
-/// The six fields of a problem, tags rising.
+/// The seven fields of a problem, tags rising.
 pub fn fields(problem: &RawProblem) -> Fields {
     problem_fields(
         problem.order as u8,
         &problem.low,
         &problem.high,
-        &problem.linear,
+        &problem.linear_low,
+        &problem.linear_high,
         problem.limit,
         &problem.centre,
     )

@@ -6,7 +6,9 @@ use hankboulder_compare::{bytes, numbers, Call, Detail};
 use hankboulder_reference::cases;
 use hankboulder_reference::random::Random;
 
-use crate::support::{beyond, box_call, square, CENTRE, ENTRY_RANGE, LINEAR, SIDES};
+use crate::support::{
+    beyond, box_call, square, CENTRE, ENTRY_RANGE, LINEAR_HIGH, LINEAR_LOW, SIDES,
+};
 
 const BOX_GIVEN: i64 = 0;
 const EMPTY: i64 = -1;
@@ -35,6 +37,12 @@ fn diagonal(order: usize, number: i64) -> Call {
 
 fn set(call: &mut Call, buffer: usize, k: usize, number: i64) {
     call.buffers[buffer][8 * k..][..8].copy_from_slice(&bytes(&[number]));
+}
+
+/// Sets both ends of a linear term.
+fn set_linear(call: &mut Call, k: usize, number: i64) {
+    set(call, LINEAR_LOW, k, number);
+    set(call, LINEAR_HIGH, k, number);
 }
 
 /// Fails where the library or the reference does not write these sides.
@@ -122,7 +130,11 @@ fn where_less_can_be_taken_off_one_entry_than_off_all() {
 #[test]
 fn refusal_3_at_every_linear_term_centre_entry_and_limit() {
     for order in 1..=8 {
-        for (buffer, range) in [(LINEAR, LINEAR_RANGE), (CENTRE, CENTRE_RANGE)] {
+        for (buffer, range) in [
+            (LINEAR_LOW, LINEAR_RANGE),
+            (LINEAR_HIGH, LINEAR_RANGE),
+            (CENTRE, CENTRE_RANGE),
+        ] {
             for (k, number) in (0..order).flat_map(|k| beyond(range).map(|number| (k, number))) {
                 let mut call = diagonal(order, 4);
                 set(&mut call, buffer, k, number);
@@ -141,12 +153,15 @@ fn the_ends_of_their_ranges_pass_3() {
     for (order, sign) in (1..=8).flat_map(|order| [(order, 1), (order, -1)]) {
         for k in 0..order {
             let mut call = diagonal(order, 4);
-            set(&mut call, LINEAR, k, sign * LINEAR_RANGE);
+            set_linear(&mut call, k, sign * LINEAR_RANGE);
+            expect(&call, REFUSED_FAR);
+            set(&mut call, LINEAR_LOW, k, -LINEAR_RANGE);
+            set(&mut call, LINEAR_HIGH, k, LINEAR_RANGE);
             expect(&call, REFUSED_FAR);
             // At the centre 2^12 with a = -4c the gradient is 0, and D = 4c².
             let mut call = diagonal(order, 4);
             set(&mut call, CENTRE, k, sign * CENTRE_RANGE);
-            set(&mut call, LINEAR, k, -4 * sign * CENTRE_RANGE);
+            set_linear(&mut call, k, -4 * sign * CENTRE_RANGE);
             assert_eq!(BOX.agree(&call, k).answer, BOX_GIVEN);
         }
         let mut call = diagonal(order, 4);
@@ -166,7 +181,7 @@ fn refusal_8_at_every_diagonal_entry() {
             }
             expect(&call, REFUSED_FLAT);
             // 8 comes before 9.
-            set(&mut call, LINEAR, k, LINEAR_RANGE);
+            set_linear(&mut call, k, LINEAR_RANGE);
             expect(&call, REFUSED_FLAT);
         }
     }
@@ -182,7 +197,7 @@ fn refusal_9_at_every_place() {
             (-GRADIENT_RANGE - 1, REFUSED_FAR),
         ] {
             let mut call = diagonal(order, 4);
-            set(&mut call, LINEAR, k, number);
+            set_linear(&mut call, k, number);
             assert_eq!(BOX.agree(&call, k).answer, answer);
             // 9 comes before 'empty'.
             call.limit = -LIMIT_RANGE;

@@ -6,5 +6,6 @@ mod boxes;
 mod generated;
 mod refusals;
 mod support;
+mod two_ends;
 mod vectors;
 mod verdicts;

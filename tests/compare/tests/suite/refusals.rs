@@ -1,11 +1,13 @@
 //! Refusals 1 to 5 of every act, and 6: each place, the ends of each range,
-//! empty and null buffers, and the order of all checks. Expected refusals are
+//! empty and null buffers, and the order of all checks, 16 among them. Expected refusals are
 //! literals; what is let through agrees with the reference.
 
 use hankboulder_compare::test_factor::TEST_FACTOR;
 use hankboulder_compare::{bytes, Call};
 
-use crate::support::{beyond, places, Caller, FactorTest, ACTS, ENTRY_RANGE, FACTOR_RANGE, LINEAR};
+use crate::support::{
+    beyond, places, Caller, FactorTest, ACTS, ENTRY_RANGE, FACTOR_RANGE, LINEAR_HIGH, LINEAR_LOW,
+};
 
 /// Every act refuses the bounds of a test, and writes nothing.
 fn expect_refused(test: &FactorTest, answer: i64) {
@@ -208,7 +210,16 @@ fn put_other_fault(call: &mut Call, fault: i64) {
         }
         // The vector
         7 => call.buffers[2].fill(0),
-        9 => call.buffers[LINEAR][..8].copy_from_slice(&bytes(&[ENTRY_RANGE + 1])),
+        // The first linear term is far, and the last one reversed.
+        9 => {
+            for end in [LINEAR_LOW, LINEAR_HIGH] {
+                call.buffers[end][..8].copy_from_slice(&bytes(&[ENTRY_RANGE + 1]));
+            }
+        }
+        16 => {
+            let last = call.buffers[LINEAR_LOW].len() - 8;
+            call.buffers[LINEAR_LOW][last..].copy_from_slice(&bytes(&[1]));
+        }
         _ => {}
     }
 }

@@ -5,6 +5,7 @@ use hankboulder_compare::judge::JUDGE;
 use hankboulder_compare::test_factor::TEST_FACTOR;
 use hankboulder_compare::test_vector::TEST_VECTOR;
 use hankboulder_compare::{bytes, Act, Call};
+use hankboulder_reference::generate::RawProblem;
 use hankboulder_reference::random::Random;
 
 pub const ENTRY_RANGE: i64 = 1 << 20;
@@ -75,18 +76,37 @@ pub fn judge_call(low: &[i64], high: &[i64]) -> Call {
 }
 
 /// The places of the box's buffers after the bounds
-pub const LINEAR: usize = 2;
-pub const CENTRE: usize = 3;
-pub const SIDES: usize = 4;
+pub const LINEAR_LOW: usize = 2;
+pub const LINEAR_HIGH: usize = 3;
+pub const CENTRE: usize = 4;
+pub const SIDES: usize = 5;
 
-/// A call of the box, whose sides hold random bytes.
+/// A call of the box with equal ends, whose sides hold random bytes.
 pub fn box_call(low: &[i64], high: &[i64], linear: &[i64], limit: i64, centre: &[i64]) -> Call {
-    let order = linear.len();
-    let sides = Random::new(order as u64).bytes(16 * order);
-    let others = [bytes(linear), bytes(centre), sides];
-    Call {
+    problem_call(&RawProblem {
+        order: linear.len(),
+        low: low.to_vec(),
+        high: high.to_vec(),
+        linear_low: linear.to_vec(),
+        linear_high: linear.to_vec(),
         limit,
-        ..call_on(low, high, &others)
+        centre: centre.to_vec(),
+    })
+}
+
+/// A call of the box of a problem, whose sides hold random bytes.
+pub fn problem_call(problem: &RawProblem) -> Call {
+    let order = problem.order;
+    let sides = Random::new(order as u64).bytes(16 * order);
+    let others = [
+        bytes(&problem.linear_low),
+        bytes(&problem.linear_high),
+        bytes(&problem.centre),
+        sides,
+    ];
+    Call {
+        limit: problem.limit,
+        ..call_on(&problem.low, &problem.high, &others)
     }
 }
 

@@ -3,11 +3,12 @@
 
 use hankboulder_program::problem_file::{definite, fields, Fields};
 use hankboulder_reference::summary::{
-    encode, write_summary, TAG_CENTRE, TAG_HIGH, TAG_LIMIT, TAG_LINEAR, TAG_LOW, TAG_ORDER,
+    encode, write_summary, TAG_CENTRE, TAG_HIGH, TAG_LIMIT, TAG_LINEAR_HIGH, TAG_LINEAR_LOW,
+    TAG_LOW, TAG_ORDER,
 };
 
 use crate::support::Refused;
-use Fault::{Absent, Crossed, Cut, Lopsided, Order, PastEnd, Range, Size, Tag, Twice};
+use Fault::{Absent, Crossed, Cut, Lopsided, Order, PastEnd, Range, Reversed, Size, Tag, Twice};
 
 /// A fault of a field.
 #[derive(Clone, Copy, Debug, PartialEq, Eq)]
@@ -32,6 +33,8 @@ pub enum Fault {
     Crossed,
     /// The first entry of the second row is another than its mirror image.
     Lopsided,
+    /// The last term of the low end is above that of the high end.
+    Reversed,
 }
 
 /// A fault of the field of a tag.
@@ -50,6 +53,7 @@ impl Fault {
             Twice => 12,
             Absent => 13,
             Size(_) => 14,
+            Reversed => 16,
         }
     }
 
@@ -65,6 +69,7 @@ impl Fault {
             Range(_) => 5,
             Crossed => 6,
             Lopsided => 7,
+            Reversed => 8,
         };
         (stage, 0, self.number())
     }
@@ -91,6 +96,8 @@ pub struct Draft {
 
 /// The greatest entry of a table
 const ENTRY: i64 = 1 << 20;
+/// The greatest linear term
+const LINEAR: i64 = 1 << 36;
 
 /// Bytes of an entry in the field of a tag.
 fn width(tag: u8) -> usize {
@@ -106,7 +113,7 @@ pub fn beyond(tag: u8) -> Vec<i64> {
     let near = |range: i64| [-range - 1, range + 1];
     let (near, ends) = match tag {
         TAG_LOW | TAG_HIGH => (near(ENTRY), [i32::MIN.into(), i32::MAX.into()]),
-        TAG_LINEAR => (near(1 << 36), [i64::MIN, i64::MAX]),
+        TAG_LINEAR_LOW | TAG_LINEAR_HIGH => (near(LINEAR), [i64::MIN, i64::MAX]),
         TAG_LIMIT => (near(1 << 54), [i64::MIN, i64::MAX]),
         TAG_CENTRE => (near(1 << 12), [i64::MIN, i64::MAX]),
         _ => return vec![],
@@ -126,6 +133,11 @@ pub fn put(drafts: &mut Vec<Draft>, (of, fault): FieldFault) {
     let draft = &mut drafts[place];
     let entries = draft.content.len() / width(of);
     let end = if of == TAG_LOW { ENTRY } else { -ENTRY };
+    let far = if of == TAG_LINEAR_LOW {
+        LINEAR
+    } else {
+        -LINEAR
+    };
     match fault {
         Cut(count) => draft.head = Head::CutAfter(count),
         PastEnd(by) => draft.head = Head::PastEndBy(by),
@@ -143,6 +155,7 @@ pub fn put(drafts: &mut Vec<Draft>, (of, fault): FieldFault) {
         Range(number) => set_entry(draft, 0, number),
         Crossed => set_entry(draft, entries - 1, end),
         Lopsided => set_entry(draft, entries.isqrt(), -end),
+        Reversed => set_entry(draft, entries - 1, far),
     }
 }
 

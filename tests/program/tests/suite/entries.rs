@@ -1,4 +1,4 @@
-//! Refusals 1, 3, 4, 5, 11 and 14 at every number of a file: each entry, each
+//! Refusals 1, 3, 4, 5, 11, 14 and 16 at every number of a file: each entry, each
 //! order, each tag and each length.
 
 use hankboulder_program::problem_file::{definite, fields, file};
@@ -20,7 +20,8 @@ fn numbers(problem: &mut RawProblem) -> Vec<(&mut i64, i64)> {
     }
     each(&mut problem.low, ENTRY)
         .chain(each(&mut problem.high, ENTRY))
-        .chain(each(&mut problem.linear, LINEAR))
+        .chain(each(&mut problem.linear_low, LINEAR))
+        .chain(each(&mut problem.linear_high, LINEAR))
         .chain([(&mut problem.limit, LIMIT)])
         .chain(each(&mut problem.centre, CENTRE))
         .collect()
@@ -88,6 +89,20 @@ fn refusal_5_at_every_entry_off_the_diagonal() {
     }
 }
 
+#[test]
+fn refusal_16_at_every_term() {
+    let mut files = vec![];
+    for (order, k) in (1..=8).flat_map(|order| (0..order).map(move |k| (order, k))) {
+        for (least, most) in [(1, 0), (-4, -5), (LINEAR, -LINEAR)] {
+            let mut problem = definite(order);
+            problem.linear_low[k] = least;
+            problem.linear_high[k] = most;
+            files.push(file(&problem));
+        }
+    }
+    expect_all_refused(files, 16);
+}
+
 /// The file of a problem of an order with another content for a tag.
 fn with(order: usize, tag: u8, content: Vec<u8>) -> Vec<u8> {
     let mut fields = fields(&definite(order));
@@ -104,8 +119,8 @@ fn refusal_1_of_every_other_n() {
 #[test]
 fn refusal_11_of_every_other_tag() {
     let mut files = vec![];
-    for tag in (0..=255).filter(|tag| !(1..=6).contains(tag)) {
-        for place in [0, 6] {
+    for tag in (0..=255).filter(|tag| !(1..=7).contains(tag)) {
+        for place in [0, 7] {
             let mut fields = fields(&definite(2));
             fields.insert(place, (tag, vec![]));
             files.push(write_summary(&fields));

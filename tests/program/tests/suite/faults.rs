@@ -5,18 +5,21 @@ use hankboulder_program::problem_file::{definite, fields, file};
 use hankboulder_program::Program;
 use hankboulder_reference::program::output;
 use hankboulder_reference::summary::{
-    write_summary, MAX_FILE, TAG_CENTRE, TAG_HIGH, TAG_LOW, TAG_ORDER,
+    write_summary, MAX_FILE, TAG_HIGH, TAG_LINEAR_HIGH, TAG_LINEAR_LOW, TAG_LOW, TAG_ORDER,
 };
 
 use crate::drafts::Fault::{
-    self, Absent, Crossed, Cut, Lopsided, Order, PastEnd, Range, Size, Tag, Twice,
+    self, Absent, Crossed, Cut, Lopsided, Order, PastEnd, Range, Reversed, Size, Tag, Twice,
 };
 use crate::drafts::{arranged, beyond, faulty, put, written, FieldFault};
 use crate::support::{expect_refused, Refused};
 
+/// How many fields a file has.
+const FIELDS: usize = 7;
+
 /// Faults of the field of a tag: of each kind one.
 fn kinds_of_fault(tag: u8) -> Vec<Fault> {
-    let mut faults = vec![Cut(1), PastEnd(1), Tag(7), Twice, Absent, Size(1)];
+    let mut faults = vec![Cut(1), PastEnd(1), Tag(8), Twice, Absent, Size(1)];
     if tag == TAG_ORDER {
         faults.push(Order(9));
     } else {
@@ -24,6 +27,9 @@ fn kinds_of_fault(tag: u8) -> Vec<Fault> {
     }
     if [TAG_LOW, TAG_HIGH].contains(&tag) {
         faults.extend([Crossed, Lopsided]);
+    }
+    if [TAG_LINEAR_LOW, TAG_LINEAR_HIGH].contains(&tag) {
+        faults.push(Reversed);
     }
     faults
 }
@@ -35,14 +41,14 @@ fn faults_of_each_kind() -> impl Iterator<Item = FieldFault> {
             .into_iter()
             .map(move |fault| (tag, fault))
     };
-    (TAG_ORDER..=TAG_CENTRE).flat_map(faults)
+    (TAG_ORDER..=TAG_LINEAR_HIGH).flat_map(faults)
 }
 
 /// Faults of the field of a tag: many of each kind.
 fn faults_of(tag: u8) -> Vec<Fault> {
     let mut faults = kinds_of_fault(tag);
     faults.extend([Cut(2), PastEnd(2), PastEnd(256), PastEnd(0xFFFF)]);
-    faults.extend([0, 8, 0x10, 0x80 | tag, 0xFF].map(Tag));
+    faults.extend([0, 9, 0x10, 0x80 | tag, 0xFF].map(Tag));
     faults.extend([-1, -1000, 2, 4, 8, 256].map(Size));
     if tag == TAG_ORDER {
         faults.extend([0, 10, 0x82, 255].map(Order));
@@ -53,7 +59,7 @@ fn faults_of(tag: u8) -> Vec<Fault> {
 
 /// Every tag with every place.
 fn tags_and_places() -> impl Iterator<Item = (u8, usize)> {
-    (TAG_ORDER..=TAG_CENTRE).flat_map(|tag| (0..6).map(move |place| (tag, place)))
+    (TAG_ORDER..=TAG_LINEAR_HIGH).flat_map(|tag| (0..FIELDS).map(move |place| (tag, place)))
 }
 
 #[test]
@@ -77,7 +83,7 @@ fn pairs() -> impl Iterator<Item = (FieldFault, FieldFault)> {
 fn two_faults_of_two_fields_in_both_orders() {
     let mut files = vec![];
     for (first, second) in pairs().filter(|(first, second)| first.0 != second.0) {
-        for places in [(0, 1), (1, 4), (4, 5)] {
+        for places in [(0, 1), (1, 4), (5, 6)] {
             let drafts = arranged(2, &[(first.0, places.0), (second.0, places.1)]);
             files.push(faulty(drafts, &[first, second]));
         }
@@ -92,7 +98,7 @@ fn two_faults_of_one_field() {
     // A field that is left out has no other fault.
     let pairs = pairs.filter(|(first, second)| ![first.1, second.1].contains(&Absent));
     for (first, second) in pairs.filter(|(first, second)| first.1.number() < second.1.number()) {
-        for place in 0..6 {
+        for place in 0..FIELDS {
             files.push(faulty(arranged(2, &[(first.0, place)]), &[first, second]));
         }
     }
@@ -103,8 +109,8 @@ fn two_faults_of_one_field() {
 fn a_field_with_the_tag_of_an_earlier_one_is_12() {
     let good = fields(&definite(2));
     let mut files = vec![];
-    for turn in 0..6 {
-        for (earlier, later) in (1..6).flat_map(|later| (0..later).map(move |e| (e, later))) {
+    for turn in 0..FIELDS {
+        for (earlier, later) in (1..FIELDS).flat_map(|later| (0..later).map(move |e| (e, later))) {
             let mut fields = good.clone();
             fields.rotate_left(turn);
             fields[later].0 = fields[earlier].0;
@@ -125,7 +131,8 @@ fn a_length_that_reaches_the_end_is_not_cut() {
     for (tag, place) in tags_and_places() {
         let mut drafts = arranged(2, &[(tag, place)]);
         put(&mut drafts, (tag, PastEnd(0)));
-        let text = if place == 5 { &good } else { "refused 13\n" };
+        let last = place == FIELDS - 1;
+        let text = if last { &good } else { "refused 13\n" };
         program.expect(&written(&drafts), text);
     }
 }
@@ -134,7 +141,7 @@ fn a_length_that_reaches_the_end_is_not_cut() {
 fn every_shorter_part_of_a_file_is_10_or_13() {
     let good = fields(&definite(2));
     let file = write_summary(&good);
-    let starts: Vec<usize> = (0..6)
+    let starts: Vec<usize> = (0..FIELDS)
         .map(|count| write_summary(&good[..count]).len())
         .collect();
     let number = |length: &usize| if starts.contains(length) { 13 } else { 10 };
@@ -147,7 +154,8 @@ fn every_shorter_part_of_a_file_is_10_or_13() {
 fn a_file_of_more_than_4096_bytes_is_15_whatever_its_faults() {
     let mut files = vec![];
     for (tag, fault) in faults_of_each_kind() {
-        let (file, _) = faulty(arranged(2, &[(tag, 5)]), &[(tag, fault)]);
+        let last = FIELDS - 1;
+        let (file, _) = faulty(arranged(2, &[(tag, last)]), &[(tag, fault)]);
         for size in [MAX_FILE + 1, MAX_FILE + 2, 2 * MAX_FILE, 1 << 16] {
             let mut long = file.clone();
             long.resize(size, tag);
@@ -158,7 +166,7 @@ fn a_file_of_more_than_4096_bytes_is_15_whatever_its_faults() {
         let other = if tag == TAG_ORDER { TAG_LOW } else { TAG_ORDER };
         let missing = (MAX_FILE - file.len()) as isize;
         for (more, long) in [(missing, None), (missing + 1, Some(15))] {
-            let drafts = arranged(2, &[(other, 0), (tag, 5)]);
+            let drafts = arranged(2, &[(other, 0), (tag, last)]);
             let (file, number) = faulty(drafts, &[(other, Size(more)), (tag, fault)]);
             assert_eq!(file.len() > MAX_FILE, long.is_some());
             files.push((file, long.unwrap_or(number)));

@@ -119,7 +119,7 @@ fn refusal(file: &[u8]) -> Option<u8> {
 
 /// Whether a file has a problem, though its numbers may be refused.
 fn has_problem(file: &[u8]) -> bool {
-    refusal(file).is_none_or(|number| (3..=5).contains(&number))
+    refusal(file).is_none_or(|number| [3, 4, 5, 16].contains(&number))
 }
 
 /// The file with its fields in rising order.
@@ -203,20 +203,26 @@ fn the_parts_of_a_text_may_stand_in_any_order() {
     let shown = run("show", &made.printed);
     let expected = "order 2\nmatrix\n4 1\n1 4\nlinear 1 -1\nlimit 7\ncentre 0 0\n";
     assert_eq!(shown.text(), expected);
+    let ends = text.replace("linear 1 -1", "linear_high 1 0\nlinear_low 1 -1");
+    let made = run("make", format!("order 2\n{ends}").as_bytes());
+    assert_eq!(made.message, "");
+    let shown = run("show", &made.printed);
+    let expected = expected.replace("linear 1 -1", "linear_low 1 -1\nlinear_high 1 0");
+    assert_eq!(shown.text(), expected);
 }
 
 /// Texts with a fault, and the message.
-const WRONG_TEXTS: [(&str, &str); 19] = [
+const WRONG_TEXTS: [(&str, &str); 22] = [
     ("order 1\nlimit 123456789012345678901\n", "line 2: a number of 21 places fits no field of the file"),
-        ("", "line 1: the text ends without 'order' and 'low' and 'high' and 'linear' and 'limit' and 'centre'"),
-        ("order 2\n# nothing\n", "line 2: the text ends without 'low' and 'high' and 'linear' and 'limit' and 'centre'"),
+        ("", "line 1: the text ends without 'order' and 'low' and 'high' and 'linear_low' and 'limit' and 'centre' and 'linear_high'"),
+        ("order 2\n# nothing\n", "line 2: the text ends without 'low' and 'high' and 'linear_low' and 'limit' and 'centre' and 'linear_high'"),
         ("limit 1\norder 1\n", "line 1: 'order' has to come before 'limit'"),
         ("order 9\n", "line 1: the order is from 1 to 8, not 9"),
         ("order\n", "line 1: 'order' has 1 number, and here are 0"),
         ("order 2 2\n", "line 1: 'order' has 1 number, and here are 2"),
         ("order two\n", "line 1: 'two' is not a whole number"),
         ("order 1\n\nlimit 1.5\n", "line 3: '1.5' is not a whole number"),
-        ("order 1\nlimits 1\n", "line 2: 'limits' is none of order, low, high, linear, limit, centre and matrix"),
+        ("order 1\nlimits 1\n", "line 2: 'limits' is none of order, low, high, linear_low, limit, centre, linear_high, matrix and linear"),
         ("order 2\nlow\n4 1\n# here\n1\n", "line 5: row 2 of 'low' has 2 numbers, and here are 1"),
         ("order 2\nlow 4 1\n1 4\n", "line 2: the rows of 'low' start in the next line"),
         ("order 2\nlow\n4 1\nhigh\n4 1\n1 4\n", "line 2: 'low' has 2 rows, but 'high' follows in line 4 after 1"),
@@ -226,6 +232,9 @@ const WRONG_TEXTS: [(&str, &str); 19] = [
         ("order 1\nlow\n2147483648\n", "line 3: 2147483648 does not fit the 4 bytes that the file has for it"),
         ("order 1\nlimit -9223372036854775809\n", "line 2: -9223372036854775809 does not fit the 8 bytes that the file has for it"),
         ("order 2\nlinear 1\n", "line 2: 'linear' has 2 numbers, and here are 1"),
+        ("order 2\nlinear_high 1 2 3\n", "line 2: 'linear_high' has 2 numbers, and here are 3"),
+        ("order 1\nlinear_high 1\nlinear 1\n", "line 3: 'linear_high' is given a second time"),
+        ("order 1\nmatrix\n4\nlinear_low 1\nlimit 0\ncentre 0\n", "line 6: the text ends without 'linear_high'"),
 ];
 
 #[test]
