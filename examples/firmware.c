@@ -39,16 +39,18 @@ struct ride {
 struct sums {
     int64_t low[ORDER * ORDER];
     int64_t high[ORDER * ORDER];
-    int64_t linear[ORDER];
+    int64_t linear_low[ORDER];
+    int64_t linear_high[ORDER];
     int64_t limit;
 };
 
 /*
  * Adds rides to the sums, for every x with which the squares of the rides' errors, energy - factors'x, add up to at most allowed.
  * Multiplied out that is x'Mx + 2a'x <= limit: M is the sum of the products of a ride's factors, a that of -energy * factors, and limit is
- * allowed less that of energy^2. A product of two factors may be up to slack more than was measured; the others are taken as they are.
+ * allowed less that of energy^2. A product of two factors may be up to slack more than was measured, and one of energy and a factor up to
+ * energy_slack more.
  */
-static void gather(struct sums *sums, const struct ride *rides, size_t count, int64_t slack, int64_t allowed)
+static void gather(struct sums *sums, const struct ride *rides, size_t count, int64_t slack, int64_t energy_slack, int64_t allowed)
 {
     sums->limit += allowed;
     for (size_t k = 0; k < count; k++) {
@@ -58,16 +60,15 @@ static void gather(struct sums *sums, const struct ride *rides, size_t count, in
                 sums->low[i * ORDER + j] += product;
                 sums->high[i * ORDER + j] += product + slack;
             }
-            sums->linear[i] -= rides[k].energy * rides[k].factors[i];
+            int64_t term = rides[k].energy * rides[k].factors[i];
+            sums->linear_low[i] -= term + energy_slack;
+            sums->linear_high[i] -= term;
         }
         sums->limit -= rides[k].energy * rides[k].energy;
     }
 }
 
 /* part: coarsen */
-/* What no coefficient is beyond, either way: 25 Wh for a kilometre, and 2.5 Wh for a metre climbed */
-static const int64_t greatest[ORDER] = {2500, 250};
-
 /* Half of a number, rounded down and rounded up */
 static int64_t half_down(int64_t number)
 {
@@ -80,9 +81,8 @@ static int64_t half_up(int64_t number)
 }
 
 /*
- * Halves the sums, so that no coefficients are lost: x'Mx + 2a'x <= limit becomes x'(M/2)x + 2(a/2)'x <= limit/2. low is rounded down and
- * high up, so M/2 is between them. Where a linear term is odd, its half is rounded down by 1/2, which makes 2(a/2)'x greater by at most the
- * greatest magnitude that this coefficient has: the limit takes that up.
+ * Halves the sums, so that no coefficients are lost: x'Mx + 2a'x <= limit becomes x'(M/2)x + 2(a/2)'x <= limit/2. Lows are rounded down,
+ * highs and the limit up: so M/2 is between the tables, and a/2 between the ends of the linear terms.
  */
 static void halve(struct sums *sums)
 {
@@ -92,9 +92,8 @@ static void halve(struct sums *sums)
         sums->high[k] = half_up(sums->high[k]);
     }
     for (int k = 0; k < ORDER; k++) {
-        if (sums->linear[k] & 1)
-            sums->limit += greatest[k];
-        sums->linear[k] = half_down(sums->linear[k]);
+        sums->linear_low[k] = half_down(sums->linear_low[k]);
+        sums->linear_high[k] = half_up(sums->linear_high[k]);
     }
 }
 
@@ -111,14 +110,16 @@ static int within(const int64_t *numbers, size_t count, int64_t range)
 static int fits(const struct sums *sums)
 {
     return within(sums->low, ORDER * ORDER, HB_ENTRY_RANGE) && within(sums->high, ORDER * ORDER, HB_ENTRY_RANGE) &&
-           within(sums->linear, ORDER, HB_LINEAR_RANGE) && within(&sums->limit, 1, HB_LIMIT_RANGE);
+           within(sums->linear_low, ORDER, HB_LINEAR_RANGE) && within(sums->linear_high, ORDER, HB_LINEAR_RANGE) &&
+           within(&sums->limit, 1, HB_LIMIT_RANGE);
 }
 
 /* What the library is asked about, in its own bytes but for the limit */
 struct problem {
     uint8_t low[HB_TABLE_BYTES(ORDER)];
     uint8_t high[HB_TABLE_BYTES(ORDER)];
-    uint8_t linear[HB_VECTOR_BYTES(ORDER)];
+    uint8_t linear_low[HB_VECTOR_BYTES(ORDER)];
+    uint8_t linear_high[HB_VECTOR_BYTES(ORDER)];
     int64_t limit;
 };
 
@@ -132,7 +133,8 @@ static void pack(struct problem *problem, struct sums sums)
         printf("  halvings: %d\n", halvings);
     store(problem->low, sums.low, ORDER * ORDER);
     store(problem->high, sums.high, ORDER * ORDER);
-    store(problem->linear, sums.linear, ORDER);
+    store(problem->linear_low, sums.linear_low, ORDER);
+    store(problem->linear_high, sums.linear_high, ORDER);
     problem->limit = sums.limit;
 }
 
@@ -153,6 +155,9 @@ static void log_refusal(const char *function, int64_t number)
     case HB_REFUSED_CROSSED:
     case HB_REFUSED_LOPSIDED:
         remedy = "the tables are damaged, gather anew";
+        break;
+    case HB_REFUSED_REVERSED:
+        remedy = "the linear terms are damaged, gather anew";
         break;
     case HB_REFUSED_FACTOR:
     case HB_REFUSED_VECTOR:
@@ -235,19 +240,20 @@ static void test_logged(const struct problem *problem, const int64_t *witness)
 
 /* part: centre */
 /*
- * The centre, where Cc + a = 0 for the middle C of the bounds, by elimination: no pivot is 0, for C is positive definite. Entries are
- * rounded from the last to the first, and each makes up for the rounding of those after it. Any rounding is sound, for a box holds the
- * ellipsoid from any centre.
+ * The centre, where Cc + a = 0 for the middle C of the bounds and the middle a of the linear terms, by elimination: no pivot is 0, for C is
+ * positive definite. Entries are rounded from the last to the first, and each makes up for the rounding of those after it. Any rounding is
+ * sound, for a box holds the ellipsoid from any centre.
  */
 static void solve_centre(const struct problem *problem, int64_t *centre)
 {
-    int64_t low[ORDER * ORDER], high[ORDER * ORDER], linear[ORDER];
+    int64_t low[ORDER * ORDER], high[ORDER * ORDER], linear_low[ORDER], linear_high[ORDER];
     double middle[ORDER][ORDER], rest[ORDER];
     load(low, problem->low, ORDER * ORDER);
     load(high, problem->high, ORDER * ORDER);
-    load(linear, problem->linear, ORDER);
+    load(linear_low, problem->linear_low, ORDER);
+    load(linear_high, problem->linear_high, ORDER);
     for (int i = 0; i < ORDER; i++) {
-        rest[i] = -(double)linear[i];
+        rest[i] = -(double)(linear_low[i] + linear_high[i]) / 2;
         for (int j = 0; j < ORDER; j++)
             middle[i][j] = (double)(low[i * ORDER + j] + high[i * ORDER + j]) / 2;
         for (int k = 0; k < i; k++) {
@@ -274,8 +280,9 @@ static int box(const struct problem *problem, const int64_t *centre, int64_t *si
     uint8_t middle[HB_VECTOR_BYTES(ORDER)], found[HB_SIDES_BYTES(ORDER)];
     int64_t answer;
     store(middle, centre, ORDER);
-    answer = hb_box(ORDER, problem->low, sizeof problem->low, problem->high, sizeof problem->high, problem->linear, sizeof problem->linear,
-                    problem->limit, middle, sizeof middle, found, sizeof found);
+    answer = hb_box(ORDER, problem->low, sizeof problem->low, problem->high, sizeof problem->high, problem->linear_low,
+                    sizeof problem->linear_low, problem->linear_high, sizeof problem->linear_high, problem->limit, middle, sizeof middle,
+                    found, sizeof found);
     switch (answer) {
     case HB_BOX:
         load(sides, found, 2 * ORDER);
@@ -335,16 +342,55 @@ static void display(const struct problem *problem, uint8_t *factor, int filed)
 #define COUNT(rides) (sizeof(rides) / sizeof((rides)[0]))
 
 /* Makes the problem of some rides alone. */
-static void pack_rides(struct problem *problem, const struct ride *rides, size_t count, int64_t slack, int64_t allowed)
+static void pack_rides(struct problem *problem, const struct ride *rides, size_t count, int64_t slack, int64_t energy_slack,
+                       int64_t allowed)
 {
-    struct sums sums = {{0}, {0}, {0}, 0};
-    gather(&sums, rides, count, slack, allowed);
+    struct sums sums = {{0}, {0}, {0}, {0}, 0};
+    gather(&sums, rides, count, slack, energy_slack, allowed);
     pack(problem, sums);
 }
 
-int main(void)
+/* A week of rides, its factor filed and damaged, its numbers damaged, many such weeks, and the week known less well */
+static void show_weeks(void)
 {
     const struct ride week[] = {{{10, 50}, 12350}, {{8, 200}, 17420}, {{12, 0}, 11980}};
+    uint8_t factor[HB_TABLE_BYTES(ORDER)] = {0};
+    struct sums season = {{0}, {0}, {0}, {0}, 0};
+    struct problem problem;
+
+    printf("a week of rides\n");
+    pack_rides(&problem, week, COUNT(week), 1, 100, 30000);
+    display(&problem, factor, 0);
+    printf("the same after the next start, its factor filed\n");
+    display(&problem, factor, 1);
+    printf("the same, the filed factor damaged\n");
+    factor[HB_NUMBER_BYTES] ^= 64;
+    display(&problem, factor, 1);
+    printf("the same, the linear terms damaged\n");
+    problem.linear_low[1] ^= 16;
+    display(&problem, factor, 0);
+    printf("the same, the bounds damaged too\n");
+    problem.low[HB_NUMBER_BYTES] ^= 1;
+    display(&problem, factor, 1);
+    printf("thirty such weeks\n");
+    for (int k = 0; k < 30; k++)
+        gather(&season, week, COUNT(week), 1, 100, 30000);
+    pack(&problem, season);
+    display(&problem, factor, 0);
+    printf("the week, the products of its factors known to 20 each\n");
+    pack_rides(&problem, week, COUNT(week), 20, 100, 30000);
+    display(&problem, factor, 0);
+    printf("the same, known to 130 each\n");
+    pack_rides(&problem, week, COUNT(week), 130, 100, 30000);
+    display(&problem, factor, 0);
+    printf("the week, the products of its energies known to 5000 each\n");
+    pack_rides(&problem, week, COUNT(week), 1, 5000, 30000);
+    display(&problem, factor, 0);
+}
+
+/* Rides that do not tell */
+static void show_others(void)
+{
     const struct ride level[] = {{{10, 0}, 10010}, {{12, 0}, 11980}};
     const struct ride alike[] = {{{1, 3}, 1141}, {{0, 1}, 47}};
     const struct ride first[] = {{{1, 0}, 1000}, {{1, 1}, 1047}};
@@ -352,46 +398,29 @@ int main(void)
     const struct ride other_unit[] = {{{10, 50}, 1235000}, {{8, 200}, 1742000}, {{12, 0}, 1198000}};
     const int64_t logged[ORDER] = {0, 1};
     uint8_t factor[HB_TABLE_BYTES(ORDER)] = {0};
-    struct sums season = {{0}, {0}, {0}, 0};
     struct problem problem;
 
-    printf("a week of rides\n");
-    pack_rides(&problem, week, COUNT(week), 1, 30000);
-    display(&problem, factor, 0);
-    printf("the same after the next start, its factor filed\n");
-    display(&problem, factor, 1);
-    printf("the same, the filed factor damaged\n");
-    factor[HB_NUMBER_BYTES] ^= 64;
-    display(&problem, factor, 1);
-    printf("the same, the bounds damaged\n");
-    problem.low[HB_NUMBER_BYTES] ^= 1;
-    display(&problem, factor, 1);
-    printf("thirty such weeks\n");
-    for (int k = 0; k < 30; k++)
-        gather(&season, week, COUNT(week), 1, 30000);
-    pack(&problem, season);
-    display(&problem, factor, 0);
-    printf("the week, the products of its factors known to 20 each\n");
-    pack_rides(&problem, week, COUNT(week), 20, 30000);
-    display(&problem, factor, 0);
-    printf("the same, known to 130 each\n");
-    pack_rides(&problem, week, COUNT(week), 130, 30000);
-    display(&problem, factor, 0);
     printf("level rides only\n");
-    pack_rides(&problem, level, COUNT(level), 1, 20000);
+    pack_rides(&problem, level, COUNT(level), 1, 100, 20000);
     display(&problem, factor, 0);
     test_logged(&problem, logged);
     printf("two rides that are too much alike\n");
-    pack_rides(&problem, alike, COUNT(alike), 0, 20000);
+    pack_rides(&problem, alike, COUNT(alike), 0, 0, 20000);
     display(&problem, factor, 0);
     printf("the first two kilometres\n");
-    pack_rides(&problem, first, COUNT(first), 0, 20000);
+    pack_rides(&problem, first, COUNT(first), 0, 0, 20000);
     display(&problem, factor, 0);
     printf("rides that contradict each other\n");
-    pack_rides(&problem, unlike, COUNT(unlike), 1, 30000);
+    pack_rides(&problem, unlike, COUNT(unlike), 1, 100, 30000);
     display(&problem, factor, 0);
     printf("a meter that counts in another unit\n");
-    pack_rides(&problem, other_unit, COUNT(other_unit), 1, 30000);
+    pack_rides(&problem, other_unit, COUNT(other_unit), 1, 100, 30000);
     display(&problem, factor, 0);
+}
+
+int main(void)
+{
+    show_weeks();
+    show_others();
     return 0;
 }

@@ -14,11 +14,12 @@ int main(void)
         printf("every matrix from low to high is positive definite: factor %" PRId64 " %" PRId64 " / %" PRId64 " %" PRId64 "\n",
                factor[0], factor[1], factor[2], factor[3]);
 
-    const int64_t matrix[1] = {4}, linear[1] = {-8}, limit = 0, centre[1] = {2}; /* 4x^2 - 16x <= 0: x is from 0 to 4 */
+    /* 4x^2 + 2ax <= 0 for some a from -8 to -4: x is from 0 to 4 */
+    const int64_t matrix[1] = {4}, linear_low[1] = {-8}, linear_high[1] = {-4}, limit = 0, centre[1] = {2};
     int64_t sides[2];
     int64_t answer = hb_box(1, (const uint8_t *)matrix, sizeof matrix, (const uint8_t *)matrix, sizeof matrix,
-                            (const uint8_t *)linear, sizeof linear, limit, (const uint8_t *)centre, sizeof centre,
-                            (uint8_t *)sides, sizeof sides);
+                            (const uint8_t *)linear_low, sizeof linear_low, (const uint8_t *)linear_high, sizeof linear_high, limit,
+                            (const uint8_t *)centre, sizeof centre, (uint8_t *)sides, sizeof sides);
     if (answer == HB_BOX)
         printf("every x of the ellipsoid is from %" PRId64 " to %" PRId64 "\n", sides[0], sides[1]);
     return 0;

@@ -4,7 +4,8 @@
     target/bin/judge < examples/ellipse.summary | python3 examples/picture.py examples/ellipse.txt
 
 The argument is the problem's text form, and standard input has what the program printed for it; examples/picture runs both. The ellipses
-are those of the eight matrices at the ends of the bounds; the box comes from the program's `side` lines.
+are those of the eight matrices at the ends of the bounds, each with the four pairs of linear terms at their ends; the box comes from the
+program's `side` lines.
 """
 
 import itertools
@@ -14,17 +15,17 @@ import sys
 
 WIDTH = 400
 MARGIN = 40
-TURNS = 120
+TURNS = 72
 
 
 def problem(path):
-    """The numbers of a text form: low, high, linear, limit, centre."""
+    """The numbers of a text form: low, high, both ends of the linear terms, limit, centre."""
     words = []
     for line in open(path, encoding="utf-8"):
         words += line.split("#")[0].split()
-    at = {name: words.index(name) for name in ("low", "high", "linear", "limit", "centre") if name in words}
-    numbers = lambda name, count: [int(word) for word in words[at[name] + 1 : at[name] + 1 + count]]
-    return numbers("low", 4), numbers("high", 4), numbers("linear", 2), numbers("limit", 1)[0], numbers("centre", 2)
+    numbers = lambda name, count: [int(word) for word in words[words.index(name) + 1 :][:count]]
+    ends = [numbers(name if name in words else "linear", 2) for name in ("linear_low", "linear_high")]
+    return numbers("low", 4), numbers("high", 4), ends, numbers("limit", 1)[0], numbers("centre", 2)
 
 
 def ellipse(m11, m12, m22, a, limit):
@@ -49,7 +50,7 @@ def main():
     if len(sys.argv) != 2 or not os.path.isfile(sys.argv[1]):
         print("picture.py: it takes the file of a problem's text form; picture.py --help says more", file=sys.stderr)
         sys.exit(2)
-    low, high, a, limit, centre = problem(sys.argv[1])
+    low, high, ends, limit, centre = problem(sys.argv[1])
     sides = [[int(word) for word in line.split()[1:]] for line in sys.stdin if line.startswith("side ")]
     if len(sides) != 2:
         sys.exit("picture: the program gave no box of order 2")
@@ -62,9 +63,10 @@ def main():
     print(f'<rect width="{WIDTH}" height="{height}" fill="white"/>')
     x, y = place(left, top)
     print(f'<rect x="{x:.1f}" y="{y:.1f}" width="{(right - left) * scale:.1f}" height="{(top - bottom) * scale:.1f}" fill="#eef3fb" stroke="#2b5c9e" stroke-width="2"/>')
-    for m11, m12, m22 in itertools.product((low[0], high[0]), (low[1], high[1]), (low[3], high[3])):
+    both = (low[0], high[0]), (low[1], high[1]), (low[3], high[3]), *zip(*ends)
+    for m11, m12, m22, *a in sorted(set(itertools.product(*both))):
         rim = " ".join(point(*p) for p in ellipse(m11, m12, m22, a, limit))
-        print(f'<polygon points="{rim}" fill="#f4b942" fill-opacity="0.12" stroke="#b5761b" stroke-width="1"/>')
+        print(f'<polygon points="{rim}" fill="#f4b942" fill-opacity="0.05" stroke="#b5761b" stroke-width="0.7"/>')
     x, y = place(*centre)
     print(f'<circle cx="{x:.1f}" cy="{y:.1f}" r="4" fill="#2b5c9e"/>')
     print(f'<text x="{x + 8:.1f}" y="{y - 8:.1f}" fill="#2b5c9e">centre ({centre[0]}, {centre[1]})</text>')

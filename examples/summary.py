@@ -16,15 +16,18 @@ The text form is this. `#` starts a comment, and empty lines are passed over. Al
     high             # U
     5 2
     2 6
-    linear 1 -2      # a: n numbers
+    linear_low 1 -2  # the low end of a: n numbers
+    linear_high 3 0  # its high end
     limit 100        # the limit
     centre 0 0       # c: n numbers
 
-`matrix` with rows stands for `low` and `high` with the same rows. `show` prints it so where L = U. The parts after `order` may stand in any order;
-`show` prints them, and `make` writes their fields, in the order above.
+`matrix` with rows stands for `low` and `high` with the same rows, and `linear` with numbers for `linear_low` and `linear_high` with the
+same numbers. `show` prints them so where both are equal. The parts after `order` may stand in any order; `show` prints them in the order
+above, and `make` writes their fields with rising tags, the high end of a as the last.
 
-Where a file is damaged, `show` and `hex` say which of the judge's refusals it meets and why, and end with status 1; `hex` lists first what can be
-read. A file can hold a problem that the judge refuses for its numbers (refusals 3 to 5): `make` writes it and `show` prints it, with a note.
+Where a file is damaged, `show` and `hex` say which of the judge's refusals it meets and why, and end with status 1; `hex` lists first
+what can be read. A file can hold a problem that the judge refuses for its numbers (refusals 3 to 5 and 16): `make` writes it and `show`
+prints it, with a note.
 """
 
 import re
@@ -39,13 +42,17 @@ FIELDS = [
     (1, "order", 1, None),
     (2, "low", 4, 2**20),
     (3, "high", 4, 2**20),
-    (4, "linear", 8, 2**36),
+    (4, "linear_low", 8, 2**36),
     (5, "limit", 8, 2**54),
     (6, "centre", 8, 2**12),
+    (7, "linear_high", 8, 2**36),
 ]
 WORD = {tag: word for tag, word, _, _ in FIELDS}
 WIDTH = {word: width for _, word, width, _ in FIELDS}
 RANGE = {word: size for _, word, _, size in FIELDS}
+
+# Words of a text that stand for two parts with the same numbers.
+BOTH = {"matrix": ["low", "high"], "linear": ["linear_low", "linear_high"]}
 
 REFUSALS = {
     1: "order",
@@ -58,6 +65,7 @@ REFUSALS = {
     13: "absent",
     14: "size",
     15: "long",
+    16: "reversed",
 }
 
 
@@ -77,7 +85,9 @@ class TextError(Exception):
 
 def count(word, order):
     """How many numbers a part has."""
-    return {"order": 1, "low": order**2, "high": order**2, "linear": order, "limit": 1, "centre": order}[word]
+    if word in ["low", "high"]:
+        return order**2
+    return 1 if word in ["order", "limit"] else order
 
 
 def many(number, thing):
@@ -116,7 +126,7 @@ def rows(lines, order, width, line, word):
     """The rows of a table, which are taken off the lines."""
     table = []
     for row in range(1, order + 1):
-        if not lines or lines[0][1][0] in [*WIDTH, "matrix"]:
+        if not lines or lines[0][1][0] in [*WIDTH, *BOTH]:
             end = "the text ends" if not lines else f"'{lines[0][1][0]}' follows in line {lines[0][0]}"
             raise TextError(line, f"'{word}' has {many(order, 'row')}, but {end} after {row - 1}")
         at, words = lines.pop(0)
@@ -129,9 +139,9 @@ def parse(text):
     lines, problem = text_lines(text), {}
     while lines:
         line, (word, *words) = lines.pop(0)
-        parts = ["low", "high"] if word == "matrix" else [word]
-        if word != "matrix" and word not in WIDTH:
-            raise TextError(line, f"'{word}' is none of {', '.join(WIDTH)} and matrix")
+        parts = BOTH.get(word, [word])
+        if parts[0] not in WIDTH:
+            raise TextError(line, f"'{word}' is none of {', '.join(WIDTH)}, {' and '.join(BOTH)}")
         for part in parts:
             if part in problem:
                 raise TextError(line, f"'{part}' is given a second time")
@@ -149,7 +159,8 @@ def parse(text):
             table = rows(lines, order, width, line, word)
             problem.update({part: table for part in parts})
         else:
-            problem[word] = numbers(words, count(word, order), width, line, f"'{word}'")
+            found = numbers(words, count(parts[0], order), width, line, f"'{word}'")
+            problem.update({part: found for part in parts})
     missing = [f"'{word}'" for word in WIDTH if word not in problem]
     if missing:
         raise TextError(max(1, len(text.splitlines())), f"the text ends without {' and '.join(missing)}")
@@ -181,7 +192,7 @@ def walk(file):
         if length > rest - HEAD:
             raise Refused(10, f"the field at byte {at} has the length {length}, with only {many(rest - HEAD, 'byte')} left for its content")
         if tag not in WORD:
-            raise Refused(11, f"the field at byte {at} has the tag {tag:02X}, which is not one of 01 to 06")
+            raise Refused(11, f"the field at byte {at} has the tag {tag:02X}, which is not one of 01 to 07")
         if tag in seen:
             raise Refused(12, f"the field at byte {at} is a second one with the tag {tag:02X}, {WORD[tag]}")
         seen.add(tag)
@@ -203,7 +214,7 @@ def check_size(contents, word, order):
 
 
 def read(file):
-    """The problem of a file. Refused by all but 3, 4 and 5."""
+    """The problem of a file. Refused by all but 3, 4, 5 and 16."""
     contents = {WORD[tag]: content for _, tag, content in walk(file)}
     missing = [f"{word} (tag {tag:02X})" for tag, word in WORD.items() if word not in contents]
     if missing:
@@ -224,24 +235,29 @@ def place(word, index, order):
     return word if word == "limit" else f"{word}({index + 1})"
 
 
+def check_above(number, problem, low, high):
+    """Refuses by the number where one of the low numbers is above its high one."""
+    for index, (least, most) in enumerate(zip(problem[low], problem[high])):
+        if least > most:
+            at = [place(word, index, problem["order"][0]) for word in (low, high)]
+            raise Refused(number, f"{at[0]} is {least}, above {at[1]}, which is {most}")
+
+
 def check_numbers(problem):
-    """Refusals 3, 4 and 5, each over the whole problem before the next."""
+    """Refusals 3, 4, 5 and 16, each over the whole problem before the next."""
     order = problem["order"][0]
     for word in list(WIDTH)[1:]:
         for index, number in enumerate(problem[word]):
             if abs(number) > RANGE[word]:
                 raise Refused(3, f"{place(word, index, order)} is {number}, beyond {RANGE[word]} either way")
-    low, high = problem["low"], problem["high"]
-    for index in range(order**2):
-        if low[index] > high[index]:
-            at = place("low", index, order), place("high", index, order)
-            raise Refused(4, f"{at[0]} is {low[index]}, above {at[1]}, which is {high[index]}")
+    check_above(4, problem, "low", "high")
     for word in ["low", "high"]:
         for index in range(order**2):
             mirror = index % order * order + index // order
             if problem[word][index] != problem[word][mirror]:
                 at = place(word, index, order), place(word, mirror, order)
                 raise Refused(5, f"{at[0]} is {problem[word][index]}, and {at[1]} is {problem[word][mirror]}")
+    check_above(16, problem, "linear_low", "linear_high")
 
 
 # To text.
@@ -254,11 +270,12 @@ def table_rows(table, order):
 def text_of(problem):
     """The text of a problem."""
     order = problem["order"][0]
-    tables = ["matrix"] if problem["low"] == problem["high"] else ["low", "high"]
+    words = {word: [word] if problem[low] == problem[high] else [low, high] for word, (low, high) in BOTH.items()}
+    first = lambda word: problem[BOTH.get(word, [word])[0]]
     lines = [f"order {order}"]
-    for word in tables:
-        lines += [word, *table_rows(problem["low" if word == "matrix" else word], order)]
-    lines += [" ".join(map(str, [word, *problem[word]])) for word in ["linear", "limit", "centre"]]
+    for word in words["matrix"]:
+        lines += [word, *table_rows(first(word), order)]
+    lines += [" ".join(map(str, [word, *first(word)])) for word in [*words["linear"], "limit", "centre"]]
     return "\n".join(lines) + "\n"
 
 
