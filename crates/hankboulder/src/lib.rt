@@ -38,31 +38,31 @@ pub extern "C" fn hb_judge(
     verdict::judge::verdict_code(buffers::judging::judge(n, low, high, factor, vector))
 }
 
-// Boxes the ellipsoid, with linear terms between those of from and to, which may be one buffer: 0 with the sides written, low and high for
-// each k; -1 empty, else the refusal's number, with nothing written.
+// Boxes the ellipsoid, with linear terms between linear_low and linear_high, which may be one buffer: 0 with the sides written, low and
+// high for each k; -1 empty, else the refusal's number, with nothing written.
 #[no_mangle]
 pub extern "C" fn hb_box(
     n: i64,
     low: &[u8],
     high: &[u8],
-    from: &[u8],
-    to: &[u8],
+    linear_low: &[u8],
+    linear_high: &[u8],
     limit: i64,
     centre: &[u8],
     sides: &mut [u8],
 ) -> i64
     ensures exact { λ r. ⌜ _≡_ {A = BoxResult} (record { number = r; sides = now (sides .exit) })
-        (boxEntry n (now (low .entry)) (now (high .entry)) (now (from .entry)) (now (to .entry)) limit (now (centre .entry)) (now
-        (sides .entry))) ⌝ }
-    ensures meaning { λ r. ⌜ BoxMeaning n (now (low .entry)) (now (high .entry)) (now (from .entry)) (now (to .entry)) limit r (now
-        (sides .exit)) ⌝ }
+        (boxEntry n (now (low .entry)) (now (high .entry)) (now («linear_low» .entry)) (now («linear_high» .entry))
+        limit (now (centre .entry)) (now (sides .entry))) ⌝ }
+    ensures meaning { λ r. ⌜ BoxMeaning n (now (low .entry)) (now (high .entry)) (now («linear_low» .entry)) (now
+        («linear_high» .entry)) limit r (now (sides .exit)) ⌝ }
 {
     enclosure::enclose::box_code(buffers::boxing::enclose(
         n,
         low,
         high,
-        from,
-        to,
+        linear_low,
+        linear_high,
         limit,
         centre,
         sides,

@@ -12,7 +12,7 @@ use Rattle.hankboulder.proofs.hb_box.Statement.{statement}
 use Rattle.hankboulder.proofs.hb_box.Tie as tie
 
 abbrev means : tie.Start → BoxResult → Type 0
-means s j = let a = s .args in BoxMeaning (a .n) (a .low .now) (a .high .now) (a .from .now) (a .to .now) (a .limit) (j .number) (j .sides)
+means s j = let a = s .args in BoxMeaning (a .n) (a .low .now) (a .high .now) (a .linear-low .now) (a .linear-high .now) (a .limit) (j .number) (j .sides)
 
 -- an answer's number, and the buffer
 abbrev numbered : Enclosed (List ℕ) → BoxResult
@@ -31,5 +31,5 @@ hb-box-spec =
     let s = d .before .before .before .before .before .before .before .before in
     let a = s .args in
     rw (clean-result (c .box-code), c .box-code .ensures)
-    (exactly (means s) (box-means (a .n) (a .low .now) (a .high .now) (a .from .now) (a .to .now) (a .limit) (a .centre .now) (a .sides .now)) _
+    (exactly (means s) (box-means (a .n) (a .low .now) (a .high .now) (a .linear-low .now) (a .linear-high .now) (a .limit) (a .centre .now) (a .sides .now)) _
     (ap numbered (rw (clean (s .fits .n), clean (s .fits .limit)) at (d .enclose .ensures))))))
