@@ -1,0 +1,7 @@
+pub mod Values
+pub mod Product
+pub mod Next
+pub mod Fields
+pub mod Range
+pub mod Meaning
+mod Examples
