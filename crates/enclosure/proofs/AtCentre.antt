@@ -23,7 +23,7 @@ use Rattle.enclosure.specs.Points.{Point}
 
 -- ---- q l ≤ z ≤ q u: z c lies from q times the smaller of l c and u c to q times the greater
 module _ (q l u z c : ℤ) (nonneg : pos 0 ≤ℤ q) (low : (q *ℤ l) ≤ℤ z) (high : z ≤ℤ (q *ℤ u)) where
-  times-high : (z *ℤ c) ≤ℤ (q *ℤ maxℤ (l *ℤ c) (u *ℤ c))
+  pub times-high : (z *ℤ c) ≤ℤ (q *ℤ maxℤ (l *ℤ c) (u *ℤ c))
   times-high = go (≤ℤ-total (pos 0) c)
     where
       go : (pos 0 ≤ℤ c) ⊎ (c ≤ℤ pos 0) → (z *ℤ c) ≤ℤ (q *ℤ maxℤ (l *ℤ c) (u *ℤ c))
@@ -34,7 +34,7 @@ module _ (q l u z c : ℤ) (nonneg : pos 0 ≤ℤ q) (low : (q *ℤ l) ≤ℤ z)
           order (q ∷ l ∷ z ∷ c ∷ maxℤ (l *ℤ c) (u *ℤ c) ∷ []) (*ℤ-nonneg (gap-nonneg low) (gap-nonneg h) & *ℤ-mono nonneg (≤-maxˡ (l *ℤ c) (u *ℤ c)))
           (search solver depth 40 fits 20000) (omega arith)
 
-  times-low : (q *ℤ minℤ (l *ℤ c) (u *ℤ c)) ≤ℤ (z *ℤ c)
+  pub times-low : (q *ℤ minℤ (l *ℤ c) (u *ℤ c)) ≤ℤ (z *ℤ c)
   times-low = go (≤ℤ-total (pos 0) c)
     where
       go : (pos 0 ≤ℤ c) ⊎ (c ≤ℤ pos 0) → (q *ℤ minℤ (l *ℤ c) (u *ℤ c)) ≤ℤ (z *ℤ c)

@@ -3,7 +3,7 @@ use Prim.Native.Nat.{ℕ}
 use Prim.Native.String.{String}
 use Rattle.tables.specs.declared.Refusal.{Refusal}
 use Rattle.tables.specs.declared.Refusal.the-variants.{Order, Length, Range, Crossed, Lopsided, Factor, Vector, Flat}
-use Rattle.tables.specs.declared.Refusal.the-variants.{Far, Cut, Tag, Again, Absent, Size, Long, Reversed}
+use Rattle.tables.specs.declared.Refusal.the-variants.{Far, Cut, Tag, Again, Absent, Size, Long, Reversed, Sample, Full}
 
 -- a line of R4's table; no contract cites the word
 pub record RefusalLine : Type 0 where
@@ -27,6 +27,8 @@ refusalLine Absent = record { number = 13; word = "absent" }
 refusalLine Size = record { number = 14; word = "size" }
 refusalLine Long = record { number = 15; word = "long" }
 refusalLine Reversed = record { number = 16; word = "reversed" }
+refusalLine Sample = record { number = 17; word = "sample" }
+refusalLine Full = record { number = 18; word = "full" }
 
 abbrev pub refusalNumber : Refusal → ℕ
 refusalNumber r = refusalLine r .number

@@ -78,6 +78,8 @@ pub enum Refusal {
     Size,
     Long,
     Reversed,
+    Sample,
+    Full,
 }
 
 // What checks find: nothing to refuse, or the first refusal.
@@ -114,6 +116,8 @@ pub fn refusal_number(r: Refusal) -> u8
         Refusal::Size => 14,
         Refusal::Long => 15,
         Refusal::Reversed => 16,
+        Refusal::Sample => 17,
+        Refusal::Full => 18,
     }
 }
 

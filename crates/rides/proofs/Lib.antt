@@ -1,0 +1,5 @@
+pub mod Products
+pub mod Step
+pub mod Gains
+pub mod Wanted
+mod Examples

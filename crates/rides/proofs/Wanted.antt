@@ -1,0 +1,175 @@
+-- What is wanted of gathered rides: a point whose squares are at most K together is allowed by the sums with the allowance K, and so lies in every box of them.
+use mathlib.Core.Path.{_≡_, refl, ap, subst}
+use mathlib.Core.Bool.{Bool, true, false}
+use mathlib.Core.List.{List, [], _∷_}
+use Prim.Native.Nat.{ℕ}
+use native.Mathlib.Omega.{arith}
+use lib.IntN.{ℤ, pos, _+ℤ_, _*ℤ_}
+use lib.Signed.{_≤ℤ_, ≤ℤ-refl}
+use Rattle.integers.specs.Sum.{sum}
+use Rattle.integers.proofs.Parts.{≤ℤ-trans, *ℤ-nonneg, square-nonneg, pos-nonneg}
+use Rattle.integers.proofs.Solver.{_&_, ring, order, solver}
+use Rattle.integers.proofs.Order.{*ℤ-mono, *ℤ-cancel, product-mono}
+use Rattle.integers.proofs.Sums.{sum-none}
+use Rattle.tables.specs.Matrix.{form}
+use Rattle.tables.specs.declared.Refusal.{Refusal}
+use Rattle.tables.specs.declared.Refusal.the-variants.{Full}
+use Rattle.tables.specs.declared.Refusal.the-variants as Refused
+use Rattle.tables.specs.Problem.{constraintEntered}
+use Rattle.tables.specs.declared.problem.Constraint.{Constraint}
+use Rattle.tables.proofs.Matrix.{at-table, nth-tabulate}
+use Rattle.tables.proofs.Problems.{constraint-means}
+use Rattle.tables.specs.Checks.{orderOk, orderOf}
+use Rattle.enclosure.specs.Points.{Allowed, Contains}
+use Rattle.enclosure.specs.Box.{boxing}
+use Rattle.enclosure.specs.Act.{laidSides}
+use Rattle.enclosure.specs.declared.enclose.BoxAnswer.the-variants as BoxAnswer
+use Rattle.enclosure.proofs.BoxMeanings.{boxing-means}
+use Rattle.floats.specs.Brackets.{sixteenth}
+use Rattle.rides.specs.declared.sample.Sample.{Sample}
+use Rattle.rides.specs.declared.sample.Gathered.{Gathered}
+use Rattle.rides.specs.declared.sample.Gathered.the-variants as Gathered
+use Rattle.rides.specs.Samples.{factorCount, sampleFits}
+use Rattle.rides.specs.Sums.{added, termsIn, sumsWithin}
+use Rattle.rides.specs.Gathering.{Step, kept, addedWithin, gathering}
+use Rattle.rides.specs.Explaining.{Explained, misfit}
+use Rattle.rides.specs.Rides.{noSums, gathered, gatheredAll, ifTaken, squares, allowing}
+use Rattle.rides.proofs.Gains.{one, added-explains}
+
+-- ---- fractions
+module _ (c : Constraint) {u v : ℤ} {X : ℕ → ℤ} {p : ℤ} where
+  -- a common factor of u and v plays no part
+  reduced : (t : ℤ) → pos 1 ≤ℤ t → Explained c (u *ℤ t) (v *ℤ t) X p → Explained c u v X p
+  reduced t h P =
+      let q = P .denominator in
+      let s = P .scale in
+      record {
+        matrix = P .matrix;
+        denominator = q;
+        member = P .member;
+        terms = P .terms;
+        scale = s;
+        between = P .between;
+        under = *ℤ-cancel t h (order (t ∷ u ∷ v ∷ c .limit ∷ p ∷ q ∷ s ∷ form (c .order) (P .matrix) X ∷ sum (c .order) (λ k. P .terms k *ℤ X k) ∷ []) (P .under) (search solver depth 40 fits 20000) (omega arith));
+      }
+
+  -- explained up to K: allowed with the allowance K
+  allowed : pos 1 ≤ℤ v → pos 1 ≤ℤ p → (K : ℤ) → u ≤ℤ (K *ℤ v) → Explained c u v X p → Allowed (allowing K c) X p
+  allowed one-v one-p K h P =
+      let q = P .denominator in
+      let s = P .scale in
+      let room = *ℤ-nonneg (*ℤ-nonneg (square-nonneg p) (≤ℤ-trans (pos-nonneg 1) (P .member .whole))) (≤ℤ-trans (pos-nonneg 1) (P .between .whole)) in
+      record {
+        matrix = P .matrix;
+        denominator = q;
+        member = P .member;
+        terms = P .terms;
+        scale = s;
+        between = P .between;
+        whole = one-p;
+        inside =
+            *ℤ-cancel v one-v (order (u ∷ v ∷ K ∷ c .limit ∷ p ∷ q ∷ s ∷ form (c .order) (P .matrix) X ∷ sum (c .order) (λ k. P .terms k *ℤ X k) ∷ [])
+            (P .under & *ℤ-mono room h) (search solver depth 40 fits 20000) (omega arith));
+      }
+
+-- ---- what gathering leaves: the sample is in the sums, or they are as they were
+module _ (s : Sample) (c : Constraint) where
+  by-outcome : (P : Step → Type 0) → P (record { answer = Gathered.Taken; sums = added s c }) → ((r : Refusal) → P (kept c r)) → P (gathered s c)
+  unfolding gathering addedWithin
+  by-outcome P f g = go (sampleFits s)
+    where
+      last : (b : Bool) → P (elim b as (λ z. Step) [ true ↦ record { answer = Gathered.Taken; sums = added s c } | false ↦ kept c Full ])
+      last true = f
+      last false = g Full
+
+      go : (b : Bool) → P (elim b as (λ z. Step) [ true ↦ constraintEntered (kept c) (pos factorCount) true (termsIn c) c (addedWithin s c) | false ↦ kept c Refused.Sample ])
+      go true = constraint-means (kept c) (pos factorCount) true (termsIn c) c (addedWithin s c) P g (λ d. last (sumsWithin (added s c)))
+      go false = g Refused.Sample
+
+-- ---- no sample: the sums of zeros explain 0 at every point
+none-explained : (v : ℤ) (X : ℕ → ℤ) (p : ℤ) → Explained noSums (pos 0) v X p
+unfolding noSums form
+none-explained v X p =
+    record {
+      matrix = λ i j. pos 0;
+      denominator = pos 1;
+      member = record {
+        whole = ≤ℤ-refl (pos 1);
+        symmetric = λ i j h k. refl;
+        low = λ i j h k. rw (at-table factorCount (λ i j. pos 0) i j h k) (≤ℤ-refl (pos 0));
+        high = λ i j h k. rw (at-table factorCount (λ i j. pos 0) i j h k) (≤ℤ-refl (pos 0));
+      };
+      terms = λ i. pos 0;
+      scale = pos 1;
+      between = record {
+        whole = ≤ℤ-refl (pos 1);
+        low = λ i h. rw (nth-tabulate factorCount (λ i. pos 0) i h) (≤ℤ-refl (pos 0));
+        high = λ i h. rw (nth-tabulate factorCount (λ i. pos 0) i h) (≤ℤ-refl (pos 0));
+      };
+      under =
+          order (v ∷ p ∷ form factorCount (λ i j. pos 0) X ∷ sum factorCount (λ k. pos 0 *ℤ X k) ∷ [])
+          (ap (λ (z : ℤ). v *ℤ z) no-form & ap (λ (z : ℤ). v *ℤ (pos 2 *ℤ p) *ℤ z) no-sum) (search solver depth 40 fits 20000) (omega arith);
+    }
+  where
+    no-form : form factorCount (λ i j. pos 0) X ≡ pos 0
+    no-form = sum-none factorCount _ (λ i h. sum-none factorCount _ (λ j k. ring (X i ∷ X j ∷ []) (search solver depth 40 fits 20000) refl))
+
+    no-sum : sum factorCount (λ k. pos 0 *ℤ X k) ≡ pos 0
+    no-sum = sum-none factorCount _ (λ k h. ring (X k ∷ []) (search solver depth 40 fits 20000) refl)
+
+-- ---- samples, one after the other
+module _ (X : ℕ → ℤ) (p : ℤ) (whole : pos 1 ≤ℤ p) where
+  -- the denominator of all squares
+  abbrev Z : ℤ
+  Z = p *ℤ p *ℤ (sixteenth *ℤ sixteenth)
+
+  whole-* : {x y : ℤ} → pos 1 ≤ℤ x → pos 1 ≤ℤ y → pos 1 ≤ℤ (x *ℤ y)
+  whole-* h k = product-mono (pos-nonneg 1) (pos-nonneg 1) h k
+
+  one-Z : pos 1 ≤ℤ Z
+  one-Z = whole-* (whole-* whole whole) (whole-* one one)
+
+  abbrev σ : Sample → ℤ
+  σ s = misfit s X p *ℤ misfit s X p
+
+  taken-explained : (s : Sample) (c : Constraint) → c .order ≡ factorCount → (u : ℤ) → Explained c u Z X p → Explained (added s c) (u +ℤ σ s) Z X p
+  taken-explained s c e u P =
+      reduced (added s c) Z one-Z
+      (subst (λ (z : ℤ). Explained (added s c) z (Z *ℤ Z) X p) (ring (u ∷ Z ∷ misfit s X p ∷ []) (search solver depth 40 fits 20000) refl) (added-explains s c e one-Z P))
+
+  all-explained : (ss : List Sample) (c : Constraint) → c .order ≡ factorCount → (u : ℤ) → Explained c u Z X p → Explained (gatheredAll ss c) (u +ℤ squares ss c X p) Z X p
+  unfolding gatheredAll squares ifTaken added
+  all-explained [] c e u P = subst (λ (z : ℤ). Explained c z Z X p) (ring (u ∷ []) (search solver depth 40 fits 20000) refl) P
+  all-explained (s ∷ ss) c e u P =
+      by-outcome s c (λ (t : Step). Explained (gatheredAll ss (t .sums)) (u +ℤ (ifTaken (t .answer) (σ s) +ℤ squares ss (t .sums) X p)) Z X p)
+      (subst (λ (z : ℤ). Explained (gatheredAll ss (added s c)) z Z X p)
+      (ring (u ∷ misfit s X p ∷ squares ss (added s c) X p ∷ []) (search solver depth 40 fits 20000) refl)
+      (all-explained ss (added s c) refl (u +ℤ σ s) (taken-explained s c e u P)))
+      (λ r. subst (λ (z : ℤ). Explained (gatheredAll ss c) z Z X p) (ring (u ∷ squares ss c X p ∷ []) (search solver depth 40 fits 20000) refl) (all-explained ss c e u P))
+
+  -- a point whose squares are at most K is allowed by the sums, begun at 0, with the allowance K
+  pub gathered-allows : (ss : List Sample) (K : ℤ) → squares ss noSums X p ≤ℤ (K *ℤ Z) → Allowed (allowing K (gatheredAll ss noSums)) X p
+  unfolding noSums
+  gathered-allows ss K h =
+      allowed (gatheredAll ss noSums) one-Z whole K
+      (subst (λ (z : ℤ). z ≤ℤ (K *ℤ Z)) (ring (squares ss noSums X p ∷ []) (search solver depth 40 fits 20000) refl) h)
+      (all-explained ss noSums refl (pos 0) (none-explained Z X p))
+
+  -- the order of the sums stays
+  all-ordered : (ss : List Sample) (c : Constraint) → c .order ≡ factorCount → gatheredAll ss c .order ≡ factorCount
+  unfolding gatheredAll added
+  all-ordered [] c e = e
+  all-ordered (s ∷ ss) c e = by-outcome s c (λ (t : Step). gatheredAll ss (t .sums) .order ≡ factorCount) (all-ordered ss (added s c) refl) (λ r. all-ordered ss c e)
+
+  -- so it lies in every box of them that is given, around any centre, and where the answer is 'empty' there is no such point
+  pub gathered-boxed : (ss : List Sample) (K : ℤ) → squares ss noSums X p ≤ℤ (K *ℤ Z) → (sized : Bool) (centre sides : List ℤ) →
+      (let c = allowing K (gatheredAll ss noSums) in
+      let j = laidSides (λ x. x) (boxing (pos factorCount) sized (record { constraint = c; centre = centre })) sides in
+      (j .answer ≡ BoxAnswer.Sides → Contains factorCount (j .sides) X p) × (j .answer ≡ BoxAnswer.Empty → ⊥))
+  unfolding orderOf orderOk noSums
+  gathered-boxed ss K h sized centre sides =
+      let g = gatheredAll ss noSums in
+      let e = all-ordered ss noSums refl in
+      let P = gathered-allows ss K h in
+      let m = boxing-means (pos factorCount) sized (g .low) (g .high) (g .linear .low) (g .linear .high) (K +ℤ g .limit) centre sides in
+      rw e (let Q = rw e at P in (λ q. m .holds q X p Q, λ q. m .none q X p Q))

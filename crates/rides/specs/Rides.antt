@@ -1,0 +1,45 @@
+-- R23 of docs/RULES.md: samples gathered one after the other, and the constraint that running sums give with an allowance K.
+use mathlib.Core.List.{List, [], _∷_}
+use Prim.Native.Nat.{ℕ}
+use lib.IntN.{ℤ, pos, _+ℤ_, _*ℤ_}
+use mathlib.Core.Bool.{true}
+use Rattle.tables.specs.Matrix.{table, tabulate}
+use Rattle.tables.specs.Problem.{constraintOf}
+use Rattle.tables.specs.declared.problem.Constraint.{Constraint}
+use Rattle.rides.specs.declared.sample.Sample.{Sample}
+use Rattle.rides.specs.declared.sample.Gathered.{Gathered}
+use Rattle.rides.specs.declared.sample.Gathered.the-variants as Gathered
+use Rattle.rides.specs.Samples.{factorCount}
+use Rattle.rides.specs.Gathering.{Step, gathering}
+use Rattle.rides.specs.Explaining.{misfit}
+
+-- sums of no sample
+unfoldable pub noSums : Constraint
+noSums =
+    let n : ℕ = factorCount in
+    let t = table n (λ i j. pos 0) in
+    let x = tabulate n (λ i. pos 0) in
+    constraintOf n t t x x (pos 0)
+
+-- one sample, for sums of its order
+abbrev pub gathered : Sample → Constraint → Step
+gathered s c = gathering s (pos factorCount) true c
+
+-- the sums after samples, one after the other: a refused one leaves them as they are
+unfoldable pub gatheredAll : List Sample → Constraint → Constraint
+gatheredAll [] c = c
+gatheredAll (s ∷ ss) c = gatheredAll ss (gathered s c .sums)
+
+-- x where the sample was taken, and 0 where it was refused
+unfoldable pub ifTaken : Gathered → ℤ → ℤ
+ifTaken Gathered.Taken x = x
+ifTaken (Gathered.Refused r) x = pos 0
+
+-- the squares of 16·draw − 16·factors·x of all samples that were taken, added up, times the square of `sixteenth` and of p
+unfoldable pub squares : List Sample → Constraint → (ℕ → ℤ) → ℤ → ℤ
+squares [] c X p = pos 0
+squares (s ∷ ss) c X p = ifTaken (gathered s c .answer) (misfit s X p *ℤ misfit s X p) +ℤ squares ss (gathered s c .sums) X p
+
+-- R23.2: the constraint that sums give with the allowance K: its limit is K and the running limit
+abbrev pub allowing : ℤ → Constraint → Constraint
+allowing K c = constraintOf (c .order) (c .low) (c .high) (c .linear .low) (c .linear .high) (K +ℤ c .limit)

@@ -1,0 +1,2 @@
+// R22 and R23 of docs/RULES.md: rides gathered into running sums.
+pub mod sample;
