@@ -1,7 +1,7 @@
 -- R22.1 and R22.2 of docs/RULES.md: the numbers of a sample, exactly and between whole numbers.
 use mathlib.Core.Bool.{Bool}
 use mathlib.Core.List.{List, [], _∷_}
-use Prim.Native.Nat.{ℕ}
+use Prim.Native.Nat.{ℕ, suc}
 use lib.Ieee.{Float, nan}
 use lib.IntN.{ℤ}
 use lib.ListN.{getD}
@@ -10,7 +10,7 @@ use Rattle.floats.specs.Brackets.{unitsOf, sixteenth, inRange, wholeNextTo}
 use Rattle.floats.specs.declared.Neighbours.{Neighbours}
 use Rattle.rides.specs.declared.sample.Sample.{Sample}
 
--- the factors, in the order of the sums
+-- the factors, in the order of the sums, and how many there are: the order of the sums
 abbrev pub factorsIn : Sample → List Float
 factorsIn s = s .rolling ∷ s .climb ∷ s .air ∷ s .start ∷ []
 
@@ -22,7 +22,7 @@ factorAt s i = getD (factorsIn s) i nan
 
 -- 17, R4.17: every number is finite and from -8 to 8
 unfoldable pub sampleFits : Sample → Bool
-sampleFits s = all 5 (λ i. inRange (getD (s .draw ∷ factorsIn s) i nan))
+sampleFits s = all (suc factorCount) (λ i. inRange (getD (s .draw ∷ factorsIn s) i nan))
 
 -- 16 times factor i and 16 times the draw: exactly, over `sixteenth`, and between whole numbers
 abbrev pub factorUnits : Sample → ℕ → ℤ

@@ -1,9 +1,6 @@
 // R22.1 of docs/RULES.md: a sample, as the hub hands it over.
 use tables::Refusal;
 
-// How many factors a sample has: the order of its sums.
-pub const FACTORS: usize = 4;
-
 // Four factors, and the draw that was measured with them.
 #[repr(C)]
 pub struct Sample {
