@@ -48,7 +48,8 @@ extern "C" {
 
 /*
  * The version of this header and of the archive that it is installed with, as numbers and as a string. It is said here alone: the file for
- * pkg-config has it from here.
+ * pkg-config has it from here. Since 0.2 hb_box has two parameters more, which a linker does not see: header and archive have to be of one
+ * version.
  */
 #define HB_VERSION_MAJOR 0
 #define HB_VERSION_MINOR 2
@@ -60,7 +61,7 @@ extern "C" {
 /* The greatest order. */
 #define HB_MAX_ORDER 8
 
-/* Bytes of a number; and of order n: of a table or factor, of a vector, linear terms or a centre, and of the sides of a box. */
+/* Bytes of a number; and of order n: of a table or factor; of a vector, of one end of the linear terms or of a centre; of the sides of a box. */
 #define HB_NUMBER_BYTES 8
 #define HB_TABLE_BYTES(n) ((size_t)HB_NUMBER_BYTES * (size_t)(n) * (size_t)(n))
 #define HB_VECTOR_BYTES(n) ((size_t)HB_NUMBER_BYTES * (size_t)(n))

@@ -1,4 +1,4 @@
-//! The worked cases W1 to W29, and cases for the mistakes that docs/RULES.md
+//! The worked cases W1 to W30, and cases for the mistakes that docs/RULES.md
 //! remarks on. Expected answers are literals.
 
 use std::fmt;
@@ -44,7 +44,7 @@ impl fmt::Display for Case {
     }
 }
 
-/// Every case: W1 to W20, W21 (case P), W24 to W29, then those for the mistakes,
+/// Every case: W1 to W20, W21 (case P), W24 to W30, then those for the mistakes,
 /// W22 and W23 among them.
 pub fn listed_cases() -> Vec<Case> {
     [
@@ -113,6 +113,7 @@ fn two_ends() -> Vec<Case> {
         ends((-4, 4), 0, 0, "side -4 4"),
         ends((-8, -4), 0, 2, "side -3 7"),
         ends((-1, 1), -3, 0, "empty"),
+        ends((4, 8), 0, -2, "side -7 3"),
         ends((1, 0), 0, 0, "refused 16"),
         Case::new(
             "box, M = [1], a from 1 to 0, α = 0, c = 0",

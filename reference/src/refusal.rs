@@ -1,4 +1,4 @@
-//! The sixteen refusals: R4. Refusal k is rule R4.k.
+//! Refusals 1 to 16: R4.1 to R4.16. Refusal k is rule R4.k.
 
 /// Why a call or a file is refused.
 #[derive(Clone, Copy, Debug, PartialEq, Eq)]

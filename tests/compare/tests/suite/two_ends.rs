@@ -65,7 +65,7 @@ fn places() -> impl Iterator<Item = (usize, usize)> {
     (1..=8).flat_map(|order| (0..order).map(move |k| (order, k)))
 }
 
-/// W24 to W29, and the mirror image of W25
+/// W24 to W30, of which the last is the mirror image of W25
 #[test]
 fn the_listed_ends() {
     expect_sides(&of_order_1(-4, 4, 0, 0), &[-4, 4]);
