@@ -8,12 +8,13 @@ use lib.Signed.{_≤ℤ_}
 use Rattle.integers.specs.Sum.{sum}
 use Rattle.integers.proofs.Parts.{≤ℤ-trans, *ℤ-nonneg, square-nonneg, pos-nonneg}
 use Rattle.integers.proofs.Solver.{_&_, ring, order, solver}
-use Rattle.integers.proofs.Order.{*ℤ-mono, product-mono}
+use Rattle.integers.proofs.Order.{*ℤ-mono}
 use Rattle.integers.proofs.Sums.{sum-ext, sum-+, sum-*, sum-product}
 use Rattle.tables.specs.Matrix.{Matrix, form}
 use Rattle.tables.specs.Members.{Member, Ends, Between}
 use Rattle.tables.proofs.Forms.{form-+, form-*}
 use Rattle.rides.specs.Explaining.{Explains}
+use Rattle.rides.proofs.Products.{whole-*}
 
 -- the gains: of bounds and of linear terms
 module _ {n : ℕ} {L U : Matrix} {e : Ends} {limit u v : ℤ} {X : ℕ → ℤ} {p : ℤ} (P : Explains n L U e limit u v X p)
@@ -60,10 +61,6 @@ module _ {n : ℕ} {L U : Matrix} {e : Ends} {limit u v : ℤ} {X : ℕ → ℤ}
 
   Q-nonneg : pos 0 ≤ℤ Q
   Q-nonneg = *ℤ-nonneg w-nonneg w-nonneg
-
-  -- a product of whole denominators is one
-  whole-* : {x y : ℤ} → pos 1 ≤ℤ x → pos 1 ≤ℤ y → pos 1 ≤ℤ (x *ℤ y)
-  whole-* h k = product-mono (pos-nonneg 1) (pos-nonneg 1) h k
 
   member′ : Member n (λ i j. L i j +ℤ gl i j) (λ i j. U i j +ℤ gu i j) N′ (q *ℤ Q)
   member′ = record {

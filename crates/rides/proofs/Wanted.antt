@@ -9,7 +9,7 @@ use lib.Signed.{_≤ℤ_, ≤ℤ-refl}
 use Rattle.integers.specs.Sum.{sum}
 use Rattle.integers.proofs.Parts.{≤ℤ-trans, *ℤ-nonneg, square-nonneg, pos-nonneg}
 use Rattle.integers.proofs.Solver.{_&_, ring, order, solver}
-use Rattle.integers.proofs.Order.{*ℤ-mono, *ℤ-cancel, product-mono}
+use Rattle.integers.proofs.Order.{*ℤ-mono, *ℤ-cancel}
 use Rattle.integers.proofs.Sums.{sum-none}
 use Rattle.tables.specs.Matrix.{form}
 use Rattle.tables.specs.declared.Refusal.{Refusal}
@@ -34,6 +34,7 @@ use Rattle.rides.specs.Sums.{added, termsIn, sumsWithin}
 use Rattle.rides.specs.Gathering.{Step, kept, addedWithin, gathering}
 use Rattle.rides.specs.Explaining.{Explained, misfit}
 use Rattle.rides.specs.Rides.{noSums, gathered, gatheredAll, ifTaken, squares, allowing}
+use Rattle.rides.proofs.Products.{whole-*}
 use Rattle.rides.proofs.Gains.{one, added-explains}
 
 -- ---- fractions
@@ -122,9 +123,6 @@ module _ (X : ℕ → ℤ) (p : ℤ) (whole : pos 1 ≤ℤ p) where
   -- the denominator of all squares
   abbrev Z : ℤ
   Z = p *ℤ p *ℤ (sixteenth *ℤ sixteenth)
-
-  whole-* : {x y : ℤ} → pos 1 ≤ℤ x → pos 1 ≤ℤ y → pos 1 ≤ℤ (x *ℤ y)
-  whole-* h k = product-mono (pos-nonneg 1) (pos-nonneg 1) h k
 
   one-Z : pos 1 ≤ℤ Z
   one-Z = whole-* (whole-* whole whole) (whole-* one one)
