@@ -10,14 +10,11 @@ use mir.Syntax.{w64}
 use Rattle.words.specs.Numbers.{numbersOf}
 use Rattle.words.proofs.Laws.{length-numbersOf}
 use Rattle.tables.specs.Ranges.{linearRange, centreRange}
-use Rattle.tables.specs.Checks.{termsWithin, orderOk, orderOf, firstRefusal, entryChecks, boundsChecks, endsChecks}
-use Rattle.tables.specs.Entering.{Laid, Entered, doorChecks, entered}
-use Rattle.tables.specs.declared.Refusal.{Refusal}
-use Rattle.tables.specs.declared.Refusal.the-variants.{Length}
+use Rattle.tables.specs.Checks.{linearWithin, termsWithin, orderOf, firstRefusal, boundsChecks, endsChecks}
+use Rattle.tables.specs.Entering.{Laid, Entered, doorChecks}
 use Rattle.tables.specs.declared.Checked.{Checked}
-use Rattle.tables.proofs.Checks.{call-true, first-passes, first-refuses, more-checks, no-more-checks}
-use Rattle.tables.proofs.Answers.{after-refused}
-use Rattle.tables.proofs.Admission.{zeros, Padded, laid-zeros, range-same, crossed-same, entry-passes, entered-laid}
+use Rattle.tables.proofs.Checks.{call-true, more-checks}
+use Rattle.tables.proofs.Admission.{zeros, Padded, laid-zeros, range-same, crossed-same, entry-passes, order-given, entered-laid}
 use Rattle.buffers.specs.Buffers.{tableOf, vectorOf, Terms}
 
 -- k numbers laid over zeros
@@ -27,21 +24,6 @@ module _ {room k : ℕ} (s : List ℕ) {o o′ : List ℤ} (b : o ≡ zeros room
 
   pub loaded-room : length o′ ≡ room
   loaded-room = ap length q ∙ rw (length-append, length-numbersOf, length-drop, b, length-replicate) (omega arith)
-
--- a call whose n is an order, and whose buffers have other sizes
-ordered : (n : ℤ) → (orderOf n ≡ 0 → ⊥) → orderOk n ≡ true
-unfolding orderOf
-ordered n h = go (orderOk n) refl
-  where
-    go : (b : Bool) → orderOk n ≡ b → orderOk n ≡ true
-    go true e = e
-    go false e = absurd (h (rw (orderOf, e)))
-
-pub no-sizes : (n : ℤ) (sized others : Bool) (l u : List ℤ) {A : Type 0} (refused : Refusal → A) (a : A) → (orderOf n ≡ 0 → ⊥) → sized ≡ false →
-    refused Length ≡ entered refused n sized others l u a
-unfolding entered entryChecks
-no-sizes n sized others l u refused a h e =
-    after-refused refused Length a (no-more-checks (entryChecks n sized) (boundsChecks others (orderOf n) l u) Length (first-passes _ _ (ordered n h) ∙ first-refuses _ _ e))
 
 -- checks 1 to 5 of the bounds that were loaded are those of the bounds that the buffers spell
 came-loaded : {n n′ : ℤ} {m : ℕ} {sized sized′ others : Bool} (l u : List ℕ) {l′ u′ : List ℤ} {r : Checked} → m ≡ orderOf n → n′ ≡ n → sized′ ≡ sized →
@@ -53,12 +35,12 @@ came-loaded l u e f g p a = entered-laid _ _ _ (λ s. (length-numbersOf w64 l _,
 pub came-sized : {n : ℤ} {m : ℕ} {sized sized′ others : Bool} (l u : List ℕ) {l′ u′ : List ℤ} {r : Checked} → m ≡ orderOf n → (m ≡ 0 → ⊥) → sized′ ≡ sized → not sized′ ≡ false →
     Laid m sized′ (tableOf m l) (tableOf m u) l′ u′ → r ≡ firstRefusal (boundsChecks others m l′ u′) →
     Entered n sized others (tableOf (orderOf n) l) (tableOf (orderOf n) u) r l′ u′
-came-sized {n} l u e h g t p a = came-loaded l u e refl g p ((rw e at a) ∙ sym (more-checks _ _ (entry-passes n (ordered n (λ z. h (e ∙ z))) (call-true refl t))))
+came-sized {n} l u e h g t p a = came-loaded l u e refl g p ((rw e at a) ∙ sym (more-checks _ _ (entry-passes n (order-given n (λ z. h (e ∙ z))) (call-true refl t))))
 
 -- check 3 of the numbers that were loaded is that of the numbers that the buffers spell
 pub terms-spelled : (n : ℕ) (sized : Bool) (a b c : List ℕ) (x y z : List ℤ) (α : ℤ) {r sized′ : Bool} {m : ℕ} {β : ℤ} → r ≡ (sized′ && termsWithin m x y β z) → sized′ ≡ sized → m ≡ n → β ≡ α →
     Terms n sized a x → Terms n sized b y → Terms n sized c z → r ≡ (sized && termsWithin n (vectorOf n a) (vectorOf n b) α (vectorOf n c))
-unfolding termsWithin
+unfolding linearWithin termsWithin
 terms-spelled n true a b c x y z α e f g h p q t =
     (rw (f, g, h) at e) ∙ rw (range-same linearRange n (vectorOf n a) x (p .numbers refl), range-same linearRange n (vectorOf n b) y (q .numbers refl), range-same centreRange n (vectorOf n c) z (t .numbers refl))
 terms-spelled n false a b c x y z α e f g h p q t = rw f at e

@@ -9,17 +9,17 @@ use lib.ListN.{length}
 use borrow.Author.Tests.{eqb-true}
 use lib.Dec.{eqb}
 use Rattle.integers.specs.Numbers.{Within}
-use Rattle.tables.specs.Ranges.{sidesRoom, linearRange, limitRange, centreRange, gradientRange}
+use Rattle.tables.specs.Ranges.{sidesRoom, limitRange, centreRange, gradientRange}
 use Rattle.tables.specs.Matrix.{Matrix, nth, tabulate}
 use Rattle.tables.specs.Members.{Ends}
 use Rattle.tables.specs.Bounds.{CheckedTables}
-use Rattle.tables.specs.Checks.{all, within, allWithin, termsWithin}
+use Rattle.tables.specs.Checks.{all, within, allWithin, linearWithin, termsWithin}
 use Rattle.tables.specs.Problem.{constraintSized}
 use Rattle.tables.specs.declared.Refusal.{Refusal}
 use Rattle.tables.specs.declared.problem.Sizes.{Sizes}
 use Rattle.tables.specs.declared.problem.Lengths.{Lengths}
 use Rattle.tables.specs.declared.Refusal.the-variants.{Flat, Far}
-use Rattle.tables.proofs.Checks.{and-left, and-right, all-at, all-ext, within-of}
+use Rattle.tables.proofs.Checks.{and-left, and-right, all-at, all-ext, within-of, linear-of}
 use Rattle.tables.proofs.Problems.{constraint-sizes-of}
 use Rattle.tables.proofs.Matrix.{nth-tabulate}
 use Rattle.steps.specs.Steps.{step, stepAt}
@@ -83,19 +83,20 @@ stated-refused n e h = record { box = e; size = h }
 
 -- ---- what check 3 finds beside the tables
 module _ (n : ℕ) (a b : List ℤ) (α : ℤ) (c : List ℤ) (e : termsWithin n a b α c ≡ true) where
-  -- the high ends, and what comes after them
-  highs : (allWithin linearRange n b && (within limitRange α && allWithin centreRange n c)) ≡ true
+  -- the linear terms, and what comes after them
+  linear : linearWithin n a b ≡ true
   unfolding termsWithin
-  highs = and-right (allWithin linearRange n a) _ e
+  linear = and-left _ (within limitRange α && allWithin centreRange n c) e
 
   rest : (within limitRange α && allWithin centreRange n c) ≡ true
-  rest = and-right (allWithin linearRange n b) _ highs
+  unfolding termsWithin
+  rest = and-right (linearWithin n a b) _ e
 
   pub limit-within : Within limitRange α
   limit-within = within-of limitRange α (and-left (within limitRange α) (allWithin centreRange n c) rest)
 
   pub centred : {l u : List ℤ} → CheckedTables n l u → n ≤ length a → n ≤ length b → n ≤ length c → Centred n l u a b c
-  unfolding allWithin termsWithin
+  unfolding allWithin
   centred t r s v = record {
     tables = t;
     terms = record {
@@ -103,8 +104,8 @@ module _ (n : ℕ) (a b : List ℤ) (α : ℤ) (c : List ℤ) (e : termsWithin n
       low-length = r;
       high-length = s;
       centre-length = v;
-      low = λ k h. within-of linearRange (nth a k) (all-at _ n (and-left _ (allWithin linearRange n b && (within limitRange α && allWithin centreRange n c)) e) k h);
-      high = λ k h. within-of linearRange (nth b k) (all-at _ n (and-left _ (within limitRange α && allWithin centreRange n c) highs) k h);
+      low = λ k h. linear-of n a b linear k h .0;
+      high = λ k h. linear-of n a b linear k h .1;
       centre = λ k h. within-of centreRange (nth c k) (all-at _ n (and-right (within limitRange α) _ rest) k h);
     };
   }

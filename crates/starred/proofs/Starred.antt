@@ -9,7 +9,7 @@ use Rattle.integers.specs.Sum.{sum, only, except}
 use Rattle.integers.specs.Division.{floorDiv, ceilDiv}
 use Rattle.integers.specs.Root.{wholeRoot, rootWithin, rootAbove, leastRoot}
 use Rattle.tables.specs.Matrix.{at, nth, table, tabulate, form, gram, rowWidth}
-use Rattle.tables.specs.Checks.{all, firstRefusal, orderOk, orderOf, entryChecks, within, allWithin, tablesWithin, termsWithin, nowhereCrossed, same, symmetric, boundsChecks, endsChecks}
+use Rattle.tables.specs.Checks.{all, firstRefusal, orderOk, orderOf, entryChecks, within, allWithin, tablesWithin, linearWithin, termsWithin, nowhereCrossed, same, symmetric, boundsChecks, endsChecks}
 use Rattle.tables.specs.Entering.{entered}
 use Rattle.tables.specs.Problem.{problemOf, constraintEntered}
 use Rattle.tables.specs.Answers.{after}
@@ -105,7 +105,7 @@ lines =
     ∷ []
 
 as-printed : map (λ (l : Line). l .rules) lines ≡ map (λ (l : Line). l .expected) lines
-unfolding judging judged listed factorTested factorAnswer factorShape factorEntry accepts rowPasses radius residual gram except after entered firstRefusal entryChecks orderOk orderOf boundsChecks endsChecks constraintEntered tablesWithin allWithin nowhereCrossed symmetric same all within factoring columnsFrom nextColumn rows goesOn nextEntry entries takeOff scaledBy at table tabulate form rowWidth leastMember leastValue nonzero shows tried first stoppedFactor solvedEntry solvedRows solved sum only floorDiv wholeRoot rootWithin boxing problemBox termsWithin boxed boxOf sidesFrom halfSide smallerHalf secondBound firstHalf bound atCentre gradient highGradient lowGradient step stepAt bits trial lowered absℤ minℤ maxℤ ceilDiv rootAbove leastRoot
+unfolding judging judged listed factorTested factorAnswer factorShape factorEntry accepts rowPasses radius residual gram except after entered firstRefusal entryChecks orderOk orderOf boundsChecks endsChecks constraintEntered tablesWithin allWithin nowhereCrossed symmetric same all within factoring columnsFrom nextColumn rows goesOn nextEntry entries takeOff scaledBy at table tabulate form rowWidth leastMember leastValue nonzero shows tried first stoppedFactor solvedEntry solvedRows solved sum only floorDiv wholeRoot rootWithin boxing problemBox linearWithin termsWithin boxed boxOf sidesFrom halfSide smallerHalf secondBound firstHalf bound atCentre gradient highGradient lowGradient step stepAt bits trial lowered absℤ minℤ maxℤ ceilDiv rootAbove leastRoot
 as-printed = refl
 
 -- so every member of [1 3; 3 10], on which the judge is undecided, is positive definite

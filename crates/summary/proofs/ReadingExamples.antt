@@ -8,7 +8,7 @@ use Rattle.words.specs.Numbers.{fromLeBytes, unsignedAt, signedAt, numbersOf, p
 use Rattle.tables.specs.Matrix.{at}
 use Rattle.tables.specs.Problem.{problemOf}
 use Rattle.tables.specs.Ranges.{greatestOrder, tableRoom}
-use Rattle.tables.specs.Checks.{all, firstRefusal, orderOk, within, allWithin, nowhereCrossed, same, symmetric, tablesWithin, termsWithin, boundsChecks, endsChecks}
+use Rattle.tables.specs.Checks.{all, firstRefusal, orderOk, within, allWithin, nowhereCrossed, same, symmetric, tablesWithin, linearWithin, termsWithin, boundsChecks, endsChecks}
 use Rattle.tables.specs.declared.Refusal.{Refusal}
 use Rattle.tables.specs.declared.Refusal.the-variants.{Order, Range, Crossed, Tag, Absent, Size, Long, Reversed}
 use Rattle.tables.specs.declared.Checked.the-variants.{Passed, Refused}
@@ -99,5 +99,5 @@ as-worked-out : map (λ (l : Line). reading (l .bytes)) lines ≡ map (λ (l : L
 unfolding reading readWalked readIn readAs readingOf problemIn fieldChecks allPresent orderIn lengthsOk
     content lengthOf walked walk walkFields walkOn seen startOf unseen placed fieldAt tagged kindOf kindIn
     unsignedAt fromLeBytes signedAt numbersOf paddedNumbersOf
-    all firstRefusal orderOk within allWithin nowhereCrossed same symmetric tablesWithin termsWithin boundsChecks endsChecks at
+    all firstRefusal orderOk within allWithin nowhereCrossed same symmetric tablesWithin linearWithin termsWithin boundsChecks endsChecks at
 as-worked-out = refl

@@ -14,7 +14,7 @@ use Rattle.tables.specs.Matrix.{Matrix, nth, at}
 use Rattle.tables.specs.Checks.{all, within, allWithin, tablesWithin, nowhereCrossed, same, symmetric, boundsChecks, firstRefusal, orderOk, orderOf, entryChecks}
 use Rattle.tables.specs.Entering.{Exact, Blank, Over, Laid, Entered, doorChecks, entered}
 use Rattle.tables.specs.declared.Refusal.{Refusal}
-use Rattle.tables.specs.declared.Refusal.the-variants.{Order}
+use Rattle.tables.specs.declared.Refusal.the-variants.{Order, Length}
 use Rattle.tables.specs.declared.Checked.{Checked}
 use Rattle.tables.specs.declared.Checked.the-variants.{Passed, Refused}
 use Rattle.tables.proofs.Matrix.{nth-padded, at-padded, table-fits}
@@ -87,7 +87,7 @@ others-passed true n l u e = e
 others-passed false n l u e = cc (first-passed _ _ e)
 
 module _ {l u l′ u′ : List ℤ} (p : Padded l l′) (q : Padded u u′) where
-  checks-padded : (others : Bool) (n : ℕ) → boundsChecks others n l′ u′ ≡ boundsChecks others n l u
+  pub checks-padded : (others : Bool) (n : ℕ) → boundsChecks others n l′ u′ ≡ boundsChecks others n l u
   unfolding boundsChecks tablesWithin
   checks-padded others n = rw (range-same entryRange (n * n) l l′ (padded-nth p), range-same entryRange (n * n) u u′ (padded-nth q), crossed-same (n * n) l l′ u u′ (padded-nth p) (padded-nth q), symmetric-padded n p, symmetric-padded n q)
 
@@ -119,6 +119,14 @@ order-none n e = false-of (orderOk n) (λ o. go n (order-of o .0) (sym (order-kn
     go : (n : ℤ) → pos 1 ≤ℤ n → natAbs n ≡ 0 → ⊥
     go (pos m) h z = omega (arith, ≤-out h)
     go (negsuc m) h z = absurd (h .le)
+
+pub order-given : (n : ℤ) → (orderOf n ≡ 0 → ⊥) → orderOk n ≡ true
+unfolding orderOf
+order-given n h = go (orderOk n) refl
+  where
+    go : (b : Bool) → orderOk n ≡ b → orderOk n ≡ true
+    go true e = e
+    go false e = absurd (h (rw (orderOf, e)))
 
 -- the numbers of a table of the order of a call
 pub order-fits : {m : ℕ} (n : ℤ) → m ≡ orderOf n → m * m ≤ tableRoom
@@ -199,6 +207,13 @@ module _ (n : ℤ) (sized others : Bool) (l u : List ℤ) where
     pub entered-means : (P : A → Type 0) → ((r : Refusal) → P (refused r)) → (Behind n sized others l u → P a) → P (entered refused n sized others l u a)
     unfolding entered
     entered-means P f g = after-means refused (firstRefusal (doorChecks n sized others l u)) a P f (λ q. g (behind q))
+
+-- a call whose n is an order, and whose buffers have other sizes
+pub no-sizes : (n : ℤ) (sized others : Bool) (l u : List ℤ) {A : Type 0} (refused : Refusal → A) (a : A) → (orderOf n ≡ 0 → ⊥) → sized ≡ false →
+    refused Length ≡ entered refused n sized others l u a
+unfolding entered entryChecks
+no-sizes n sized others l u refused a h e =
+    after-refused refused Length a (no-more-checks (entryChecks n sized) (boundsChecks others (orderOf n) l u) Length (first-passes _ _ (order-given n h) ∙ first-refuses _ _ e))
 
 -- where the sizes fail, nothing else is asked
 pub entered-sized : (n : ℤ) (sized others : Bool) (l u : List ℤ) {r : Checked} {l′ u′ : List ℤ} → Entered n sized (sized && others) l u r l′ u′ → Entered n sized others l u r l′ u′

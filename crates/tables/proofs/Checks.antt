@@ -15,9 +15,9 @@ use borrow.Author.Tests.{leb-true, le-leb, eqb-true, eq-eqb, not-true, not-false
 use Rattle.integers.specs.Numbers.{Within}
 use Rattle.integers.proofs.Parts.{≤ℤ-antisym, ≤ℤ-trans, pos-nonneg, ≤-out, leZ-true, leZ-false}
 use Rattle.integers.proofs.Machine.{within-neg, within-in, within-low, within-high, fits, lt-yes, lt-no, same-bits, as-usize}
-use Rattle.tables.specs.Ranges.{greatestOrder, entryRange}
-use Rattle.tables.specs.Matrix.{at}
-use Rattle.tables.specs.Checks.{all, Check, firstRefusal, orderOk, sizesOk, within, allWithin, tablesWithin, nowhereCrossed, same, symmetric, boundsChecks, tableChecks}
+use Rattle.tables.specs.Ranges.{greatestOrder, entryRange, linearRange}
+use Rattle.tables.specs.Matrix.{nth, at}
+use Rattle.tables.specs.Checks.{all, Check, firstRefusal, orderOk, sizesOk, within, allWithin, linearWithin, tablesWithin, nowhereCrossed, same, symmetric, boundsChecks, tableChecks}
 use Rattle.tables.specs.Pairs.{pairBounded, tablesBounded}
 use Rattle.tables.specs.Bounds.{Bounds}
 use Rattle.tables.specs.declared.Refusal.{Refusal}
@@ -108,6 +108,13 @@ order-is h = rw (leZ-true h)
 pub within-of : (m : ℕ) (x : ℤ) → within m x ≡ true → Within m x
 unfolding within
 within-of m x e = record { size = leb-true (natAbs x) m e }
+
+-- both ends of each linear term
+pub linear-of : (n : ℕ) (a b : List ℤ) → linearWithin n a b ≡ true → (k : ℕ) → k < n → Within linearRange (nth a k) × Within linearRange (nth b k)
+unfolding linearWithin allWithin
+linear-of n a b e k h =
+    let x = and-left _ (allWithin linearRange n b) e in
+    (within-of linearRange (nth a k) (all-at _ n x k h), within-of linearRange (nth b k) (all-at _ n (and-right (allWithin linearRange n a) _ e) k h))
 
 pub within-true : {m : ℕ} {x : ℤ} → Within m x → within m x ≡ true
 unfolding within

@@ -5,7 +5,7 @@ use mathlib.Core.List.{List, _++_, append-assoc}
 use lib.Dec.{eqb}
 use lib.IntN.{ℤ}
 use borrow.Author.Tests.{eqb-true}
-use Rattle.tables.specs.Checks.{Check, sizesOk, orderOf, entryChecks, boundsChecks, firstRefusal}
+use Rattle.tables.specs.Checks.{Check, sizesOk, orderOk, orderOf, entryChecks, boundsChecks, firstRefusal}
 use Rattle.tables.specs.Answers.{after}
 use Rattle.tables.specs.Entering.{Entered, entered}
 use Rattle.tables.specs.Problem.{constraintSized, problemWithin, constraintEnds, problemChecks, constraintEntered}
@@ -18,7 +18,7 @@ use Rattle.tables.specs.declared.problem.Sizes.{Sizes}
 use Rattle.tables.specs.declared.problem.Lengths.{Lengths}
 use Rattle.tables.proofs.Checks.{sizes-of, and-left, and-right, more-checks, no-more-checks}
 use Rattle.tables.proofs.Answers.{after-refused, after-passed, after-means}
-use Rattle.tables.proofs.Admission.{Behind, entered-refused, entered-passed, entered-means}
+use Rattle.tables.proofs.Admission.{Behind, entry-passes, entered-refused, entered-passed, entered-means}
 
 -- each buffer has its size
 pub constraint-sizes-of : (z : Sizes) (b : Lengths) → constraintSized z b ≡ true →
@@ -66,3 +66,11 @@ problem-door refused n sized p a e =
     let c = p .constraint in
     let bounds = boundsChecks (problemWithin p) (c .order) (c .low) (c .high) in
     rw (← e) (sym (after-both refused (entryChecks n sized ++ bounds) (constraintEnds c) a) ∙ ap (λ (z : List Check). after refused (firstRefusal z) a) (append-assoc (entryChecks n sized) bounds (constraintEnds c)))
+
+-- where n is an order and the buffers have their sizes, 3 to 5 and 16 are all that is left to ask
+pub constraint-sized : {A : Type 0} (refused : Refusal → A) (n : ℤ) (sized others : Bool) (c : Constraint) (a : A) → orderOk n ≡ true → sized ≡ true → c .order ≡ orderOf n →
+    constraintEntered refused n sized others c a ≡ after refused (firstRefusal (boundsChecks others (c .order) (c .low) (c .high) ++ constraintEnds c)) a
+unfolding constraintEntered entered
+constraint-sized refused n sized others c a o z e =
+    let bounds = boundsChecks others (c .order) (c .low) (c .high) in
+    rw (← e) (ap (λ (k : Checked). after refused k (after refused (firstRefusal (constraintEnds c)) a)) (more-checks (entryChecks n sized) bounds (entry-passes n o z)) ∙ sym (after-both refused bounds (constraintEnds c) a))

@@ -65,10 +65,13 @@ symmetric n t = all n (rowSymmetric n t)
 unfoldable pub tablesWithin : ℕ → List ℤ → List ℤ → Bool
 tablesWithin m l u = allWithin entryRange m l && allWithin entryRange m u
 
--- linear terms from a to b, limit α and centre c of order n are in their ranges
+-- both ends of linear terms from a to b of order n
+unfoldable pub linearWithin : ℕ → List ℤ → List ℤ → Bool
+linearWithin n a b = allWithin linearRange n a && allWithin linearRange n b
+
+-- linear terms from a to b, limit α and centre c of order n
 unfoldable pub termsWithin : ℕ → List ℤ → List ℤ → ℤ → List ℤ → Bool
-termsWithin n a b α c =
-    allWithin linearRange n a && (allWithin linearRange n b && (within limitRange α && allWithin centreRange n c))
+termsWithin n a b α c = linearWithin n a b && (within limitRange α && allWithin centreRange n c)
 
 -- ---- the checks, by their numbers
 abbrev pub checkOrder : ℤ → Check

@@ -11,7 +11,7 @@ ghost use Rattle.tables.specs.Ranges.{greatestOrder};
 ghost use Rattle.tables.specs.Refusals.{refusalNumber};
 ghost use Rattle.tables.specs.Answers.{answerCode};
 ghost use Rattle.tables.specs.Checks.{orderOk, sizesOk, within, allWithin, tablesWithin};
-ghost use Rattle.tables.specs.Checks.{termsWithin, nowhereCrossed, rowSymmetric, symmetric, boundsChecks, endsChecks};
+ghost use Rattle.tables.specs.Checks.{linearWithin, termsWithin, nowhereCrossed, rowSymmetric, symmetric, boundsChecks, endsChecks};
 ghost use Rattle.tables.specs.Checks.{firstRefusal};
 ghost use Rattle.tables.specs.Pairs.{pairBounded, rowBounded, tablesBounded};
 
@@ -241,7 +241,7 @@ pub fn symmetric(n: usize, t: &[i64]) -> bool
 }
 
 // Whether the first numbers of both tables, count of them, are within the range of entries.
-fn entries_within(low: &[i64], high: &[i64], count: usize) -> bool
+pub fn entries_within(low: &[i64], high: &[i64], count: usize) -> bool
     requires { ⌜ (count ≤ length (now low)) × (count ≤ length (now high)) ⌝ }
     ensures { λ r. ⌜ r ≡ tablesWithin count (now (low .entry)) (now (high .entry)) ⌝ }
 {
@@ -358,15 +358,23 @@ pub fn check_ends(n: usize, low: &[i64], high: &[i64]) -> Checked
     Checked::Refused(Refusal::Reversed)
 }
 
+// Whether both ends of the linear terms are within their range.
+pub fn linear_within(n: usize, low: &[i64], high: &[i64]) -> bool
+    requires { ⌜ (n ≤ length (now low)) × (n ≤ length (now high)) ⌝ }
+    ensures { λ r. ⌜ r ≡ linearWithin n (now (low .entry)) (now (high .entry)) ⌝ }
+{
+    if !all_within(low, n, LINEAR_RANGE) {
+        return false;
+    }
+    all_within(high, n, LINEAR_RANGE)
+}
+
 // Whether the ends of the linear terms, the limit and the centre are within their ranges.
 fn terms_within(n: usize, low: &[i64], high: &[i64], limit: i64, centre: &[i64]) -> bool
     requires { ⌜ (n ≤ length (now low)) × (n ≤ length (now high)) × (n ≤ length (now centre)) ⌝ }
     ensures { λ r. ⌜ r ≡ termsWithin n (now (low .entry)) (now (high .entry)) limit (now (centre .entry)) ⌝ }
 {
-    if !all_within(low, n, LINEAR_RANGE) {
-        return false;
-    }
-    if !all_within(high, n, LINEAR_RANGE) {
+    if !linear_within(n, low, high) {
         return false;
     }
     if !within(limit, LIMIT_RANGE) {

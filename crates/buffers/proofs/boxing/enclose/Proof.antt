@@ -16,13 +16,13 @@ use Rattle.tables.specs.Entering.{Entered}
 use Rattle.tables.specs.Problem.{constraintOf, lengthsOf, constraintEnds, constraintEntered}
 use Rattle.tables.specs.declared.problem.Constraint.{Constraint}
 use Rattle.tables.proofs.Checks.{call-false, and-right, and-of}
-use Rattle.tables.proofs.Admission.{Behind, order-small, order-fits, no-order, came-through, entered-by, entered-sized}
+use Rattle.tables.proofs.Admission.{Behind, order-small, order-fits, no-order, no-sizes, came-through, entered-by, entered-sized}
 use Rattle.tables.proofs.Problems.{door-refused, ends-refused, constraint-passed}
 use Rattle.enclosure.specs.Box.{Box, refused, problemBox, boxing}
 use Rattle.enclosure.specs.Act.{Enclosed}
 use Rattle.enclosure.proofs.BoxCases.{BoxSized, box-sizes-of, centred, limit-within}
 use Rattle.buffers.specs.Buffers.{tableOf, vectorOf, boxBuffers, storedSides, Terms}
-use Rattle.buffers.proofs.Loading.{no-sizes, came-sized, terms-spelled, ends-spelled, terms-by}
+use Rattle.buffers.proofs.Loading.{came-sized, terms-spelled, ends-spelled, terms-by}
 use Rattle.buffers.proofs.boxing.enclose.Statement.{statement}
 use Rattle.buffers.proofs.boxing.enclose.Tie as tie
 

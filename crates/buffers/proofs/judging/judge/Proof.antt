@@ -9,11 +9,11 @@ use Rattle.integers.proofs.Machine.{clean}
 use Rattle.tables.specs.Checks.{orderOf}
 use Rattle.tables.specs.Entering.{Entered}
 use Rattle.tables.proofs.Checks.{call-false}
-use Rattle.tables.proofs.Admission.{order-small, order-fits, no-order, came-through, entered-refused, entered-passed}
+use Rattle.tables.proofs.Admission.{order-small, order-fits, no-order, no-sizes, came-through, entered-refused, entered-passed}
 use Rattle.verdict.specs.Judge.{Judgement, refused, Judged, judging}
 use Rattle.verdict.proofs.Decisions.{judge-sizes-of}
 use Rattle.buffers.specs.Buffers.{tableOf, judgeBuffers, storedVerdict}
-use Rattle.buffers.proofs.Loading.{no-sizes, came-sized}
+use Rattle.buffers.proofs.Loading.{came-sized}
 use Rattle.buffers.proofs.judging.judge.Statement.{statement}
 use Rattle.buffers.proofs.judging.judge.Tie as tie
 

@@ -11,10 +11,10 @@ use Rattle.tables.specs.Entering.{Entered}
 use Rattle.tables.specs.declared.Answer.the-variants as Answer
 use Rattle.tables.proofs.Matrix.{table-fits}
 use Rattle.tables.proofs.Checks.{call-false, sizes-of}
-use Rattle.tables.proofs.Admission.{Padded, padded-at, order-small, order-fits, no-order, came-through, entered-refused, entered-passed}
+use Rattle.tables.proofs.Admission.{Padded, padded-at, order-small, order-fits, no-order, no-sizes, came-through, entered-refused, entered-passed}
 use Rattle.residual.specs.FactorTest.{factorTested, factorAnswer}
 use Rattle.buffers.specs.Buffers.{tableOf, factorBuffers}
-use Rattle.buffers.proofs.Loading.{no-sizes, came-sized, loaded, loaded-room}
+use Rattle.buffers.proofs.Loading.{came-sized, loaded, loaded-room}
 use Rattle.buffers.proofs.tests.test_factor.Statement.{statement}
 use Rattle.buffers.proofs.tests.test_factor.Tie as tie
 

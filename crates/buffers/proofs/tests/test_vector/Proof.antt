@@ -10,10 +10,10 @@ use Rattle.tables.specs.Checks.{orderOf}
 use Rattle.tables.specs.Entering.{Entered}
 use Rattle.tables.specs.declared.Answer.the-variants as Answer
 use Rattle.tables.proofs.Checks.{call-false, sizes-of}
-use Rattle.tables.proofs.Admission.{Padded, padded-nth, order-small, order-fits, no-order, came-through, entered-refused, entered-passed}
+use Rattle.tables.proofs.Admission.{Padded, padded-nth, order-small, order-fits, no-order, no-sizes, came-through, entered-refused, entered-passed}
 use Rattle.vectors.specs.VectorTest.{vectorTested, vectorAnswer}
 use Rattle.buffers.specs.Buffers.{tableOf, vectorOf, vectorBuffers}
-use Rattle.buffers.proofs.Loading.{no-sizes, came-sized, loaded, loaded-room}
+use Rattle.buffers.proofs.Loading.{came-sized, loaded, loaded-room}
 use Rattle.buffers.proofs.tests.test_vector.Statement.{statement}
 use Rattle.buffers.proofs.tests.test_vector.Tie as tie
 
