@@ -18,8 +18,8 @@ use Rattle.floats.specs.Brackets.{sixteenth, wholeNextTo}
 use Rattle.floats.specs.declared.Neighbours.{Neighbours}
 use Rattle.floats.proofs.Next.{NextTo, next-to}
 use Rattle.rides.specs.declared.sample.Sample.{Sample}
-use Rattle.rides.specs.Samples.{factorCount, factorUnits, drawUnits, drawNext}
-use Rattle.rides.specs.Sums.{leastProduct, greatestProduct, leastSquare, lowGain, highGain, leastLoss, greatestLoss, added}
+use Rattle.rides.specs.Samples.{factorCount, factorUnits, drawUnits, factorNext, drawNext}
+use Rattle.rides.specs.Sums.{leastProduct, greatestProduct, leastSquare, lowWith, highWith, fromWith, toWith, addedBy, added}
 use Rattle.rides.specs.Explaining.{Explains, Explained, misfit}
 use Rattle.rides.proofs.Products.{product-low, product-high}
 use Rattle.rides.proofs.Step.{step}
@@ -86,19 +86,24 @@ module _ (s : Sample) (c : Constraint) (ordered : c .order ≡ factorCount) {u v
   abbrev D : ℤ
   D = drawUnits s
 
+  abbrev ends : ℕ → Neighbours
+  ends = factorNext s
+
+  abbrev draw : Neighbours
+  draw = drawNext s
+
   -- over matrices and functions
-  stepped : Explains n (λ i j. at n (c .low) i j +ℤ lowGain s i j) (λ i j. at n (c .high) i j +ℤ highGain s i j)
-      (record { low = λ i. nth (c .linear .low) i -ℤ greatestLoss s i; high = λ i. nth (c .linear .high) i -ℤ leastLoss s i }) (c .limit -ℤ leastSquare (drawNext s))
+  stepped : Explains n (lowWith ends draw c) (highWith ends draw c) (record { low = fromWith ends draw c; high = toWith ends draw c }) (c .limit -ℤ leastSquare draw)
       (u *ℤ (p *ℤ p *ℤ (w *ℤ w)) +ℤ misfit s X p *ℤ misfit s X p *ℤ v) (v *ℤ (p *ℤ p *ℤ (w *ℤ w))) X p
   unfolding misfit
   stepped =
-      step (rw ordered at P) w one F D (lowGain s) (highGain s) (leastLoss s) (greatestLoss s) (leastSquare (drawNext s))
+      step (rw ordered at P) w one F D (λ i j. leastProduct (ends i) (ends j)) (λ i j. greatestProduct (ends i) (ends j)) (λ i. leastProduct (ends i) draw) (λ i. greatestProduct (ends i) draw) (leastSquare draw)
       (λ i j h k. least-is (F i) (F j)) (λ i j h k. greatest-is (F i) (F j)) (λ i h. least-is (F i) D) (λ i h. greatest-is (F i) D)
       (square-low _ _ D (next D .below) (next D .above)) whole
 
   -- over the lists of the sums
   pub added-explains : Explained (added s c) (u *ℤ (p *ℤ p *ℤ (w *ℤ w)) +ℤ misfit s X p *ℤ misfit s X p *ℤ v) (v *ℤ (p *ℤ p *ℤ (w *ℤ w))) X p
-  unfolding added
+  unfolding addedBy
   added-explains =
       let e = stepped in
       record {
@@ -107,15 +112,15 @@ module _ (s : Sample) (c : Constraint) (ordered : c .order ≡ factorCount) {u v
         member = record {
           whole = e .member .whole;
           symmetric = e .member .symmetric;
-          low = λ i j h k. rw (at-table n (λ i j. at n (c .low) i j +ℤ lowGain s i j) i j h k) (e .member .low i j h k);
-          high = λ i j h k. rw (at-table n (λ i j. at n (c .high) i j +ℤ highGain s i j) i j h k) (e .member .high i j h k);
+          low = λ i j h k. rw (at-table n (lowWith ends draw c) i j h k) (e .member .low i j h k);
+          high = λ i j h k. rw (at-table n (highWith ends draw c) i j h k) (e .member .high i j h k);
         };
         terms = e .terms;
         scale = e .scale;
         between = record {
           whole = e .between .whole;
-          low = λ i h. rw (nth-tabulate n (λ i. nth (c .linear .low) i -ℤ greatestLoss s i) i h) (e .between .low i h);
-          high = λ i h. rw (nth-tabulate n (λ i. nth (c .linear .high) i -ℤ leastLoss s i) i h) (e .between .high i h);
+          low = λ i h. rw (nth-tabulate n (fromWith ends draw c) i h) (e .between .low i h);
+          high = λ i h. rw (nth-tabulate n (toWith ends draw c) i h) (e .between .high i h);
         };
         under = e .under;
       }

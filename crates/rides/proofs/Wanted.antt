@@ -15,11 +15,11 @@ use Rattle.tables.specs.Matrix.{form}
 use Rattle.tables.specs.declared.Refusal.{Refusal}
 use Rattle.tables.specs.declared.Refusal.the-variants.{Full}
 use Rattle.tables.specs.declared.Refusal.the-variants as Refused
-use Rattle.tables.specs.Problem.{constraintEntered}
 use Rattle.tables.specs.declared.problem.Constraint.{Constraint}
 use Rattle.tables.proofs.Matrix.{at-table, nth-tabulate}
 use Rattle.tables.proofs.Problems.{constraint-means}
-use Rattle.tables.specs.Checks.{orderOk, orderOf}
+use Rattle.tables.specs.Ranges.{limitRange}
+use Rattle.tables.specs.Checks.{orderOk, orderOf, within}
 use Rattle.enclosure.specs.Points.{Allowed, Contains}
 use Rattle.enclosure.specs.Box.{boxing}
 use Rattle.enclosure.specs.Act.{laidSides}
@@ -27,13 +27,11 @@ use Rattle.enclosure.specs.declared.enclose.BoxAnswer.the-variants as BoxAnswer
 use Rattle.enclosure.proofs.BoxMeanings.{boxing-means}
 use Rattle.floats.specs.Brackets.{sixteenth}
 use Rattle.rides.specs.declared.sample.Sample.{Sample}
-use Rattle.rides.specs.declared.sample.Gathered.{Gathered}
-use Rattle.rides.specs.declared.sample.Gathered.the-variants as Gathered
-use Rattle.rides.specs.Samples.{factorCount, sampleFits}
-use Rattle.rides.specs.Sums.{added, termsIn, sumsWithin}
-use Rattle.rides.specs.Gathering.{Step, kept, addedWithin, gathering}
+use Rattle.rides.specs.Samples.{factorCount, sampleFits, factorNext, drawNext}
+use Rattle.rides.specs.Sums.{addedBy, added, sumsWithin}
+use Rattle.rides.specs.Gathering.{Outcome, taken, refused, termsIn, addedWithin, enteredSums, gathering}
 use Rattle.rides.specs.Explaining.{Explained, misfit}
-use Rattle.rides.specs.Rides.{noSums, gathered, gatheredAll, ifTaken, squares, allowing}
+use Rattle.rides.specs.Rides.{noSums, gathered, sumsAfter, gatheredAll, ifTaken, squares, allowing}
 use Rattle.rides.proofs.Products.{whole-*}
 use Rattle.rides.proofs.Gains.{one, added-explains}
 
@@ -55,7 +53,7 @@ module _ (c : Constraint) {u v : ℤ} {X : ℕ → ℤ} {p : ℤ} where
       }
 
   -- explained up to K: allowed with the allowance K
-  allowed : pos 1 ≤ℤ v → pos 1 ≤ℤ p → (K : ℤ) → u ≤ℤ (K *ℤ v) → Explained c u v X p → Allowed (allowing K c) X p
+  pub allowed : pos 1 ≤ℤ v → pos 1 ≤ℤ p → (K : ℤ) → u ≤ℤ (K *ℤ v) → Explained c u v X p → Allowed (allowing K c) X p
   allowed one-v one-p K h P =
       let q = P .denominator in
       let s = P .scale in
@@ -73,18 +71,20 @@ module _ (c : Constraint) {u v : ℤ} {X : ℕ → ℤ} {p : ℤ} where
             (P .under & *ℤ-mono room h) (search solver depth 40 fits 20000) (omega arith));
       }
 
--- ---- what gathering leaves: the sample is in the sums, or they are as they were
-module _ (s : Sample) (c : Constraint) where
-  by-outcome : (P : Step → Type 0) → P (record { answer = Gathered.Taken; sums = added s c }) → ((r : Refusal) → P (kept c r)) → P (gathered s c)
+-- ---- what gathering gives: the sums with the sample in them, or a refusal
+module _ (s : Sample) (n : ℤ) (sized : Bool) (c : Constraint) where
+  pub by-outcome : (P : Outcome → Type 0) → (sized ≡ true → sumsWithin (added s c) ≡ true → P (taken (added s c))) → ((r : Refusal) → P (refused r)) → P (gathering s n sized c)
   unfolding gathering addedWithin
   by-outcome P f g = go (sampleFits s)
     where
-      last : (b : Bool) → P (elim b as (λ z. Step) [ true ↦ record { answer = Gathered.Taken; sums = added s c } | false ↦ kept c Full ])
-      last true = f
-      last false = g Full
+      last : sized ≡ true → (b : Bool) → sumsWithin (added s c) ≡ b → P (elim b as (λ z. Outcome) [ true ↦ taken (added s c) | false ↦ refused Full ])
+      last z true e = f z e
+      last z false e = g Full
 
-      go : (b : Bool) → P (elim b as (λ z. Step) [ true ↦ constraintEntered (kept c) (pos factorCount) true (termsIn c) c (addedWithin s c) | false ↦ kept c Refused.Sample ])
-      go true = constraint-means (kept c) (pos factorCount) true (termsIn c) c (addedWithin s c) P g (λ d. last (sumsWithin (added s c)))
+      go : (b : Bool) → P (elim b as (λ z. Outcome) [ true ↦ enteredSums (factorNext s) (drawNext s) n sized c | false ↦ refused Refused.Sample ])
+      go true =
+          constraint-means refused n sized (termsIn (within limitRange (c .limit)) c) c (addedWithin (factorNext s) (drawNext s) c) P g
+          (λ d. last (d .sizes) (sumsWithin (added s c)) refl)
       go false = g Refused.Sample
 
 -- ---- no sample: the sums of zeros explain 0 at every point
@@ -136,11 +136,11 @@ module _ (X : ℕ → ℤ) (p : ℤ) (whole : pos 1 ≤ℤ p) where
       (subst (λ (z : ℤ). Explained (added s c) z (Z *ℤ Z) X p) (ring (u ∷ Z ∷ misfit s X p ∷ []) (search solver depth 40 fits 20000) refl) (added-explains s c e one-Z P))
 
   all-explained : (ss : List Sample) (c : Constraint) → c .order ≡ factorCount → (u : ℤ) → Explained c u Z X p → Explained (gatheredAll ss c) (u +ℤ squares ss c X p) Z X p
-  unfolding gatheredAll squares ifTaken added
+  unfolding gatheredAll squares sumsAfter ifTaken addedBy
   all-explained [] c e u P = subst (λ (z : ℤ). Explained c z Z X p) (ring (u ∷ []) (search solver depth 40 fits 20000) refl) P
   all-explained (s ∷ ss) c e u P =
-      by-outcome s c (λ (t : Step). Explained (gatheredAll ss (t .sums)) (u +ℤ (ifTaken (t .answer) (σ s) +ℤ squares ss (t .sums) X p)) Z X p)
-      (subst (λ (z : ℤ). Explained (gatheredAll ss (added s c)) z Z X p)
+      by-outcome s (pos factorCount) true c (λ (t : Outcome). Explained (gatheredAll ss (sumsAfter c t)) (u +ℤ (ifTaken t (σ s) +ℤ squares ss (sumsAfter c t) X p)) Z X p)
+      (λ q w. subst (λ (z : ℤ). Explained (gatheredAll ss (added s c)) z Z X p)
       (ring (u ∷ misfit s X p ∷ squares ss (added s c) X p ∷ []) (search solver depth 40 fits 20000) refl)
       (all-explained ss (added s c) refl (u +ℤ σ s) (taken-explained s c e u P)))
       (λ r. subst (λ (z : ℤ). Explained (gatheredAll ss c) z Z X p) (ring (u ∷ squares ss c X p ∷ []) (search solver depth 40 fits 20000) refl) (all-explained ss c e u P))
@@ -155,9 +155,9 @@ module _ (X : ℕ → ℤ) (p : ℤ) (whole : pos 1 ≤ℤ p) where
 
   -- the order of the sums stays
   all-ordered : (ss : List Sample) (c : Constraint) → c .order ≡ factorCount → gatheredAll ss c .order ≡ factorCount
-  unfolding gatheredAll added
+  unfolding gatheredAll sumsAfter addedBy
   all-ordered [] c e = e
-  all-ordered (s ∷ ss) c e = by-outcome s c (λ (t : Step). gatheredAll ss (t .sums) .order ≡ factorCount) (all-ordered ss (added s c) refl) (λ r. all-ordered ss c e)
+  all-ordered (s ∷ ss) c e = by-outcome s (pos factorCount) true c (λ (t : Outcome). gatheredAll ss (sumsAfter c t) .order ≡ factorCount) (λ q w. all-ordered ss (added s c) refl) (λ r. all-ordered ss c e)
 
   -- so it lies in every box of them that is given, around any centre, and where the answer is 'empty' there is no such point
   pub gathered-boxed : (ss : List Sample) (K : ℤ) → squares ss noSums X p ≤ℤ (K *ℤ Z) → (sized : Bool) (centre sides : List ℤ) →

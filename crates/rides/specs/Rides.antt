@@ -7,10 +7,8 @@ use Rattle.tables.specs.Matrix.{table, tabulate}
 use Rattle.tables.specs.Problem.{constraintOf}
 use Rattle.tables.specs.declared.problem.Constraint.{Constraint}
 use Rattle.rides.specs.declared.sample.Sample.{Sample}
-use Rattle.rides.specs.declared.sample.Gathered.{Gathered}
-use Rattle.rides.specs.declared.sample.Gathered.the-variants as Gathered
 use Rattle.rides.specs.Samples.{factorCount}
-use Rattle.rides.specs.Gathering.{Step, gathering}
+use Rattle.rides.specs.Gathering.{Outcome, taken, refused, gathering}
 use Rattle.rides.specs.Explaining.{misfit}
 
 -- sums of no sample
@@ -22,23 +20,28 @@ noSums =
     constraintOf n t t x x (pos 0)
 
 -- one sample, for sums of its order
-abbrev pub gathered : Sample → Constraint → Step
+abbrev pub gathered : Sample → Constraint → Outcome
 gathered s c = gathering s (pos factorCount) true c
 
--- the sums after samples, one after the other: a refused one leaves them as they are
+-- the sums as a sample leaves them: a refused one leaves them as they are
+unfoldable pub sumsAfter : Constraint → Outcome → Constraint
+sumsAfter c (taken d) = d
+sumsAfter c (refused r) = c
+
+-- the sums after samples, one after the other
 unfoldable pub gatheredAll : List Sample → Constraint → Constraint
 gatheredAll [] c = c
-gatheredAll (s ∷ ss) c = gatheredAll ss (gathered s c .sums)
+gatheredAll (s ∷ ss) c = gatheredAll ss (sumsAfter c (gathered s c))
 
 -- x where the sample was taken, and 0 where it was refused
-unfoldable pub ifTaken : Gathered → ℤ → ℤ
-ifTaken Gathered.Taken x = x
-ifTaken (Gathered.Refused r) x = pos 0
+unfoldable pub ifTaken : Outcome → ℤ → ℤ
+ifTaken (taken d) x = x
+ifTaken (refused r) x = pos 0
 
 -- the squares of 16·draw − 16·factors·x of all samples that were taken, added up, times the square of `sixteenth` and of p
 unfoldable pub squares : List Sample → Constraint → (ℕ → ℤ) → ℤ → ℤ
 squares [] c X p = pos 0
-squares (s ∷ ss) c X p = ifTaken (gathered s c .answer) (misfit s X p *ℤ misfit s X p) +ℤ squares ss (gathered s c .sums) X p
+squares (s ∷ ss) c X p = ifTaken (gathered s c) (misfit s X p *ℤ misfit s X p) +ℤ squares ss (sumsAfter c (gathered s c)) X p
 
 -- R23.2: the constraint that sums give with the allowance K: its limit is K and the running limit
 abbrev pub allowing : ℤ → Constraint → Constraint

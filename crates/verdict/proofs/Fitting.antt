@@ -44,7 +44,7 @@ Fitting n (notDefinite x) = Small n vectorRange x
 Fitting n undecided = Unit {0}
 Fitting n (refused r) = Unit {0}
 
-sized : {m b : ℕ} {x : List ℤ} → length x ≡ m → ((i : ℕ) → i < m → Within b (nth x i)) → Small m b x
+pub sized : {m b : ℕ} {x : List ℤ} → length x ≡ m → ((i : ℕ) → i < m → Within b (nth x i)) → Small m b x
 sized {m} {b} {x} e h = record {
   size = e;
   small = λ i. by-cases (decLt i m) (h i) (λ l. rw (nth-past x i (omega (arith, e))) (record { size = omega arith }));

@@ -1,0 +1,160 @@
+// R22.6 of docs/RULES.md: a sample gathered into running sums.
+ghost use mathlib.Core.Path.{_≡_};
+ghost use mathlib.Core.List.{List};
+ghost use lib.IntN.{ℤ};
+ghost use lib.ListN.{length};
+ghost use Rattle.tables.specs.Matrix.{nth, tabulate};
+ghost use Rattle.tables.specs.Checks.{orderOf};
+ghost use Rattle.tables.specs.Problem.{constraintOf, lengthsOf};
+ghost use Rattle.rides.specs.Samples.{factorOf};
+ghost use Rattle.rides.specs.Gathering.{sumsSized, enteredSums};
+ghost use Rattle.rides.specs.Contracts.{MeasuresNear};
+ghost use Rattle.rides.specs.Act.{Lent, Left, laidSums, sumsOf, gather, gatheredCode, Meaning};
+use crate::adding::Summed;
+use crate::adding::add_checked;
+use crate::checking::sums_sized;
+use crate::sample::FACTOR_COUNT;
+use crate::sample::Measured;
+use crate::sample::Measures;
+use crate::sample::PRODUCT_COUNT;
+use crate::sample::Sample;
+use crate::sample::measure;
+use tables::Refusal;
+use tables::copy_numbers;
+use tables::entering::order_of;
+use tables::problem::lengths_of;
+
+// What gathering answers: the sample is in the sums, or it is refused and they are as they were.
+pub enum Gathered {
+    Taken,
+    Refused(Refusal),
+}
+
+// An answer's number at a C entry: 0 taken, else the refusal's.
+pub fn gathered_code(a: Gathered) -> i64
+    ensures { λ r. ⌜ r ≡ gatheredCode a ⌝ }
+{
+    match a {
+        Gathered::Taken => 0,
+        Gathered::Refused(r) => tables::refusal_number(r) as i64,
+    }
+}
+
+// The checks behind 17, and the addition, of a sample whose numbers lie between those of m.
+fn gather_measured(
+    m: Measures,
+    n: i64,
+    low: &mut [i64],
+    high: &mut [i64],
+    from: &mut [i64],
+    to: &mut [i64],
+    limit: &mut [i64],
+) -> Gathered
+    requires { ⌜ MeasuresNear m ⌝ }
+    ensures { λ r. ⌜ _≡_ {A = Left (List ℤ)} (record {
+      answer = r;
+      sums = record {
+        low = now (low .exit);
+        high = now (high .exit);
+        from = now (from .exit);
+        to = now (to .exit);
+        limit = now (limit .exit);
+      };
+    }) (laidSums (λ t. t) (λ x. x) (λ α. tabulate 1 (λ i. α))
+        (enteredSums (factorOf m) (m .draw) n (sumsSized 1 (orderOf n) (lengthsOf (length (now (low .entry))) (length (now
+        (high .entry))) (length (now (from .entry))) (length (now (to .entry)))) (length (now (limit .entry))))
+        (constraintOf (orderOf n) (now (low .entry)) (now (high .entry)) (now (from .entry)) (now (to .entry)) (nth (now
+        (limit .entry)) 0))) (record {
+          low = now (low .entry);
+          high = now (high .entry);
+          from = now (from .entry);
+          to = now (to .entry);
+          limit = now (limit .entry);
+        })) ⌝ }
+{
+    let order = order_of(n);
+    if order == 0 {
+        return Gathered::Refused(Refusal::Order);
+    }
+    let lengths = lengths_of(low.len(), high.len(), from.len(), to.len());
+    if !sums_sized(1, order, lengths, limit.len()) {
+        return Gathered::Refused(Refusal::Length);
+    }
+    let mut l = [0i64; PRODUCT_COUNT];
+    let mut u = [0i64; PRODUCT_COUNT];
+    let mut a = [0i64; FACTOR_COUNT];
+    let mut b = [0i64; FACTOR_COUNT];
+    let summed = add_checked(
+        m,
+        low,
+        high,
+        from,
+        to,
+        limit[0],
+        &mut l,
+        &mut u,
+        &mut a,
+        &mut b,
+    );
+    match summed {
+        Summed::Within(sum) => {
+            copy_numbers(PRODUCT_COUNT, &l, low);
+            copy_numbers(PRODUCT_COUNT, &u, high);
+            copy_numbers(FACTOR_COUNT, &a, from);
+            copy_numbers(FACTOR_COUNT, &b, to);
+            limit[0] = sum;
+            Gathered::Taken
+        }
+        Summed::Refused(r) => Gathered::Refused(r),
+    }
+}
+
+// Gathers a sample into running sums, of any numbers at all: n is an order or not, and each slice has any length; the running limit is the
+// one number of limit. Refused by the first of the checks 17, 1 to 5, 16 and 18 that fails, with every sum kept.
+pub fn gather(
+    sample: Sample,
+    n: i64,
+    low: &mut [i64],
+    high: &mut [i64],
+    from: &mut [i64],
+    to: &mut [i64],
+    limit: &mut [i64],
+) -> Gathered
+    ensures exact { λ r. ⌜ _≡_ {A = Left (List ℤ)} (record {
+      answer = r;
+      sums = record {
+        low = now (low .exit);
+        high = now (high .exit);
+        from = now (from .exit);
+        to = now (to .exit);
+        limit = now (limit .exit);
+      };
+    }) (gather sample n (record {
+      low = now (low .entry);
+      high = now (high .entry);
+      from = now (from .entry);
+      to = now (to .entry);
+      limit = now (limit .entry);
+    })) ⌝ }
+    ensures meaning { λ r. ⌜ Meaning sample r (sumsOf (orderOf n) (record {
+      low = now (low .entry);
+      high = now (high .entry);
+      from = now
+          (from .entry);
+      to = now (to .entry);
+      limit = now (limit .entry);
+    })) (sumsOf (orderOf n) (record {
+      low = now (low .exit);
+      high =
+          now (high .exit);
+      from = now (from .exit);
+      to = now (to .exit);
+      limit = now (limit .exit);
+    })) ⌝ }
+{
+    let measured = measure(sample);
+    match measured {
+        Measured::Inside(m) => gather_measured(m, n, low, high, from, to, limit),
+        Measured::Outside => Gathered::Refused(Refusal::Sample),
+    }
+}
