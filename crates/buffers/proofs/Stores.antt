@@ -1,4 +1,4 @@
--- What the entries store: the bytes of a vector or of the sides; and what is read back from them.
+-- What the entries store: the bytes of a vector, of the sides or of one number; and what is read back from them.
 use mathlib.Core.Path.{_≡_, refl, sym, ap, ap₂, _∙_}
 use mathlib.Core.List.{List, [], _++_, append-nil}
 use Prim.Native.Nat.{ℕ, zero, suc, _*_, _^_, _<_}
@@ -7,15 +7,16 @@ use lib.IntN.{ℤ}
 use lib.ListN.{length, drop}
 use lib.Seq.{take-all}
 use mir.Syntax.{Width, w64}
-use mir.Val.{bytes, ofZ}
+use mir.Val.{bytes, ofZ, SFits}
 use Rattle.integers.specs.Numbers.{Within}
 use Rattle.integers.proofs.Machine.{fits-within}
-use Rattle.words.specs.Numbers.{toLeBytes, numbersOf, bytesOf}
-use Rattle.words.proofs.Laws.{numbersOf-bytesOf}
+use Rattle.words.specs.Numbers.{toLeBytes, withUnsigned, withSigned, numbersOf, bytesOf}
+use Rattle.words.proofs.Laws.{signedAt-same, numbersOf-bytesOf}
 use Rattle.words.proofs.Sign.{narrow-of}
 use Rattle.words.proofs.Lists.{append-drop-end}
 use Rattle.tables.specs.Matrix.{nth, tabulate}
 use Rattle.tables.proofs.Matrix.{nth-tabulate}
+use Rattle.buffers.specs.Buffers.{numberOf, bytesOfNumber}
 
 -- the bytes of the first k numbers rest on these alone
 bytesOf-ext : (w : Width) (a b : List ℤ) (k : ℕ) → ((i : ℕ) → i < k → nth a i ≡ nth b i) → bytesOf w a k ≡ bytesOf w b k
@@ -34,3 +35,14 @@ pub read-numbers : {m b : ℕ} (x : List ℤ) → length x ≡ m → ((i : ℕ) 
 read-numbers {m} x e z h =
     ap (λ (s : List ℕ). numbersOf w64 s m) (sym (append-nil (bytesOf w64 x m)))
     ∙ numbersOf-bytesOf (narrow-of 8) x [] m (record { each = λ i. fits-within (z i) h }) (omega (arith, e)) ∙ take-all m x (omega (arith, e))
+
+-- ---- one number
+-- a buffer of exactly its size is written whole
+pub number-stored : (s : List ℕ) (v : ℤ) → length s ≡ bytes w64 → withSigned w64 s 0 v ≡ bytesOfNumber v
+unfolding withSigned withUnsigned
+number-stored s v e = append-drop-end (bytesOfNumber v) s (bytes w64) (omega (arith, e))
+
+-- and read back
+pub read-number : (v : ℤ) → SFits w64 v → numberOf (bytesOfNumber v) ≡ v
+unfolding withSigned withUnsigned
+read-number v f = rw (append-nil) at (signedAt-same (narrow-of 8) [] 0 v f (omega arith))

@@ -1,3 +1,5 @@
 pub mod Codes
 pub mod Judging
 pub mod Boxing
+pub mod SumsGathered
+pub mod SumsRead

@@ -5,13 +5,19 @@ use lib.IntN.{ℤ}
 use lib.ListN.{length}
 use Rattle.tables.specs.Checks.{orderOf}
 use Rattle.tables.specs.Answers.{answerCode}
-use Rattle.tables.specs.Problem.{problemOf, lengthsOf}
+use Rattle.tables.specs.Problem.{constraintOf, problemOf, lengthsOf}
+use Rattle.tables.specs.declared.problem.Constraint.{Constraint}
 use Rattle.residual.specs.FactorTest.{factorTested}
 use Rattle.vectors.specs.VectorTest.{vectorTested}
 use Rattle.verdict.specs.Judge.{Judged, judging, verdictCode}
 use Rattle.enclosure.specs.Box.{boxing}
 use Rattle.enclosure.specs.Act.{Enclosed, boxCode}
+use Rattle.rides.specs.declared.sample.Sample.{Sample}
+use Rattle.rides.specs.Gathering.{gathering}
+use Rattle.rides.specs.Act.{Lent, Left, gatheredCode}
 use Rattle.buffers.specs.Buffers.{tableOf, vectorOf, factorBuffers, vectorBuffers, judgeBuffers, boxBuffers, storedVerdict, storedSides}
+use Rattle.rides.specs.Reading.{readSums, readingCode}
+use Rattle.buffers.specs.Buffers.{spelledSums, sumsBuffers, storedSums, readBuffers, ReadOut, storedLimit}
 
 -- hb_test_factor: the factor test of the numbers that the buffers spell
 unfoldable pub testFactorEntry : ℤ → List ℕ → List ℕ → List ℕ → ℤ
@@ -60,3 +66,42 @@ unfoldable pub boxEntry : ℤ → List ℕ → List ℕ → List ℕ → List �
 boxEntry n l u a b α c s =
     let j : Enclosed (List ℕ) = boxStored n l u a b α c s in
     record { number = boxCode (j .answer); sides = j .sides }
+
+-- ---- hb_gather: a sample gathered into the sums that five buffers spell
+unfoldable pub gatherStored : Sample → ℤ → Lent (List ℕ) → Left (List ℕ)
+gatherStored s n b =
+    let k : ℕ = orderOf n in
+    storedSums (gathering s n (sumsBuffers k b) (spelledSums k b)) b
+
+-- the number of the answer, and the buffers as they are left
+pub record GatherResult : Type 0 where
+  pub number : ℤ
+  pub sums : Lent (List ℕ)
+
+unfoldable pub gatherEntry : Sample → ℤ → Lent (List ℕ) → GatherResult
+gatherEntry s n b =
+    let j : Left (List ℕ) = gatherStored s n b in
+    record { number = gatheredCode (j .answer); sums = j .sums }
+
+-- ---- hb_read_sums: the sums that the buffers spell, with linear terms from a to b, a running limit α and an allowance K
+-- these sums, or with a limit in place of the running limit the constraint that they give
+abbrev pub spelledWith : ℤ → List ℕ → List ℕ → List ℕ → List ℕ → ℤ → Constraint
+spelledWith n l u a b α =
+    let k : ℕ = orderOf n in
+    constraintOf k (tableOf k l) (tableOf k u) (vectorOf k a) (vectorOf k b) α
+
+unfoldable pub readStored : ℤ → List ℕ → List ℕ → List ℕ → List ℕ → ℤ → ℤ → List ℕ → ReadOut
+readStored n l u a b α K s =
+    storedLimit
+    (readSums n (readBuffers (orderOf n) (lengthsOf (length l) (length u) (length a) (length b)) (length s)) K (spelledWith n l u a b α))
+    s
+
+-- the number of the answer, and the buffer as it is left
+pub record ReadResult : Type 0 where
+  pub number : ℤ
+  pub limit : List ℕ
+
+unfoldable pub readEntry : ℤ → List ℕ → List ℕ → List ℕ → List ℕ → ℤ → ℤ → List ℕ → ReadResult
+readEntry n l u a b α K s =
+    let j : ReadOut = readStored n l u a b α K s in
+    record { number = readingCode (j .answer); limit = j .limit }

@@ -3,7 +3,7 @@ use mathlib.Core.Path.{_≡_}
 use mathlib.Core.Bool.{true}
 use mathlib.Core.List.{List, List·Memᴰ}
 use Prim.Native.Nat.{ℕ}
-use lib.IntN.{ℤ, pos, negsuc}
+use lib.IntN.{ℤ, pos, negsuc, _*ℤ_}
 use lib.Signed.{_≤ℤ_}
 use Rattle.tables.specs.Matrix.{Matrix, at, nth}
 use Rattle.tables.specs.Checks.{orderOf}
@@ -12,8 +12,11 @@ use Rattle.tables.specs.Members.{PositiveDefinite, Margin}
 use Rattle.vectors.specs.Least.{shows, Witness}
 use Rattle.verdict.specs.Judge.{listed}
 use Rattle.enclosure.specs.Points.{Allowed, Contains}
-use Rattle.buffers.specs.Buffers.{tableOf, vectorOf, sidesOf}
-use Rattle.hankboulder.specs.Entries.{testFactorEntry, testVectorEntry}
+use Rattle.rides.specs.declared.sample.Sample.{Sample}
+use Rattle.rides.specs.Explaining.{Explained}
+use Rattle.rides.specs.Act.{Lent, Explaining}
+use Rattle.buffers.specs.Buffers.{tableOf, vectorOf, sidesOf, numberOf, spelledSums}
+use Rattle.hankboulder.specs.Entries.{testFactorEntry, testVectorEntry, spelledWith}
 
 -- k is the order, L and U the bounds
 module _ (n : ℤ) (l u : List ℕ) where
@@ -59,3 +62,14 @@ module _ (n : ℤ) (l u : List ℕ) where
     -- -1, empty: there is no point (D3.4)
     pub none : r ≡ negsuc 0 → (X : ℕ → ℤ) (p : ℤ) →
         Allowed (constraintOf k (tableOf k l) (tableOf k u) (vectorOf k a) (vectorOf k b) α) X p → ⊥
+
+-- of a sample gathered into the sums that b spells; d: the buffers as they are left
+pub record GatherMeaning (s : Sample) (n : ℤ) (b d : Lent (List ℕ)) (r : ℤ) : Type 0 where
+  -- 0, the sample is taken: what the sums explain they explain with the sample in them, and the square of 16·draw − 16·factors·x besides
+  pub explains : r ≡ pos 0 → Explaining s (spelledSums (orderOf n) b) (spelledSums (orderOf n) d)
+
+-- of sums with linear terms between a and b and a running limit α, read with the allowance K; s: the limit's buffer as it is left
+pub record ReadMeaning (n : ℤ) (l u a b : List ℕ) (α K r : ℤ) (s : List ℕ) : Type 0 where
+  -- 0, the limit is written: a point that the sums explain up to K is allowed by the constraint with that limit
+  pub allows : r ≡ pos 0 → (g v : ℤ) → pos 1 ≤ℤ v → g ≤ℤ (K *ℤ v) → (X : ℕ → ℤ) (p : ℤ) → pos 1 ≤ℤ p →
+      Explained (spelledWith n l u a b α) g v X p → Allowed (spelledWith n l u a b (numberOf s)) X p

@@ -3,6 +3,9 @@ ghost use mathlib.Core.Path.{_≡_};
 ghost use Rattle.hankboulder.specs.Entries.{testFactorEntry, testVectorEntry, JudgeResult, judgeEntry, BoxResult, boxEntry};
 ghost use Rattle.hankboulder.specs.Meanings.{FactorMeaning, VectorMeaning, JudgeMeaning, BoxMeaning};
 
+pub mod gathering;
+pub mod reading;
+
 // Tests an offered factor, and answers by `tables::answer_code`. Nothing is written.
 #[no_mangle]
 pub extern "C" fn hb_test_factor(n: i64, low: &[u8], high: &[u8], factor: &[u8]) -> i64

@@ -1,0 +1,205 @@
+// Gathering a sample, on buffers of bytes.
+ghost use mathlib.Core.Path.{_≡_};
+ghost use mathlib.Core.List.{List};
+ghost use Prim.Native.Nat.{ℕ, _*_};
+ghost use mir.Syntax.{w64};
+ghost use Rattle.words.specs.Numbers.{bytesOf};
+ghost use Rattle.tables.specs.Checks.{orderOf};
+ghost use Rattle.rides.specs.Samples.{factorCount, factorOf};
+ghost use Rattle.rides.specs.Gathering.{enteredSums, gathering};
+ghost use Rattle.rides.specs.Contracts.{MeasuresNear, Rooms};
+ghost use Rattle.rides.specs.Act.{Lent, Left};
+ghost use Rattle.buffers.specs.Buffers.{tableOf, vectorOf, SumsBytes, spelledSums, sumsBuffers, storedSums};
+use rides::adding::Summed;
+use rides::adding::add_checked;
+use rides::checking::sums_sized;
+use rides::gather::Gathered;
+use rides::sample::FACTOR_COUNT;
+use rides::sample::Factors;
+use rides::sample::Measured;
+use rides::sample::Measures;
+use rides::sample::PRODUCT_COUNT;
+use rides::sample::Products;
+use rides::sample::Sample;
+use rides::sample::measure;
+use tables::Refusal;
+use tables::entering::order_of;
+use tables::problem::lengths_of;
+use words::SIZE;
+use words::load_numbers;
+use words::store_numbers;
+
+// The bounds and linear terms that four buffers of a sample's order spell, into arrays.
+fn load_sums(
+    low: &[u8],
+    high: &[u8],
+    from: &[u8],
+    to: &[u8],
+    l: &mut Products,
+    u: &mut Products,
+    a: &mut Factors,
+    b: &mut Factors,
+)
+    requires { ⌜ SumsBytes (now low) (now high) (now from) (now to) × Rooms (now l) (now u) (now a) (now b) ⌝ }
+    ensures { λ _. ⌜ (now (l .exit) ≡ tableOf factorCount (now (low .entry))) × (now (u .exit) ≡ tableOf factorCount (now (high .entry)))
+        × (now (a .exit) ≡ vectorOf factorCount (now (from .entry))) × (now (b .exit) ≡ vectorOf factorCount (now (to .entry))) ⌝ }
+{
+    load_numbers(low, l, PRODUCT_COUNT, SIZE);
+    load_numbers(high, u, PRODUCT_COUNT, SIZE);
+    load_numbers(from, a, FACTOR_COUNT, SIZE);
+    load_numbers(to, b, FACTOR_COUNT, SIZE);
+}
+
+// Bounds and linear terms of a sample's order into four buffers.
+fn store_sums(
+    l: &Products,
+    u: &Products,
+    a: &Factors,
+    b: &Factors,
+    low: &mut [u8],
+    high: &mut [u8],
+    from: &mut [u8],
+    to: &mut [u8],
+)
+    requires { ⌜ Rooms (now l) (now u) (now a) (now b) × SumsBytes (now low) (now high) (now from) (now to) ⌝ }
+    ensures { λ _. ⌜ (now (low .exit) ≡ bytesOf w64 (now (l .entry)) (factorCount * factorCount))
+        × (now (high .exit) ≡ bytesOf w64 (now (u .entry)) (factorCount * factorCount))
+        × (now (from .exit) ≡ bytesOf w64 (now (a .entry)) factorCount) × (now (to .exit) ≡ bytesOf w64 (now (b .entry)) factorCount) ⌝ }
+{
+    store_numbers(l, low, PRODUCT_COUNT, SIZE);
+    store_numbers(u, high, PRODUCT_COUNT, SIZE);
+    store_numbers(a, from, FACTOR_COUNT, SIZE);
+    store_numbers(b, to, FACTOR_COUNT, SIZE);
+}
+
+// The checks behind 17, and the addition, of a sample whose numbers lie between those of m.
+fn gather_measured(
+    m: Measures,
+    n: i64,
+    low: &mut [u8],
+    high: &mut [u8],
+    from: &mut [u8],
+    to: &mut [u8],
+    limit: &mut [u8],
+) -> Gathered
+    requires { ⌜ MeasuresNear m ⌝ }
+    ensures { λ r. ⌜ _≡_ {A = Left (List ℕ)} (record {
+      answer = r;
+      sums = record {
+        low = now (low .exit);
+        high = now (high .exit);
+        from = now (from .exit);
+        to = now (to .exit);
+        limit = now (limit .exit);
+      };
+    }) (storedSums (enteredSums (factorOf m) (m .draw) n
+        (sumsBuffers (orderOf n) (record {
+          low = now (low .entry);
+          high = now (high .entry);
+          from = now (from .entry);
+          to = now
+              (to .entry);
+          limit = now (limit .entry);
+        })) (spelledSums (orderOf n) (record {
+          low = now (low .entry);
+          high = now (high .entry);
+          from = now (from .entry);
+          to = now (to .entry);
+          limit = now (limit .entry);
+        }))) (record {
+          low = now (low .entry);
+          high = now
+              (high .entry);
+          from = now (from .entry);
+          to = now (to .entry);
+          limit = now (limit .entry);
+        })) ⌝ }
+{
+    let order = order_of(n);
+    if order == 0 {
+        return Gathered::Refused(Refusal::Order);
+    }
+    let lengths = lengths_of(low.len(), high.len(), from.len(), to.len());
+    if !sums_sized(SIZE, order, lengths, limit.len()) {
+        return Gathered::Refused(Refusal::Length);
+    }
+    let mut lo = [0i64; PRODUCT_COUNT];
+    let mut hi = [0i64; PRODUCT_COUNT];
+    let mut first = [0i64; FACTOR_COUNT];
+    let mut last = [0i64; FACTOR_COUNT];
+    load_sums(low, high, from, to, &mut lo, &mut hi, &mut first, &mut last);
+    let running = words::load_signed(limit, 0, SIZE);
+    let mut l = [0i64; PRODUCT_COUNT];
+    let mut u = [0i64; PRODUCT_COUNT];
+    let mut a = [0i64; FACTOR_COUNT];
+    let mut b = [0i64; FACTOR_COUNT];
+    let summed = add_checked(
+        m,
+        &lo,
+        &hi,
+        &first,
+        &last,
+        running,
+        &mut l,
+        &mut u,
+        &mut a,
+        &mut b,
+    );
+    match summed {
+        Summed::Within(sum) => {
+            store_sums(&l, &u, &a, &b, low, high, from, to);
+            words::store_signed(limit, 0, SIZE, sum);
+            Gathered::Taken
+        }
+        Summed::Refused(r) => Gathered::Refused(r),
+    }
+}
+
+// Gathers a sample into the running sums that the buffers spell; the running limit is the number of limit.
+pub fn gather(
+    sample: Sample,
+    n: i64,
+    low: &mut [u8],
+    high: &mut [u8],
+    from: &mut [u8],
+    to: &mut [u8],
+    limit: &mut [u8],
+) -> Gathered
+    ensures { λ r. ⌜ _≡_ {A = Left (List ℕ)} (record {
+      answer = r;
+      sums = record {
+        low = now (low .exit);
+        high = now (high .exit);
+        from = now (from .exit);
+        to = now (to .exit);
+        limit = now (limit .exit);
+      };
+    }) (storedSums (gathering sample n
+        (sumsBuffers (orderOf n) (record {
+          low = now (low .entry);
+          high = now (high .entry);
+          from = now (from .entry);
+          to = now
+              (to .entry);
+          limit = now (limit .entry);
+        })) (spelledSums (orderOf n) (record {
+          low = now (low .entry);
+          high = now (high .entry);
+          from = now (from .entry);
+          to = now (to .entry);
+          limit = now (limit .entry);
+        }))) (record {
+          low = now (low .entry);
+          high = now
+              (high .entry);
+          from = now (from .entry);
+          to = now (to .entry);
+          limit = now (limit .entry);
+        })) ⌝ }
+{
+    let measured = measure(sample);
+    match measured {
+        Measured::Inside(m) => gather_measured(m, n, low, high, from, to, limit),
+        Measured::Outside => Gathered::Refused(Refusal::Sample),
+    }
+}
