@@ -7,11 +7,16 @@
  * A problem has an order n, from 1 to HB_MAX_ORDER, and two symmetric n by n tables, low and high: the bounds of a symmetric matrix, entry by entry.
  * That of an ellipsoid has a low and a high end of n linear terms, a limit and a centre of n entries besides.
  *
+ * Running sums, which samples of rides are gathered into, have the same two tables and the same two ends of linear terms, and a running limit in
+ * place of the limit. "Limit" is always that of an ellipsoid, and "running limit" always the sum; hb_read_sums makes the first of the second, and
+ * one in place of the other is never what is wanted, though it compiles. Sums begin with all bytes 0.
+ *
  * In a buffer each number is HB_NUMBER_BYTES = 8 bytes: signed, two's complement, low byte first, whatever the processor's own byte order is. A table or
  * a factor has n * n numbers, row by row (the entry of row i and column j, counted from 0, starts at byte 8 * (i * n + j)), so it is HB_TABLE_BYTES(n)
  * bytes long. A vector, an end of the linear terms and a centre have n, and are HB_VECTOR_BYTES(n) bytes long. The sides of a box have
- * 2 * n (the low and the high of side 0, those of side 1, and so on), and are HB_SIDES_BYTES(n) bytes long. Where the processor stores the
- * low byte first, an array of int64_t has this form already and is passed as it is:
+ * 2 * n (the low and the high of side 0, those of side 1, and so on), and are HB_SIDES_BYTES(n) bytes long. A running limit that is lent, and a
+ * limit that is written, are HB_NUMBER_BYTES long. hb_load_number and hb_store_number, below, read and store one number on any processor. Where the
+ * processor stores the low byte first, an array of int64_t has this form already and is passed as it is:
  *
  *     int64_t low[4] = {2, 1, 1, 2};
  *     ... (const uint8_t *)low, sizeof low ...
@@ -24,15 +29,19 @@
  *   where the length is 0: that is an empty buffer, and is refused by HB_REFUSED_LENGTH if n is good.
  * - Pointers need no alignment.
  * - The buffers of one call must not overlap: nothing is promised where they do. There are two exceptions, both of buffers that are only
- *   read: low and high may be the same table, and linear_low and linear_high the same buffer.
+ *   read, so const: low and high may be the same table, and linear_low and linear_high the same buffer. hb_gather writes all of them, and has
+ *   no exception.
  * - A const buffer is only read. A buffer that is not const is written whole, or kept as it was: each function says when. A refused call writes
  *   nothing at all. Nothing is ever written outside of a buffer.
  * - No memory is allocated, nothing is kept between calls, no lock is held, and the archive has no variables. So the functions are reentrant: they may be
  *   called from several threads or interrupt handlers at once, if each has the stack for it, as long as no one else writes to a buffer, or reads one that
  *   is not const, during a call that has it.
  * - Nothing outside of the archive is called but memcpy and memset, of the C library or your own.
- * - No floating point is used. The compiler uses vector registers (on x86-64 the xmm registers) for copies and whole numbers, as it may in any C code: an
- *   interrupt handler that calls a function has to save them.
+ * - No floating point is used, but for the sample of hb_gather: its five numbers are compared and multiplied by 16, as floats of 32 bits. Nothing is
+ *   lost in that, whatever the rounding mode is, if the floating-point unit is otherwise as at a program's start: subnormal numbers are kept (on
+ *   x86-64 the bits FTZ and DAZ of MXCSR are clear: beware of -ffast-math, which sets them) and exceptions are masked.
+ * - The compiler uses vector registers (on x86-64 the xmm registers) for copies and whole numbers too, as it may in any C code: an interrupt handler
+ *   that calls a function has to save them.
  *
  * What these comments say of answers and buffers is proved of the library's source. The stack is measured and not proved.
  */
@@ -49,17 +58,18 @@ extern "C" {
 /*
  * The version of this header and of the archive that it is installed with, as numbers and as a string. It is said here alone: the file for
  * pkg-config has it from here. Since 0.2 hb_box has two parameters more, which a linker does not see: header and archive have to be of one
- * version.
+ * version. Since 0.3 there are hb_gather and hb_read_sums.
  */
 #define HB_VERSION_MAJOR 0
-#define HB_VERSION_MINOR 2
+#define HB_VERSION_MINOR 3
 #define HB_VERSION_PATCH 0
 #define HB_VERSION_STRING HB_VERSION_JOINED(HB_VERSION_MAJOR, HB_VERSION_MINOR, HB_VERSION_PATCH)
 #define HB_VERSION_JOINED(major, minor, patch) HB_VERSION_QUOTED(major) "." HB_VERSION_QUOTED(minor) "." HB_VERSION_QUOTED(patch)
 #define HB_VERSION_QUOTED(number) #number
 
-/* The greatest order. */
+/* The greatest order, and that of sums which samples are gathered into. */
 #define HB_MAX_ORDER 8
+#define HB_SAMPLE_ORDER 4
 
 /* Bytes of a number; and of order n: of a table or factor; of a vector, of one end of the linear terms or of a centre; of the sides of a box. */
 #define HB_NUMBER_BYTES 8
@@ -68,8 +78,8 @@ extern "C" {
 #define HB_SIDES_BYTES(n) ((size_t)2 * HB_NUMBER_BYTES * (size_t)(n))
 
 /*
- * The greatest magnitude of an entry of low and high, 2^20, of a factor, 2^26, of a vector, 2^15, of a linear term, 2^36, of the limit, 2^54, and of an
- * entry of a centre, 2^12. Both ends of a range belong to it.
+ * The greatest magnitude of an entry of low and high, 2^20, of a factor, 2^26, of a vector, 2^15, of a linear term, 2^36, of a limit and of a running
+ * limit, 2^54, of an entry of a centre, 2^12, and of a sample's number, 8. Both ends of a range belong to it. An allowance is from 0 to 2^40.
  */
 #define HB_ENTRY_RANGE 1048576L
 #define HB_FACTOR_RANGE 67108864L
@@ -77,6 +87,8 @@ extern "C" {
 #define HB_LINEAR_RANGE 68719476736LL
 #define HB_LIMIT_RANGE 18014398509481984LL
 #define HB_CENTRE_RANGE 4096L
+#define HB_SAMPLE_RANGE 8
+#define HB_MAX_ALLOWANCE 1099511627776LL
 
 /*
  * The stack that a call needs, in bytes, at any order, its arguments and return address included. Measured and not proved: bench/stack painted the stack
@@ -88,11 +100,13 @@ extern "C" {
 #define HB_TEST_FACTOR_STACK 4096
 #define HB_TEST_VECTOR_STACK 4096
 #define HB_BOX_STACK 8192
+#define HB_GATHER_STACK 4096
+#define HB_READ_SUMS_STACK 4096
 
 /*
  * What a function returns: an answer, which is 0 or less, or a refusal, which is 1 or more. The checks are made in the order in which the
  * function lists its refusals, each over the whole input before the next, and the number of the first that fails is returned. That order is
- * rising, but 16 stands between 5 and 8. 10 to 15 refuse a summary file, and are returned by no function of this header.
+ * rising, but 16 stands between 5 and 8, and 17 before all others. 10 to 15 refuse a summary file, and are returned by no function of this header.
  */
 enum {
     HB_UNDECIDED = -2,
@@ -108,22 +122,28 @@ enum {
     HB_EMPTY = -1,
     HB_BOX = 0,
 
-    HB_REFUSED_ORDER = 1,    /* "order": n is not 1 to 8 */
-    HB_REFUSED_LENGTH = 2,   /* "length": a buffer has not exactly the size that n calls for */
-    HB_REFUSED_RANGE = 3,    /* "range": an entry of low or high, a linear term, the limit or a centre entry is beyond its range */
-    HB_REFUSED_CROSSED = 4,  /* "crossed": an entry of low is above its entry of high */
-    HB_REFUSED_LOPSIDED = 5, /* "lopsided": low or high is not symmetric */
-    HB_REFUSED_FACTOR = 6,   /* "factor": not upper triangular, a diagonal entry below 1 or above 2^26, or any other beyond +-2^26 */
-    HB_REFUSED_VECTOR = 7,   /* "vector": all zero, or an entry beyond +-2^15 */
-    HB_REFUSED_FLAT = 8,     /* "flat": of a box, t, the step that can be taken off the diagonal, is 0 */
-    HB_REFUSED_FAR = 9,      /* "far": of a box, some g(k), the gradient bound at the centre, is above 2^20 */
-    HB_REFUSED_CUT = 10,     /* "cut": of a file, a field's three bytes of tag and length are not all there, or its content is not */
-    HB_REFUSED_TAG = 11,     /* "tag": of a file, a tag that is not 01 to 07 */
-    HB_REFUSED_AGAIN = 12,   /* "again": of a file, a tag already seen */
-    HB_REFUSED_ABSENT = 13,  /* "absent": of a file, one of the seven tags is missing */
-    HB_REFUSED_SIZE = 14,    /* "size": of a file, a field is longer or shorter than its tag and the order ask for */
-    HB_REFUSED_LONG = 15,    /* "long": of a file, more than 4096 bytes */
-    HB_REFUSED_REVERSED = 16 /* "reversed": of a box or a file, a low linear term is above its high one */
+    HB_TAKEN = 0,
+
+    HB_WRITTEN = 0,
+
+    HB_REFUSED_ORDER = 1,     /* "order": n is not 1 to 8 */
+    HB_REFUSED_LENGTH = 2,    /* "length": a buffer has not exactly the size that n calls for */
+    HB_REFUSED_RANGE = 3,     /* "range": an entry of low or high, a linear term, a limit, a centre entry or an allowance is beyond its range */
+    HB_REFUSED_CROSSED = 4,   /* "crossed": an entry of low is above its entry of high */
+    HB_REFUSED_LOPSIDED = 5,  /* "lopsided": low or high is not symmetric */
+    HB_REFUSED_FACTOR = 6,    /* "factor": not upper triangular, a diagonal entry below 1 or above 2^26, or any other beyond +-2^26 */
+    HB_REFUSED_VECTOR = 7,    /* "vector": all zero, or an entry beyond +-2^15 */
+    HB_REFUSED_FLAT = 8,      /* "flat": of a box, t, the step that can be taken off the diagonal, is 0 */
+    HB_REFUSED_FAR = 9,       /* "far": of a box, some g(k), the gradient bound at the centre, is above 2^20 */
+    HB_REFUSED_CUT = 10,      /* "cut": of a file, a field's three bytes of tag and length are not all there, or its content is not */
+    HB_REFUSED_TAG = 11,      /* "tag": of a file, a tag that is not 01 to 07 */
+    HB_REFUSED_AGAIN = 12,    /* "again": of a file, a tag already seen */
+    HB_REFUSED_ABSENT = 13,   /* "absent": of a file, one of the seven tags is missing */
+    HB_REFUSED_SIZE = 14,     /* "size": of a file, a field is longer or shorter than its tag and the order ask for */
+    HB_REFUSED_LONG = 15,     /* "long": of a file, more than 4096 bytes */
+    HB_REFUSED_REVERSED = 16, /* "reversed": of a box, a file or sums, a low linear term is above its high one */
+    HB_REFUSED_SAMPLE = 17,   /* "sample": a number of a sample is infinite, not a number, or beyond +-8 */
+    HB_REFUSED_FULL = 18      /* "full": with the sample in it a sum would be beyond its range */
 };
 
 /*
@@ -131,11 +151,33 @@ enum {
  *
  *     static const char *const words[] = HB_REFUSAL_WORDS;
  *
- * words[HB_REFUSED_ORDER] is "order", and so on to words[HB_REFUSED_REVERSED], "reversed". words[0] is empty.
+ * words[HB_REFUSED_ORDER] is "order", and so on to words[HB_REFUSED_FULL], "full". words[0] is empty.
  */
 #define HB_REFUSAL_WORDS \
     {"", "order", "length", "range", "crossed", "lopsided", "factor", "vector", "flat", "far", "cut", "tag", "again", "absent", "size", \
-     "long", "reversed"}
+     "long", "reversed", "sample", "full"}
+
+/*
+ * hb_load_number: the number in 8 bytes, signed, low byte first. hb_store_number: puts a number there. On any processor, at any address. They are
+ * for running limits and limits, and for tables and vectors one number after the other: number k of a buffer starts at byte HB_NUMBER_BYTES * k.
+ */
+static inline int64_t hb_load_number(const uint8_t *bytes)
+{
+    uint64_t bits = 0;
+    int k;
+    for (k = HB_NUMBER_BYTES - 1; k >= 0; k--)
+        bits = bits << 8 | bytes[k];
+    /* A negative number by way of its complement, which int64_t holds: so no conversion is out of range. */
+    return bits >> 63 ? -(int64_t)~bits - 1 : (int64_t)bits;
+}
+
+static inline void hb_store_number(uint8_t *bytes, int64_t number)
+{
+    uint64_t bits = (uint64_t)number;
+    int k;
+    for (k = 0; k < HB_NUMBER_BYTES; k++)
+        bytes[k] = (uint8_t)(bits >> (8 * k) & 255);
+}
 
 /*
  * hb_judge: is every matrix between the bounds positive definite?
@@ -294,6 +336,103 @@ int64_t hb_test_vector(int64_t n, const uint8_t *low, size_t low_len, const uint
 int64_t hb_box(int64_t n, const uint8_t *low, size_t low_len, const uint8_t *high, size_t high_len, const uint8_t *linear_low,
                size_t linear_low_len, const uint8_t *linear_high, size_t linear_high_len, int64_t limit, const uint8_t *centre,
                size_t centre_len, uint8_t *sides, size_t sides_len);
+
+/*
+ * A sample, as the hub hands it over: the four factors of a stretch of a ride, and the draw that was measured on it, each from -8 to 8. Coefficients x
+ * of four numbers miss it by draw - (rolling * x(0) + climb * x(1) + air * x(2) + start * x(3)). The units are the hub's.
+ */
+typedef struct {
+    float rolling, climb, air, start, draw;
+} hb_sample;
+
+/*
+ * hb_gather: adds a sample to running sums.
+ *
+ *   sample                   five numbers, finite and within +-8. It is passed by value
+ *   n                        the order of the sums: 4, HB_SAMPLE_ORDER
+ *   low, high                the tables of the sums: HB_TABLE_BYTES(4) = 128 bytes each, entries within +-2^20, symmetric, no entry of low above
+ *                            its entry of high
+ *   linear_low, linear_high  the ends of their linear terms: HB_VECTOR_BYTES(4) = 32 bytes each, terms within +-2^36, none of linear_low above
+ *                            its term of linear_high
+ *   running_limit            their running limit, a number within +-2^54: HB_NUMBER_BYTES = 8 bytes
+ *   low_len, high_len,       the lengths of the five buffers, in bytes
+ *   linear_low_len,
+ *   linear_high_len,
+ *   running_limit_len
+ *
+ * All five buffers are read, and where the answer is HB_TAKEN all are written. Sums begin with all bytes 0, and are handed over for one sample after
+ * the other.
+ *
+ * Each of the five numbers is multiplied by 16. F(0) to F(3), of the factors, and D, of the draw, lie between the whole numbers next below and next
+ * above, which are equal where the product is a whole number; -0 is 0. low(i,j) gains the least and high(i,j) the greatest of the four products of an
+ * end of F(i) with an end of F(j), for i = j too. linear_low(i) and linear_high(i) gain the least and the greatest of minus the products of the ends
+ * of F(i) and D. The running limit loses the lesser of the squares of the ends of D.
+ *
+ * What it is for: take sums that began with all bytes 0 and were fed samples alone, and any x of four fractions. Add up (D - F'x)^2, worked exactly,
+ * over the samples that were taken. If that sum is K or less, x is a point of the ellipsoid that hb_read_sums gives with the allowance K: so hb_box, from
+ * any centre that is not refused, does not say HB_EMPTY, and x is in the box.
+ *
+ * Returns
+ *
+ *   HB_TAKEN             the sample is in the sums
+ *   HB_REFUSED_SAMPLE    a number of the sample is infinite, not a number, or beyond +-8. Nothing else is looked at
+ *   HB_REFUSED_ORDER     n is not 1 to 8; no length is looked at
+ *   HB_REFUSED_LENGTH    n is not 4, or a length is not the one above; too long is refused like too short
+ *   HB_REFUSED_RANGE     an entry of low or high is beyond +-2^20, a term of linear_low or linear_high beyond +-2^36, or the running limit beyond
+ *                        +-2^54
+ *   HB_REFUSED_CROSSED   an entry of low is above its entry of high
+ *   HB_REFUSED_LOPSIDED  low or high is not symmetric
+ *   HB_REFUSED_REVERSED  a term of linear_low is above its term of linear_high
+ *   HB_REFUSED_FULL      with the sample in it, one of the sums would be beyond its range. The sums are good ones still, and are full for this sample
+ *
+ * and nothing else. On a refusal no sum is altered, on HB_REFUSED_FULL neither: the sample is dropped, and the sums stand for the samples before it.
+ *
+ * Buffers: at any address; none overlaps another. Nothing is allocated. Reentrant.
+ * Stack: HB_GATHER_STACK bytes.
+ */
+int64_t hb_gather(hb_sample sample, int64_t n, uint8_t *low, size_t low_len, uint8_t *high, size_t high_len, uint8_t *linear_low,
+                  size_t linear_low_len, uint8_t *linear_high, size_t linear_high_len, uint8_t *running_limit, size_t running_limit_len);
+
+/*
+ * hb_read_sums: the limit that running sums give with an allowance, after the checks of all that hb_box will be handed but the centre.
+ *
+ *   n                        the order of the sums, 1 to 8: that of samples is 4
+ *   low, high                their tables: HB_TABLE_BYTES(n) bytes each, entries within +-2^20, symmetric, no entry of low above its entry of high
+ *   linear_low, linear_high  the ends of their linear terms: HB_VECTOR_BYTES(n) bytes each, terms within +-2^36, none of linear_low above its
+ *                            term of linear_high
+ *   running_limit            their running limit, a number within +-2^54, as a number: hb_load_number reads it from the bytes that hb_gather keeps it in
+ *   allowance                K, from 0 to 2^40: what the squares of 16 times the misses may add up to, over all samples that were taken (see hb_gather).
+ *                            If each is missed by at most m, K = 256 * m * m * count suffices
+ *   limit                    HB_NUMBER_BYTES = 8 bytes, written where the answer is HB_WRITTEN and kept as they were where it is any other
+ *   low_len, high_len,       the lengths of the five buffers, in bytes
+ *   linear_low_len,
+ *   linear_high_len,
+ *   limit_len
+ *
+ * The limit is allowance + running_limit. The tables and linear terms of the sums are handed to hb_judge and hb_box as they are, and the limit to hb_box
+ * as a number, by hb_load_number. The same sums may be read with another allowance at any time.
+ *
+ * Returns
+ *
+ *   HB_WRITTEN           the limit is written
+ *   HB_REFUSED_ORDER     n is not 1 to 8; no length is looked at
+ *   HB_REFUSED_LENGTH    a length is not HB_TABLE_BYTES(n) for low and high, HB_VECTOR_BYTES(n) for linear_low and linear_high, HB_NUMBER_BYTES for
+ *                        the limit; too long is refused like too short
+ *   HB_REFUSED_RANGE     an entry of low or high is beyond +-2^20, a term of linear_low or linear_high beyond +-2^36, the running limit beyond +-2^54,
+ *                        the allowance below 0 or above 2^40, or the limit would be beyond +-2^54
+ *   HB_REFUSED_CROSSED   an entry of low is above its entry of high
+ *   HB_REFUSED_LOPSIDED  low or high is not symmetric
+ *   HB_REFUSED_REVERSED  a term of linear_low is above its term of linear_high
+ *
+ * and nothing else. Any 64-bit running limit and allowance are answered. What the limit's buffer holds before the call plays no part.
+ *
+ * Buffers: at any address; none overlaps another, but low and high may be the same table, and linear_low and linear_high the same buffer.
+ * Nothing is allocated. Reentrant.
+ * Stack: HB_READ_SUMS_STACK bytes.
+ */
+int64_t hb_read_sums(int64_t n, const uint8_t *low, size_t low_len, const uint8_t *high, size_t high_len, const uint8_t *linear_low,
+                     size_t linear_low_len, const uint8_t *linear_high, size_t linear_high_len, int64_t running_limit, int64_t allowance,
+                     uint8_t *limit, size_t limit_len);
 
 #ifdef __cplusplus
 }

@@ -1,4 +1,4 @@
-//! The four acts over bytes, as the C entries have them: R15.
+//! The acts over bytes, as the C entries have them: R15, R22 and R23.
 //!
 //! Numbers take up 8 bytes (R15.2); what is returned is that of R15.4.
 
@@ -7,10 +7,11 @@ use crate::judge::{self as judging, Verdict};
 use crate::problem::{check_lengths, check_order, sides_size, table_size};
 use crate::refusal::Refusal;
 use crate::residual;
+use crate::rides::{self, Sample};
 use crate::summary::{decode, encode, NUMBER_WIDTH};
 use crate::vectors;
 
-/// 'definite', 'accepted', 'yes', a box
+/// 'definite', 'accepted', 'yes', a box, a sample taken, a limit written
 pub const POSITIVE: i64 = 0;
 /// 'not definite', 'not accepted', 'no', 'empty'
 pub const NEGATIVE: i64 = -1;
@@ -21,6 +22,8 @@ pub const UNDECIDED: i64 = -2;
 type Count = fn(usize) -> usize;
 /// The numbers of an end of a, of c or of a vector.
 const LIST: Count = |order| order;
+/// A buffer of a single number.
+const SINGLE: Count = |_| 1;
 
 /// Checks 1 and 2 over bytes, then the numbers of each buffer.
 fn read<const N: usize>(n: i64, buffers: [(&[u8], Count); N]) -> Result<[Vec<i64>; N], Refusal> {
@@ -153,4 +156,70 @@ pub fn enclosed(
     let answer = enclosure::enclose(n, &low, &high, &least, &most, limit, &centre, &mut pairs)?;
     write(&pairs, sides);
     Ok(answer)
+}
+
+/// The return value of what only takes or refuses.
+fn taken_code(answer: Result<(), Refusal>) -> i64 {
+    answer.map_or_else(Refusal::number, |()| POSITIVE)
+}
+
+/// Gathering: the sums are read and written.
+#[allow(clippy::too_many_arguments)]
+pub fn gather(
+    sample: &Sample,
+    n: i64,
+    low: &mut [u8],
+    high: &mut [u8],
+    linear_low: &mut [u8],
+    linear_high: &mut [u8],
+    running_limit: &mut [u8],
+) -> i64 {
+    let lent = [low, high, linear_low, linear_high, running_limit];
+    taken_code(gathered(sample, n, lent))
+}
+
+fn gathered(sample: &Sample, n: i64, lent: [&mut [u8]; 5]) -> Result<(), Refusal> {
+    // R22.6: 17 comes before 1.
+    sample.check()?;
+    let counts = [table_size as Count, table_size, LIST, LIST, SINGLE];
+    let [low, high, linear_low, linear_high, running] = lent;
+    let bytes = [&*low, &*high, &*linear_low, &*linear_high, &*running];
+    let buffers = std::array::from_fn(|k| (bytes[k], counts[k]));
+    let [mut l, mut h, mut least, mut most, mut sum] = read(n, buffers)?;
+    rides::gather(sample, n, &mut l, &mut h, &mut least, &mut most, &mut sum)?;
+    write(&l, low);
+    write(&h, high);
+    write(&least, linear_low);
+    write(&most, linear_high);
+    write(&sum, running);
+    Ok(())
+}
+
+/// Reading the sums.
+#[allow(clippy::too_many_arguments)]
+pub fn read_sums(
+    n: i64,
+    low: &[u8],
+    high: &[u8],
+    linear_low: &[u8],
+    linear_high: &[u8],
+    running_limit: i64,
+    allowance: i64,
+    limit: &mut [u8],
+) -> i64 {
+    let buffers = [
+        (low, table_size as Count),
+        (high, table_size),
+        (linear_low, LIST),
+        (linear_high, LIST),
+        (&*limit, SINGLE),
+    ];
+    taken_code(
+        read(n, buffers).and_then(|[low, high, least, most, mut alpha]| {
+            let (sum, k) = (running_limit, allowance);
+            rides::read_sums(n, &low, &high, &least, &most, sum, k, &mut alpha)?;
+            write(&alpha, limit);
+            Ok(())
+        }),
+    )
 }

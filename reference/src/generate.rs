@@ -6,10 +6,14 @@ mod files;
 pub mod numbers;
 mod points;
 mod problems;
+mod rides;
+mod simulated;
 
 pub use calls::{BoxCall, FactorCall, JudgeCall, VectorCall};
 pub use files::DrawnFile;
 pub use points::{Fractions, Point};
+pub use rides::{GatherCall, SumsCall, EDGES};
+pub use simulated::{Ride, Road};
 
 use crate::problem::Bounds;
 use crate::random::Random;

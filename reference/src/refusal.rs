@@ -1,4 +1,4 @@
-//! Refusals 1 to 16: R4.1 to R4.16. Refusal k is rule R4.k.
+//! Refusals 1 to 18: R4.1 to R4.18. Refusal k is rule R4.k.
 
 /// Why a call or a file is refused.
 #[derive(Clone, Copy, Debug, PartialEq, Eq)]
@@ -35,10 +35,14 @@ pub enum Refusal {
     Long,
     /// 16: a linear term's low end above its high end
     Reversed,
+    /// 17: a number of a sample that is not finite, or outside of ±8
+    Sample,
+    /// 18: a sum that would leave its range
+    Full,
 }
 
 /// Each refusal with its number and its word.
-pub const REFUSALS: [(Refusal, i64, &str); 16] = [
+pub const REFUSALS: [(Refusal, i64, &str); 18] = [
     (Refusal::Order, 1, "order"),
     (Refusal::Length, 2, "length"),
     (Refusal::Range, 3, "range"),
@@ -55,6 +59,8 @@ pub const REFUSALS: [(Refusal, i64, &str); 16] = [
     (Refusal::Size, 14, "size"),
     (Refusal::Long, 15, "long"),
     (Refusal::Reversed, 16, "reversed"),
+    (Refusal::Sample, 17, "sample"),
+    (Refusal::Full, 18, "full"),
 ];
 
 impl Refusal {

@@ -1,4 +1,4 @@
-//! Calls of the four acts, faulty ones among them.
+//! Calls of the acts on a problem, faulty ones among them.
 
 use std::cmp::Ordering;
 
@@ -166,7 +166,7 @@ impl Generator {
     }
 
     /// Now and then a wrong order or a wrong size of one buffer.
-    fn damage_sizes(&mut self, n: &mut i64, buffers: &mut [&mut Vec<u8>]) {
+    pub(super) fn damage_sizes(&mut self, n: &mut i64, buffers: &mut [&mut Vec<u8>]) {
         if self.random.one_in(2 * FAULT_SHARE) {
             *n = self.random.pick(&WRONG_ORDERS);
         }

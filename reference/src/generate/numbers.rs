@@ -55,3 +55,13 @@ pub fn mirrored(place: usize, count: usize) -> usize {
     let order = count.isqrt();
     place % order * order + place / order
 }
+
+/// A float's bits a little or much different.
+pub fn changed_float(bits: u32, random: &mut Random) -> u32 {
+    match random.index(4) {
+        0 => bits ^ (1 << random.index(32)),
+        1 => random.bits() as u32,
+        2 => bits.wrapping_add(1),
+        _ => bits.wrapping_sub(1),
+    }
+}

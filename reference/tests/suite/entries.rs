@@ -3,7 +3,7 @@
 use hankboulder_reference::entries;
 use hankboulder_reference::generate::Generator;
 
-use crate::support::run_box;
+use crate::support::{run_box, run_gather, run_sums};
 
 /// 'Definite' keeps the vector, 'not definite' the factor, all others both.
 #[test]
@@ -39,6 +39,36 @@ fn the_box_writes_only_a_given_box() {
         given += usize::from(code == 0);
     }
     assert!(given > 100, "{given}");
+}
+
+/// The sums are written where the sample is taken and nowhere else.
+#[test]
+fn gathering_writes_only_what_is_taken() {
+    let mut generator = Generator::new(13);
+    let mut changed = 0;
+    for _ in 0..3000 {
+        let before = generator.gather_call();
+        let mut after = before.clone();
+        let code = run_gather(&mut after);
+        assert!(code == 0 || after == before, "{code}");
+        changed += usize::from(after != before);
+    }
+    assert!(changed > 1000, "{changed}");
+}
+
+/// The limit is written where the code is 0 and nowhere else.
+#[test]
+fn reading_the_sums_writes_only_a_limit() {
+    let mut generator = Generator::new(14);
+    let mut written = 0;
+    for _ in 0..1500 {
+        let mut call = generator.sums_call();
+        let before = call.limit.clone();
+        let code = run_sums(&mut call);
+        assert_eq!(call.limit != before, code == 0);
+        written += usize::from(code == 0);
+    }
+    assert!(written > 300, "{written}");
 }
 
 #[test]

@@ -1,14 +1,14 @@
 //! The generator reaches every answer and every refusal.
 
-use std::collections::BTreeMap;
+use std::collections::{BTreeMap, BTreeSet};
 
 use hankboulder_reference::entries;
-use hankboulder_reference::generate::{Generator, RawProblem, KINDS};
+use hankboulder_reference::generate::{Generator, RawProblem, EDGES, KINDS};
 use hankboulder_reference::judge::{verdict, List, Verdict};
 use hankboulder_reference::problem::Bounds;
 use hankboulder_reference::program::output;
 
-use crate::support::{enclose_problem, judge, numbers, run_box};
+use crate::support::{enclose_problem, judge, numbers, run_box, run_gather, run_sums};
 
 /// How often each answer was met.
 type Counts = BTreeMap<i64, usize>;
@@ -33,7 +33,8 @@ fn the_same_seed_gives_the_same_calls() {
         let problem = generator.any_problem();
         let acts = (generator.factor_call(), generator.vector_call());
         let others = (generator.judge_call(), generator.box_call());
-        (problem, acts, others, generator.summary_file())
+        let rides = (generator.gather_call(), generator.sums_call());
+        (problem, acts, others, rides, generator.summary_file())
     };
     assert_eq!(calls(1), calls(1));
     assert_ne!(calls(1), calls(2));
@@ -78,6 +79,32 @@ fn box_calls_meet_every_answer() {
         run_box(&mut call)
     });
     assert_met(&counts, &[-1, 0, 1, 2, 3, 4, 5, 8, 9, 16]);
+}
+
+#[test]
+fn calls_of_gathering_meet_every_answer() {
+    let mut generator = Generator::new(61);
+    let counts = count(3000, || run_gather(&mut generator.gather_call()));
+    assert_met(&counts, &[0, 1, 2, 3, 4, 5, 16, 17, 18]);
+}
+
+#[test]
+fn calls_of_reading_the_sums_meet_every_answer() {
+    let mut generator = Generator::new(62);
+    let counts = count(3000, || run_sums(&mut generator.sums_call()));
+    assert_met(&counts, &[0, 1, 2, 3, 4, 5, 16]);
+}
+
+/// Floats of every exponent, on both sides of 0, and all that are edges.
+#[test]
+fn floats_of_every_exponent_and_every_edge_are_met() {
+    let mut generator = Generator::new(63);
+    let met: BTreeSet<u32> = (0..40_000).map(|_| generator.float()).collect();
+    let exponents: BTreeSet<u32> = met.iter().map(|bits| bits >> 23).collect();
+    assert_eq!(exponents.len(), 512);
+    for edge in EDGES {
+        assert!(met.contains(&edge) && met.contains(&(edge | 1 << 31)));
+    }
 }
 
 /// The answers of a file: the refusal number, or 0.

@@ -9,5 +9,6 @@ mod program_text;
 mod properties;
 mod readings;
 mod refusals;
+mod rides;
 mod support;
 mod two_ends;

@@ -6,7 +6,7 @@ use hankboulder_reference::refusal::REFUSALS;
 
 use crate::support::bytes;
 
-/// The arguments of all four acts.
+/// The arguments of the four acts on a problem.
 #[derive(Clone, PartialEq, Eq, Debug)]
 struct Call {
     n: i64,
@@ -454,10 +454,11 @@ fn refusal_16_at_every_place_and_equal_ends_pass() {
 }
 
 #[test]
-fn the_table_has_sixteen_numbers_and_words() {
+fn the_table_has_eighteen_numbers_and_words() {
     let words = "order length range crossed lopsided factor vector flat far \
-                 cut tag again absent size long reversed";
-    assert_eq!(REFUSALS.len(), 16);
+                 cut tag again absent size long reversed sample full";
+    assert_eq!(REFUSALS.len(), 18);
+    assert_eq!(words.split_whitespace().count(), REFUSALS.len());
     for (place, word) in words.split_whitespace().enumerate() {
         let refusal = REFUSALS[place].0;
         assert_eq!(refusal.number(), place as i64 + 1);

@@ -2,7 +2,7 @@
 //! library's.
 
 use hankboulder_reference::entries;
-use hankboulder_reference::generate::{BoxCall, RawProblem};
+use hankboulder_reference::generate::{BoxCall, GatherCall, RawProblem, SumsCall};
 
 /// Contents of output buffers before a call.
 pub const UNWRITTEN: i64 = 0x5A5A_5A5A_5A5A_5A5A;
@@ -55,6 +55,33 @@ pub fn run_box(call: &mut BoxCall) -> i64 {
         call.limit,
         &call.centre,
         &mut call.sides,
+    )
+}
+
+/// Runs a generated call of gathering.
+pub fn run_gather(call: &mut GatherCall) -> i64 {
+    entries::gather(
+        &call.sample,
+        call.n,
+        &mut call.low,
+        &mut call.high,
+        &mut call.linear_low,
+        &mut call.linear_high,
+        &mut call.running_limit,
+    )
+}
+
+/// Runs a generated call of reading the sums.
+pub fn run_sums(call: &mut SumsCall) -> i64 {
+    entries::read_sums(
+        call.n,
+        &call.low,
+        &call.high,
+        &call.linear_low,
+        &call.linear_high,
+        call.running_limit,
+        call.allowance,
+        &mut call.limit,
     )
 }
 
