@@ -36,12 +36,21 @@ int64_t hb_bench_factor(size_t n, const int64_t *low, size_t low_len, const int6
 /* Where no archive has it, its address is null. */
 #pragma weak hb_bench_factor
 
-/* What the calls write */
+/* What the calls write. The last five are running sums. */
 static struct {
     int64_t factor[MAX_ENTRIES];
     int64_t vector[HB_MAX_ORDER];
     int64_t sides[2 * HB_MAX_ORDER];
+    int64_t limit;
+    int64_t low[MAX_ENTRIES];
+    int64_t high[MAX_ENTRIES];
+    int64_t linear_low[HB_MAX_ORDER];
+    int64_t linear_high[HB_MAX_ORDER];
+    int64_t running_limit;
 } out;
+
+/* Whether each call has its sums from its problem. Where not, they run: the samples of the problems are gathered one after the other, which have room. */
+static int own_sums;
 
 /* Makes one call and returns its answer. */
 typedef int64_t side(int64_t n, const struct problem *problem);
@@ -159,12 +168,54 @@ static int64_t tuned_box_side(int64_t n, const struct problem *problem)
                      HB_SIDES_BYTES(n));
 }
 
+static void start_sums(const struct problem *problem)
+{
+    if (own_sums) {
+        memcpy(out.low, problem->low, sizeof out.low);
+        memcpy(out.high, problem->high, sizeof out.high);
+        memcpy(out.linear_low, problem->linear_low, sizeof out.linear_low);
+        memcpy(out.linear_high, problem->linear_high, sizeof out.linear_high);
+        out.running_limit = problem->limit;
+    } else if (problem->place == 0) {
+        memset(&out, 0, sizeof out);
+    }
+}
+
+static int64_t library_gather(int64_t n, const struct problem *problem)
+{
+    size_t table = HB_TABLE_BYTES(n), vector = HB_VECTOR_BYTES(n);
+    start_sums(problem);
+    return hb_gather(problem->sample, n, (uint8_t *)out.low, table, (uint8_t *)out.high, table, (uint8_t *)out.linear_low, vector,
+                     (uint8_t *)out.linear_high, vector, (uint8_t *)&out.running_limit, HB_NUMBER_BYTES);
+}
+
+static int64_t plain_gather_side(int64_t n, const struct problem *problem)
+{
+    size_t order = (size_t)n, count = order * order;
+    start_sums(problem);
+    return plain_gather(problem->sample, n, out.low, count, out.high, count, out.linear_low, order, out.linear_high, order, &out.running_limit, 1);
+}
+
+static int64_t library_read_sums(int64_t n, const struct problem *problem)
+{
+    size_t table = HB_TABLE_BYTES(n), vector = HB_VECTOR_BYTES(n);
+    return hb_read_sums(n, bytes(problem->low), table, bytes(problem->high), table, bytes(problem->linear_low), vector,
+                        bytes(problem->linear_high), vector, problem->limit, problem->allowance, (uint8_t *)&out.limit, HB_NUMBER_BYTES);
+}
+
+static int64_t plain_read_sums_side(int64_t n, const struct problem *problem)
+{
+    size_t order = (size_t)n, count = order * order;
+    return plain_read_sums(n, problem->low, count, problem->high, count, problem->linear_low, order, problem->linear_high, order, problem->limit,
+                           problem->allowance, &out.limit, 1);
+}
+
 /* The peers are the last two. */
 enum { LIBRARY, PLAIN, TUNED, LAPACK_SIDE, ARB_SIDE, SIDES };
 
 #define COMPARED_SIDES 3
 #define LEAST_ANSWER HB_UNDECIDED
-#define ANSWERS (HB_REFUSED_REVERSED - LEAST_ANSWER + 1)
+#define ANSWERS (HB_REFUSED_FULL - LEAST_ANSWER + 1)
 
 static const char *const side_names[SIDES] = {"library", "plain C", "tuned C", "dpotrf", "arb_mat_cho"};
 
@@ -180,32 +231,50 @@ struct cell {
     double instructions;
 };
 
-/* An act on the problems of a kind, from an order up: a side that is null is not there. How often each answer was compared, and the cells. */
+/* An act on the problems of a kind, at some orders: a side that is null is not there. How often each answer was compared, and the cells. */
 struct act {
     const char *name;
     enum kind kind;
     int first_order;
+    int last_order;
     side *sides[SIDES];
     int answers[ANSWERS];
     struct cell cells[HB_MAX_ORDER + 1][SIDES];
 };
 
 /* One act more is a line here and its sides above. */
-enum { FACTORING, FACTOR_TEST, VECTOR_TEST, JUDGE_DEFINITE, JUDGE_NOT, JUDGE_UNDECIDED, BOX, FACTORING_FLOATING, JUDGE_PAIRS, CHOLESKY, ACTS };
+enum {
+    FACTORING,
+    FACTOR_TEST,
+    VECTOR_TEST,
+    JUDGE_DEFINITE,
+    JUDGE_NOT,
+    JUDGE_UNDECIDED,
+    BOX,
+    GATHER,
+    READ_SUMS,
+    FACTORING_FLOATING,
+    JUDGE_PAIRS,
+    CHOLESKY,
+    ACTS
+};
 
 static struct act acts[ACTS] = {
-    [FACTORING] = {"factoring", DEFINITE, 1, {library_factor, plain_factor_side, tuned_factor_side}},
-    [FACTOR_TEST] = {"factor test", DEFINITE, 1, {library_test_factor, plain_test_factor_side, tuned_test_factor_side}},
-    [VECTOR_TEST] = {"vector test", DEFINITE, 1, {library_test_vector, plain_test_vector_side, tuned_test_vector_side}},
-    [JUDGE_DEFINITE] = {"judge, definite", DEFINITE, 1, {library_judge, plain_judge_side, tuned_judge_side}},
-    [JUDGE_NOT] = {"judge, not definite", NOT_DEFINITE, 1, {library_judge, plain_judge_side, tuned_judge_side}},
-    [JUDGE_UNDECIDED] = {"judge, undecided (none is of order 1)", UNDECIDED, 2, {library_judge, plain_judge_side, tuned_judge_side}},
-    [BOX] = {"box", DEFINITE, 1, {library_box, plain_box_side, tuned_box_side}},
-    [FACTORING_FLOATING] = {"factoring, where plain C has the processor's floating-point root", DEFINITE, 1, {library_factor, plain_floating_side}},
-    [JUDGE_PAIRS] = {"judge, undecided, where plain C takes each pair of entries once", UNDECIDED, 2, {library_judge, plain_pairs_judge_side}},
+    [FACTORING] = {"factoring", DEFINITE, 1, HB_MAX_ORDER, {library_factor, plain_factor_side, tuned_factor_side}},
+    [FACTOR_TEST] = {"factor test", DEFINITE, 1, HB_MAX_ORDER, {library_test_factor, plain_test_factor_side, tuned_test_factor_side}},
+    [VECTOR_TEST] = {"vector test", DEFINITE, 1, HB_MAX_ORDER, {library_test_vector, plain_test_vector_side, tuned_test_vector_side}},
+    [JUDGE_DEFINITE] = {"judge, definite", DEFINITE, 1, HB_MAX_ORDER, {library_judge, plain_judge_side, tuned_judge_side}},
+    [JUDGE_NOT] = {"judge, not definite", NOT_DEFINITE, 1, HB_MAX_ORDER, {library_judge, plain_judge_side, tuned_judge_side}},
+    [JUDGE_UNDECIDED] = {"judge, undecided (none is of order 1)", UNDECIDED, 2, HB_MAX_ORDER, {library_judge, plain_judge_side, tuned_judge_side}},
+    [BOX] = {"box", DEFINITE, 1, HB_MAX_ORDER, {library_box, plain_box_side, tuned_box_side}},
+    [GATHER] = {"gathering (a sample is of order 4)", DEFINITE, HB_SAMPLE_ORDER, HB_SAMPLE_ORDER, {library_gather, plain_gather_side}},
+    [READ_SUMS] = {"reading the sums", DEFINITE, 1, HB_MAX_ORDER, {library_read_sums, plain_read_sums_side}},
+    [FACTORING_FLOATING] = {"factoring, where plain C has the processor's floating-point root", DEFINITE, 1, HB_MAX_ORDER, {library_factor, plain_floating_side}},
+    [JUDGE_PAIRS] = {"judge, undecided, where plain C takes each pair of entries once", UNDECIDED, 2, HB_MAX_ORDER, {library_judge, plain_pairs_judge_side}},
     [CHOLESKY] = {"peers: the judge on thin definite bounds, and the peers' factoring of the same matrices",
                   THIN,
                   1,
+                  HB_MAX_ORDER,
                   {library_judge, plain_judge_side, tuned_judge_side, lapack_cholesky, arb_cholesky}},
 };
 
@@ -253,6 +322,8 @@ static const struct {
     {VECTOR_TEST, "vector test"},
     {JUDGE_DEFINITE, "judge"},
     {BOX, "box"},
+    {GATHER, "gathering"},
+    {READ_SUMS, "reading the sums"},
     {FACTORING_FLOATING, "factoring, floating root"},
     {JUDGE_PAIRS, "judge, pairs once"},
 };
@@ -262,6 +333,7 @@ static void compare_all(void)
 {
     static struct problem any;
     const int count = KINDS * PROBLEMS + COMPARED, acts_compared = sizeof compared / sizeof compared[0];
+    own_sums = 1;
     for (int64_t n = 1; n <= HB_MAX_ORDER; n++) {
         for (int place = 0; place < count; place++) {
             const struct problem *problem = &any;
@@ -274,8 +346,9 @@ static void compare_all(void)
         }
     }
     for (int64_t n = -1; n <= HB_MAX_ORDER + 1; n++)
-        for (int a = FACTOR_TEST; a <= BOX; a++)
+        for (int a = FACTOR_TEST; a <= READ_SUMS; a++)
             compare(&acts[a], n, problem_of(DEFINITE, 1, 0));
+    own_sums = 0;
     printf("the library, plain C and tuned C gave the same answers and buffers, on %d problems of each order:\n", count);
     for (int a = 0; a < acts_compared; a++) {
         printf("%-24s", compared[a].name);
@@ -298,7 +371,7 @@ static void call(const struct act *act, int64_t n, int k, int first, int last, i
 static void count_all(void)
 {
     for (int a = 0; a < ACTS; a++) {
-        for (int64_t n = acts[a].first_order; n <= HB_MAX_ORDER; n++) {
+        for (int64_t n = acts[a].first_order; n <= acts[a].last_order; n++) {
             for (int k = 0; k < SIDES; k++) {
                 char label[32];
                 if (!acts[a].sides[k])
@@ -359,7 +432,7 @@ static void measure_all(void)
 {
     for (int round = 0; round < ROUNDS; round++)
         for (int a = 0; a < ACTS; a++)
-            for (int64_t n = acts[a].first_order; n <= HB_MAX_ORDER; n++)
+            for (int64_t n = acts[a].first_order; n <= acts[a].last_order; n++)
                 for (int k = 0; k < SIDES; k++)
                     if (acts[a].sides[k])
                         measure(&acts[a], n, k, round);
@@ -425,7 +498,7 @@ static void print_costs(const struct act *act, int64_t n, cost *cost, int digits
 static void print_growth(const struct act *act, cost *cost, int second, int last)
 {
     for (int k = 0; k < last; k++)
-        print_ratio(cost(act, HB_MAX_ORDER, k), cost(act, act->first_order, k), 11);
+        print_ratio(cost(act, act->last_order, k), cost(act, act->first_order, k), 11);
     printf("%*s", 8 * (last - second + 1), "");
 }
 
@@ -447,14 +520,16 @@ static void print_act(const struct act *act, int second, int last)
     printf("  ");
     print_heads(second, last);
     printf("\n");
-    for (int64_t n = act->first_order; n <= HB_MAX_ORDER; n++) {
+    for (int64_t n = act->first_order; n <= act->last_order; n++) {
         printf("%5d  ", (int)n);
         print_costs(act, n, time_of, 1, second, last);
         printf("  ");
         print_costs(act, n, instructions_of, 0, second, last);
         printf("\n");
     }
-    printf("%3d/%d  ", HB_MAX_ORDER, act->first_order);
+    if (act->last_order == act->first_order)
+        return;
+    printf("%3d/%d  ", act->last_order, act->first_order);
     print_growth(act, time_of, second, last);
     printf("  ");
     print_growth(act, instructions_of, second, last);
@@ -470,20 +545,20 @@ static void print_longest(void)
            one_by_one / time_of(act, HB_MAX_ORDER, LIBRARY), one_by_one / time_of(act, HB_MAX_ORDER, TUNED));
 }
 
-/* The greatest part of plain C's time that the library may take at the last order */
+/* The greatest part of plain C's time that the library may take at the act's last order */
 static const struct {
     int act;
     double most;
-} limits[] = {{FACTORING, 1.2}, {JUDGE_DEFINITE, 1.2}, {BOX, 1.2}, {JUDGE_UNDECIDED, 0.01}};
+} limits[] = {{FACTORING, 1.2}, {JUDGE_DEFINITE, 1.2}, {BOX, 1.2}, {JUDGE_UNDECIDED, 0.01}, {GATHER, 1.5}, {READ_SUMS, 1.5}};
 
 /* Prints whether the limits are kept. What has no side of the library is not measured. */
 static int keeps_limits(void)
 {
     int kept = 1;
-    printf("\nlimits at order %d, of the library's time beside plain C's\n", HB_MAX_ORDER);
+    printf("\nlimits at the greatest order, of the library's time beside plain C's\n");
     for (size_t k = 0; k < sizeof limits / sizeof limits[0]; k++) {
         const struct act *act = &acts[limits[k].act];
-        double most = limits[k].most, ratio = time_of(act, HB_MAX_ORDER, LIBRARY) / time_of(act, HB_MAX_ORDER, PLAIN);
+        double most = limits[k].most, ratio = time_of(act, act->last_order, LIBRARY) / time_of(act, act->last_order, PLAIN);
         if (!act->sides[LIBRARY]) {
             printf("%-40s not measured: the bench's own archive is absent\n", act->name);
             continue;

@@ -13,6 +13,9 @@
 #define SCALE ((int64_t)1 << 32)
 #define HALF_SCALE ((int64_t)1 << 31)
 #define MARGIN ((int64_t)1 << 29)
+#define MAX_ALLOWANCE ((int64_t)1 << 40)
+#define SAMPLE_ORDER 4
+#define SAMPLE_ENTRIES (SAMPLE_ORDER * SAMPLE_ORDER)
 
 /* a / d rounded down toward minus infinity; d is positive */
 static int64_t floor_quotient(int64_t a, int64_t d)
@@ -536,4 +539,131 @@ int64_t plain_box(int64_t n, const int64_t *low, size_t low_count, const int64_t
         return 2;
     int64_t refusal = check_ellipsoid(&ellipsoid);
     return refusal ? refusal : enclose(&ellipsoid, sides);
+}
+
+/* The whole numbers next to 16 times a number of a sample, or the ends of a product */
+struct ends {
+    int64_t low;
+    int64_t high;
+};
+
+/* Whether a number is finite and within its range; a comparison with a NaN fails */
+static int bracket(float number, struct ends *ends)
+{
+    if (!(number >= -8.0f && number <= 8.0f))
+        return 0;
+    float product = 16.0f * number;
+    ends->low = (int64_t)floorf(product);
+    ends->high = (int64_t)ceilf(product);
+    return 1;
+}
+
+/* The least and the greatest of the four products of the ends */
+static struct ends end_products(const struct ends *x, const struct ends *y)
+{
+    int64_t products[4] = {x->low * y->low, x->low * y->high, x->high * y->low, x->high * y->high};
+    struct ends ends = {products[0], products[0]};
+    for (int k = 1; k < 4; k++) {
+        ends.low = products[k] < ends.low ? products[k] : ends.low;
+        ends.high = products[k] > ends.high ? products[k] : ends.high;
+    }
+    return ends;
+}
+
+/* Running sums; those that are lent, and a copy with the sample in it */
+struct sums {
+    int64_t low[SAMPLE_ENTRIES];
+    int64_t high[SAMPLE_ENTRIES];
+    int64_t linear_low[SAMPLE_ORDER];
+    int64_t linear_high[SAMPLE_ORDER];
+    int64_t running_limit;
+};
+
+/* Check 3 of sums, and check 18 of those with a sample in them */
+static int sums_in_range(int64_t n, const int64_t *low, const int64_t *high, const int64_t *linear_low, const int64_t *linear_high,
+                         int64_t running_limit)
+{
+    return tables_in_range(n, low, high) && in_range(linear_low, n, LINEAR_RANGE) && in_range(linear_high, n, LINEAR_RANGE) &&
+           within(running_limit, LIMIT_RANGE);
+}
+
+/* Checks 4, 5 and 16 of sums: 0, or the number of the refusal */
+static int64_t check_sums(int64_t n, const int64_t *low, const int64_t *high, const int64_t *linear_low, const int64_t *linear_high)
+{
+    int64_t refusal = check_shape(n, low, high);
+    return refusal ? refusal : crossed(linear_low, linear_high, n) ? 16 : 0;
+}
+
+/* Adds a sample; each pair of factors is worked out once */
+static void add(struct sums *sums, const struct ends *factors, const struct ends *draw)
+{
+    for (int i = 0; i < SAMPLE_ORDER; i++) {
+        for (int j = i; j < SAMPLE_ORDER; j++) {
+            struct ends ends = end_products(&factors[i], &factors[j]);
+            int place = i * SAMPLE_ORDER + j, mirrored = j * SAMPLE_ORDER + i;
+            sums->low[place] += ends.low;
+            sums->high[place] += ends.high;
+            sums->low[mirrored] = sums->low[place];
+            sums->high[mirrored] = sums->high[place];
+        }
+        struct ends ends = end_products(&factors[i], draw);
+        sums->linear_low[i] -= ends.high;
+        sums->linear_high[i] -= ends.low;
+    }
+    int64_t least = draw->low * draw->low, other = draw->high * draw->high;
+    sums->running_limit -= least < other ? least : other;
+}
+
+int64_t plain_gather(hb_sample sample, int64_t n, int64_t *low, size_t low_count, int64_t *high, size_t high_count, int64_t *linear_low,
+                     size_t linear_low_count, int64_t *linear_high, size_t linear_high_count, int64_t *running_limit,
+                     size_t running_limit_count)
+{
+    struct ends factors[SAMPLE_ORDER], draw;
+    struct sums sums;
+    if (!bracket(sample.rolling, &factors[0]) || !bracket(sample.climb, &factors[1]) || !bracket(sample.air, &factors[2]) ||
+        !bracket(sample.start, &factors[3]) || !bracket(sample.draw, &draw))
+        return 17;
+    if (n < 1 || n > PLAIN_MAX_ORDER)
+        return 1;
+    if (n != SAMPLE_ORDER || low_count != SAMPLE_ENTRIES || high_count != SAMPLE_ENTRIES || linear_low_count != SAMPLE_ORDER ||
+        linear_high_count != SAMPLE_ORDER || running_limit_count != 1)
+        return 2;
+    if (!sums_in_range(n, low, high, linear_low, linear_high, *running_limit))
+        return 3;
+    int64_t refusal = check_sums(n, low, high, linear_low, linear_high);
+    if (refusal)
+        return refusal;
+    memcpy(sums.low, low, sizeof sums.low);
+    memcpy(sums.high, high, sizeof sums.high);
+    memcpy(sums.linear_low, linear_low, sizeof sums.linear_low);
+    memcpy(sums.linear_high, linear_high, sizeof sums.linear_high);
+    sums.running_limit = *running_limit;
+    add(&sums, factors, &draw);
+    if (!sums_in_range(n, sums.low, sums.high, sums.linear_low, sums.linear_high, sums.running_limit))
+        return 18;
+    memcpy(low, sums.low, sizeof sums.low);
+    memcpy(high, sums.high, sizeof sums.high);
+    memcpy(linear_low, sums.linear_low, sizeof sums.linear_low);
+    memcpy(linear_high, sums.linear_high, sizeof sums.linear_high);
+    *running_limit = sums.running_limit;
+    return 0;
+}
+
+int64_t plain_read_sums(int64_t n, const int64_t *low, size_t low_count, const int64_t *high, size_t high_count, const int64_t *linear_low,
+                        size_t linear_low_count, const int64_t *linear_high, size_t linear_high_count, int64_t running_limit,
+                        int64_t allowance, int64_t *limit, size_t limit_count)
+{
+    if (n < 1 || n > PLAIN_MAX_ORDER)
+        return 1;
+    size_t order = (size_t)n, count = order * order;
+    if (low_count != count || high_count != count || linear_low_count != order || linear_high_count != order || limit_count != 1)
+        return 2;
+    if (!sums_in_range(n, low, high, linear_low, linear_high, running_limit) || allowance < 0 || allowance > MAX_ALLOWANCE ||
+        !within(allowance + running_limit, LIMIT_RANGE))
+        return 3;
+    int64_t refusal = check_sums(n, low, high, linear_low, linear_high);
+    if (refusal)
+        return refusal;
+    *limit = allowance + running_limit;
+    return 0;
 }

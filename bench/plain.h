@@ -2,6 +2,8 @@
 #ifndef PLAIN_H
 #define PLAIN_H
 
+#include "../include/hankboulder.h"
+
 #include <stddef.h>
 #include <stdint.h>
 
@@ -42,5 +44,15 @@ int64_t plain_pairs_judge(int64_t n, const int64_t *low, size_t low_count, const
 int64_t plain_box(int64_t n, const int64_t *low, size_t low_count, const int64_t *high, size_t high_count, const int64_t *linear_low,
                   size_t linear_low_count, const int64_t *linear_high, size_t linear_high_count, int64_t limit, const int64_t *centre,
                   size_t centre_count, int64_t *sides, size_t sides_count);
+
+/* Gathering with its checks, by floorf and ceilf: 0, and the sums have the sample; or the number of the refusal, and they are as they were. */
+int64_t plain_gather(hb_sample sample, int64_t n, int64_t *low, size_t low_count, int64_t *high, size_t high_count, int64_t *linear_low,
+                     size_t linear_low_count, int64_t *linear_high, size_t linear_high_count, int64_t *running_limit,
+                     size_t running_limit_count);
+
+/* Reading the sums with its checks: 0, and the limit is written; or the number of the refusal. */
+int64_t plain_read_sums(int64_t n, const int64_t *low, size_t low_count, const int64_t *high, size_t high_count, const int64_t *linear_low,
+                        size_t linear_low_count, const int64_t *linear_high, size_t linear_high_count, int64_t running_limit,
+                        int64_t allowance, int64_t *limit, size_t limit_count);
 
 #endif

@@ -68,6 +68,23 @@ static void draw_terms(int64_t n, struct problem *problem)
     }
 }
 
+/* A float with some of its range's digits, or one in four a whole number of sixteenths */
+static float draw_number(void)
+{
+    return draw(0, 3) ? (float)draw(-8000000, 8000000) / 1e6f : (float)draw(-128, 128) / 16;
+}
+
+/* A sample that is taken, and an allowance */
+static void draw_sample(struct problem *problem)
+{
+    problem->sample.rolling = draw_number();
+    problem->sample.climb = draw_number();
+    problem->sample.air = draw_number();
+    problem->sample.start = draw_number();
+    problem->sample.draw = draw_number();
+    problem->allowance = draw(0, HB_MAX_ALLOWANCE);
+}
+
 /* A factor of the bounds, a vector and an ellipsoid. One factor in eight is changed so that the last row, and only that, fails its test. */
 static void draw_definite(int64_t n, int place)
 {
@@ -83,6 +100,7 @@ static void draw_definite(int64_t n, int place)
     for (int64_t i = 0; i < n; i++)
         problem->vector[i] = draw(-HB_VECTOR_RANGE, HB_VECTOR_RANGE);
     draw_terms(n, problem);
+    draw_sample(problem);
 }
 
 /* Makes row a of B orthogonal to x, of which entry p is 1 or -1 */
@@ -111,6 +129,7 @@ static void draw_not_definite(int64_t n, int place)
         set_product(n, problem, b, 0, 0, 2);
     } while (verdict(n, problem) != HB_NOT_DEFINITE);
     draw_terms(n, problem);
+    draw_sample(problem);
 }
 
 /* B'B for an upper triangular B with 1 on the diagonal, some rows of which are multiplied: in whole numbers Bx is 0 for x = 0 alone. */
@@ -127,6 +146,7 @@ static void draw_undecided(int64_t n, int place)
         set_product(n, problem, b, 0, 0, 0);
     } while (verdict(n, problem) != HB_UNDECIDED);
     draw_terms(n, problem);
+    draw_sample(problem);
 }
 
 /* A problem with thin bounds, from the low table of another */
@@ -195,6 +215,20 @@ static void spoil(int64_t n, struct problem *problem)
         problem->linear_low[i] = problem->linear_high[i] + draw(-1, 1);
 }
 
+/* A sample that may be refused, with a float of any bits, or may fill the sums; and an allowance that may be refused */
+static void draw_any_sample(struct problem *problem)
+{
+    static const int64_t allowances[] = {-1, 0, HB_MAX_ALLOWANCE, HB_MAX_ALLOWANCE + 1, INT64_MIN, INT64_MAX};
+    float *const numbers[] = {&problem->sample.rolling, &problem->sample.climb, &problem->sample.air, &problem->sample.start, &problem->sample.draw};
+    draw_sample(problem);
+    if (draw(0, 3) == 0) {
+        uint32_t bits = (uint32_t)draw(0, UINT32_MAX);
+        memcpy(numbers[draw(0, 4)], &bits, sizeof bits);
+    }
+    if (draw(0, 3) == 0)
+        problem->allowance = allowances[draw(0, 5)];
+}
+
 /* Offers a factor and a vector that fit, or nearly so */
 static void draw_offers(int64_t n, struct problem *problem)
 {
@@ -222,6 +256,7 @@ void draw_any(int64_t n, struct problem *problem)
     if (draw(0, 3) == 0)
         problem->centre[draw(0, n - 1)] = draw(-HB_CENTRE_RANGE - 1, HB_CENTRE_RANGE + 1);
     draw_offers(n, problem);
+    draw_any_sample(problem);
     if (draw(0, 3) == 0)
         spoil(n, problem);
 }

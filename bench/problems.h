@@ -8,8 +8,9 @@
 #define MAX_ENTRIES (HB_MAX_ORDER * HB_MAX_ORDER)
 
 /*
- * The place among the problems of its kind and order; bounds; a factor and a vector that are offered for them; an ellipsoid. The processor stores the low
- * byte first, so that tables of int64_t are the library's bytes.
+ * The place among the problems of its kind and order; bounds; a factor and a vector that are offered for them; an ellipsoid; a sample, and an allowance. Where
+ * sums are asked for they have the bounds and the linear terms, and the limit for a running limit. The processor stores the low byte first, so that
+ * tables of int64_t are the library's bytes.
  */
 struct problem {
     int place;
@@ -21,6 +22,8 @@ struct problem {
     int64_t linear_high[HB_MAX_ORDER];
     int64_t limit;
     int64_t centre[HB_MAX_ORDER];
+    hb_sample sample;
+    int64_t allowance;
 };
 
 /*

@@ -14,10 +14,10 @@
 #define SEED 20240229u
 #define STACK_BYTES 65536
 #define MAX_ENTRIES (HB_MAX_ORDER * HB_MAX_ORDER)
-#define ENTRIES 4
+#define ENTRIES 6
 #define KINDS 10
 #define LEAST_ANSWER (-2)
-#define ANSWERS (HB_REFUSED_REVERSED - LEAST_ANSWER + 1)
+#define ANSWERS (HB_REFUSED_FULL - LEAST_ANSWER + 1)
 
 /* What the calls are made with. The processor stores the low byte first, so that tables of int64_t are the library's bytes. */
 struct input {
@@ -30,10 +30,15 @@ struct input {
     int64_t linear_high[HB_MAX_ORDER];
     int64_t limit;
     int64_t centre[HB_MAX_ORDER];
+    hb_sample sample;
+    int64_t allowance;
 };
 
 static struct input input;
-static int64_t factor[MAX_ENTRIES], vector[HB_MAX_ORDER], sides[2 * HB_MAX_ORDER];
+
+/* What gathering takes for sums: the bounds, the linear terms, and the limit for a running limit */
+static struct input sums;
+static int64_t factor[MAX_ENTRIES], vector[HB_MAX_ORDER], sides[2 * HB_MAX_ORDER], limit;
 static int64_t answer;
 
 /* Where the frame of the call's caller is */
@@ -77,6 +82,22 @@ static void call_box(void)
                     HB_VECTOR_BYTES(input.n), (uint8_t *)sides, HB_SIDES_BYTES(input.n));
 }
 
+static void call_gather(void)
+{
+    frame = __builtin_frame_address(0);
+    answer = hb_gather(input.sample, input.n, (uint8_t *)sums.low, HB_TABLE_BYTES(input.n), (uint8_t *)sums.high, HB_TABLE_BYTES(input.n),
+                       (uint8_t *)sums.linear_low, HB_VECTOR_BYTES(input.n), (uint8_t *)sums.linear_high, HB_VECTOR_BYTES(input.n),
+                       (uint8_t *)&sums.limit, HB_NUMBER_BYTES);
+}
+
+static void call_read_sums(void)
+{
+    frame = __builtin_frame_address(0);
+    answer = hb_read_sums(input.n, bytes(input.low), HB_TABLE_BYTES(input.n), bytes(input.high), HB_TABLE_BYTES(input.n), bytes(input.linear_low),
+                          HB_VECTOR_BYTES(input.n), bytes(input.linear_high), HB_VECTOR_BYTES(input.n), input.limit, input.allowance,
+                          (uint8_t *)&limit, HB_NUMBER_BYTES);
+}
+
 /* An entry: its call, what the header says of its stack, the most that was measured at each order, and how often each answer was given. */
 struct entry {
     const char *name;
@@ -91,6 +112,8 @@ static struct entry entries[ENTRIES] = {
     {.name = "hb_test_factor", .call = call_test_factor, .allowed = HB_TEST_FACTOR_STACK},
     {.name = "hb_test_vector", .call = call_test_vector, .allowed = HB_TEST_VECTOR_STACK},
     {.name = "hb_box", .call = call_box, .allowed = HB_BOX_STACK},
+    {.name = "hb_gather", .call = call_gather, .allowed = HB_GATHER_STACK},
+    {.name = "hb_read_sums", .call = call_read_sums, .allowed = HB_READ_SUMS_STACK},
 };
 
 /* The stack that a call takes, seen by one paint: from the caller's frame down to the last byte that is not as it was painted */
@@ -114,6 +137,7 @@ static void measure(struct entry *entry)
 {
     static const int paints[] = {0xA5, 0x5A};
     for (size_t k = 0; k < sizeof paints / sizeof paints[0]; k++) {
+        sums = input;
         long taken = depth(entry->call, paints[k]);
         if (taken > entry->deepest[input.n])
             entry->deepest[input.n] = taken;
@@ -233,6 +257,15 @@ static void draw_terms(int near)
     }
 }
 
+/* A sample, now and then with a number beyond the range, and an allowance, now and then below 0 */
+static void draw_sample(void)
+{
+    float *const numbers[] = {&input.sample.rolling, &input.sample.climb, &input.sample.air, &input.sample.start, &input.sample.draw};
+    for (int k = 0; k < 5; k++)
+        *numbers[k] = draw(0, 40) == 0 ? 9.0f : (float)draw(-8000000, 8000000) / 1e6f;
+    input.allowance = draw(0, 20) == 0 ? -1 : draw(0, HB_MAX_ALLOWANCE);
+}
+
 /* Offers the factor and the vector that the judge has just written, or those from before; now and then with one entry changed */
 static void offer(void)
 {
@@ -257,6 +290,7 @@ static void measure_order(int64_t n)
     for (int place = 0; place < INPUTS; place++) {
         draw_bounds(place % KINDS);
         draw_terms(place % 3 != 0);
+        draw_sample();
         for (int k = 0; k < ENTRIES; k++) {
             measure(&entries[k]);
             if (k == 0)

@@ -18,17 +18,27 @@
 #define INTERRUPTS 200
 #define PERIOD_MICROSECONDS 300
 
-/* The numbers of a problem, where the processor stores the low byte first */
+/* The numbers of a problem, where the processor stores the low byte first, and a sample */
 struct problem {
+    hb_sample sample;
     int64_t table[N * N];
     int64_t linear_low[N];
     int64_t linear_high[N];
     int64_t centre[N];
 };
 
-/* All that the four functions answer and write for a problem */
+/* Samples that are gathered one after the other */
+#define SAMPLES 70
+
+/* All that the functions answer and write for a problem: the answers of gathering are added up */
 struct result {
-    int64_t answers[4];
+    int64_t answers[6];
+    int64_t low[HB_SAMPLE_ORDER * HB_SAMPLE_ORDER];
+    int64_t high[HB_SAMPLE_ORDER * HB_SAMPLE_ORDER];
+    int64_t linear_low[HB_SAMPLE_ORDER];
+    int64_t linear_high[HB_SAMPLE_ORDER];
+    int64_t running_limit;
+    int64_t limit;
     int64_t factor[N * N];
     int64_t vector[N];
     int64_t sides[2 * N];
@@ -55,6 +65,15 @@ static void call(const struct problem *problem, struct result *result)
     result->answers[3] = hb_box(N, table, size, table, size, bytes(problem->linear_low), sizeof problem->linear_low,
                                 bytes(problem->linear_high), sizeof problem->linear_high, 100000, bytes(problem->centre),
                                 sizeof problem->centre, (uint8_t *)result->sides, sizeof result->sides);
+    for (int k = 0; k < SAMPLES; k++)
+        result->answers[4] += hb_gather(problem->sample, HB_SAMPLE_ORDER, (uint8_t *)result->low, sizeof result->low, (uint8_t *)result->high,
+                                        sizeof result->high, (uint8_t *)result->linear_low, sizeof result->linear_low,
+                                        (uint8_t *)result->linear_high, sizeof result->linear_high, (uint8_t *)&result->running_limit,
+                                        sizeof result->running_limit);
+    result->answers[5] = hb_read_sums(HB_SAMPLE_ORDER, bytes(result->low), sizeof result->low, bytes(result->high), sizeof result->high,
+                                      bytes(result->linear_low), sizeof result->linear_low, bytes(result->linear_high),
+                                      sizeof result->linear_high, result->running_limit, 1000000, (uint8_t *)&result->limit,
+                                      sizeof result->limit);
 }
 
 /* Whether a problem's calls give what they gave alone */
@@ -82,9 +101,16 @@ static void *work(void *differing)
     return NULL;
 }
 
-/* A definite table, one that is undecided and one that is not definite, so that all of the code is run */
+/*
+ * A definite table, one that is undecided and one that is not definite, so that all of the code is run; a sample that is always taken, one that fills the
+ * sums, and one that is refused
+ */
 static void make_problems(void)
 {
+    const hb_sample taken = {6.97f, -1.3f, 0.02f, 3, -5.5f}, greatest = {8, 8, 8, 8, 8}, beyond = {1, 1, 1, 1, 9};
+    problems[0].sample = taken;
+    problems[1].sample = greatest;
+    problems[2].sample = beyond;
     for (int i = 0; i < N; i++) {
         for (int j = 0; j < N; j++) {
             problems[0].table[i * N + j] = i == j ? 1000 + i : i + j;
@@ -123,6 +149,9 @@ int main(void)
     expect("definite, and boxed", alone[0].answers[0] == HB_DEFINITE && alone[0].answers[1] == HB_ACCEPTED && alone[0].answers[3] == HB_BOX);
     expect("undecided", alone[1].answers[0] == HB_UNDECIDED);
     expect("not definite, as the vector shows", alone[2].answers[0] == HB_NOT_DEFINITE && alone[2].answers[2] == HB_YES);
+    expect("gathered, and read", alone[0].answers[4] == HB_TAKEN && alone[0].answers[5] == HB_WRITTEN);
+    expect("64 gathered, and 6 too many", alone[1].answers[4] == 6 * HB_REFUSED_FULL && alone[1].answers[5] == HB_WRITTEN);
+    expect("all samples refused", alone[2].answers[4] == SAMPLES * HB_REFUSED_SAMPLE && alone[2].limit == 1000000);
     memset(&action, 0, sizeof action);
     action.sa_handler = interrupt;
     action.sa_flags = SA_RESTART;

@@ -297,7 +297,7 @@ static void run_box_of_order_1(void)
 static void run_words(void)
 {
     static const char *const words[] = HB_REFUSAL_WORDS;
-    expect("one word for each number", (int64_t)(sizeof words / sizeof words[0]), HB_REFUSED_REVERSED + 1);
+    expect("one word for each number", (int64_t)(sizeof words / sizeof words[0]), HB_REFUSED_FULL + 1);
     expect("no word for 0", strcmp(words[0], ""), 0);
     expect("order", strcmp(words[HB_REFUSED_ORDER], "order"), 0);
     expect("length", strcmp(words[HB_REFUSED_LENGTH], "length"), 0);
@@ -316,6 +316,49 @@ static void run_words(void)
     expect("long", strcmp(words[HB_REFUSED_LONG], "long"), 0);
     expect("reversed", strcmp(words[HB_REFUSED_REVERSED], "reversed"), 0);
     expect("its number", HB_REFUSED_REVERSED, 16);
+    expect("sample", strcmp(words[HB_REFUSED_SAMPLE], "sample"), 0);
+    expect("its number", HB_REFUSED_SAMPLE, 17);
+    expect("full", strcmp(words[HB_REFUSED_FULL], "full"), 0);
+    expect("its number", HB_REFUSED_FULL, 18);
+}
+
+/* Numbers and their bytes */
+struct number_case {
+    int64_t number;
+    uint8_t bytes[HB_NUMBER_BYTES];
+};
+
+static const struct number_case number_cases[] = {
+    {0, {0, 0, 0, 0, 0, 0, 0, 0}},
+    {1, {1, 0, 0, 0, 0, 0, 0, 0}},
+    {-1, {255, 255, 255, 255, 255, 255, 255, 255}},
+    {-2, {254, 255, 255, 255, 255, 255, 255, 255}},
+    {255, {255, 0, 0, 0, 0, 0, 0, 0}},
+    {-256, {0, 255, 255, 255, 255, 255, 255, 255}},
+    {0x0102030405060708, {8, 7, 6, 5, 4, 3, 2, 1}},
+    {-0x0102030405060708, {0xF8, 0xF8, 0xF9, 0xFA, 0xFB, 0xFC, 0xFD, 0xFE}},
+    {HB_LIMIT_RANGE, {0, 0, 0, 0, 0, 0, 0x40, 0}},
+    {-HB_LIMIT_RANGE, {0, 0, 0, 0, 0, 0, 0xC0, 0xFF}},
+    {INT64_MAX, {255, 255, 255, 255, 255, 255, 255, 127}},
+    {INT64_MIN, {0, 0, 0, 0, 0, 0, 0, 128}},
+    {INT64_MIN + 1, {1, 0, 0, 0, 0, 0, 0, 128}},
+};
+
+/* The two inline functions, at every address, and the bytes beside them kept */
+static void run_numbers(void)
+{
+    size_t k, shift;
+    for (k = 0; k < sizeof number_cases / sizeof number_cases[0]; k++) {
+        const struct number_case *test = &number_cases[k];
+        for (shift = 1; shift <= 8; shift++) {
+            uint8_t buffer[8 + HB_NUMBER_BYTES + 1];
+            memset(buffer, 0x5A, sizeof buffer);
+            hb_store_number(buffer + shift, test->number);
+            expect("a number's bytes", memcmp(buffer + shift, test->bytes, HB_NUMBER_BYTES), 0);
+            expect("the bytes beside them", buffer[shift - 1] == 0x5A && buffer[shift + HB_NUMBER_BYTES] == 0x5A, 1);
+            expect("a number from its bytes", hb_load_number(buffer + shift) == test->number, 1);
+        }
+    }
 }
 
 /* One table may be lent as low and as high, and one buffer as both ends of the linear terms. */
@@ -344,6 +387,139 @@ static void run_one_table(void)
     expect("its sides", holds(sides, around, 2 * ORDER), 1);
 }
 
+/* Running sums of samples */
+#define SUM_ENTRIES (HB_SAMPLE_ORDER * HB_SAMPLE_ORDER)
+
+struct sums {
+    uint8_t low[HB_TABLE_BYTES(HB_SAMPLE_ORDER)];
+    uint8_t high[HB_TABLE_BYTES(HB_SAMPLE_ORDER)];
+    uint8_t linear_low[HB_VECTOR_BYTES(HB_SAMPLE_ORDER)];
+    uint8_t linear_high[HB_VECTOR_BYTES(HB_SAMPLE_ORDER)];
+    uint8_t running_limit[HB_NUMBER_BYTES];
+};
+
+static int64_t gather(struct sums *sums, hb_sample sample)
+{
+    return hb_gather(sample, HB_SAMPLE_ORDER, sums->low, sizeof sums->low, sums->high, sizeof sums->high, sums->linear_low,
+                     sizeof sums->linear_low, sums->linear_high, sizeof sums->linear_high, sums->running_limit, sizeof sums->running_limit);
+}
+
+/* The answer, and the limit where it is written */
+static int64_t read_sums(const struct sums *sums, int64_t allowance, int64_t *limit)
+{
+    uint8_t found[HB_NUMBER_BYTES];
+    int64_t answer;
+    memset(found, KEPT, sizeof found);
+    answer = hb_read_sums(HB_SAMPLE_ORDER, sums->low, sizeof sums->low, sums->high, sizeof sums->high, sums->linear_low,
+                          sizeof sums->linear_low, sums->linear_high, sizeof sums->linear_high, hb_load_number(sums->running_limit), allowance,
+                          found, sizeof found);
+    expect("a limit is kept where it is refused", answer != HB_WRITTEN && !kept(found, sizeof found), 0);
+    *limit = answer == HB_WRITTEN ? hb_load_number(found) : 0;
+    return answer;
+}
+
+/* The float with these bits */
+static float of_bits(uint32_t bits)
+{
+    float number;
+    memcpy(&number, &bits, sizeof number);
+    return number;
+}
+
+/* A sample, worked by hand: 16, -8, 4 to 5 and 0, and a draw of 32 to 33 */
+static void run_gather(void)
+{
+    static const int64_t low[SUM_ENTRIES] = {256, -128, 64, 0, -128, 64, -40, 0, 64, -40, 16, 0, 0, 0, 0, 0};
+    static const int64_t high[SUM_ENTRIES] = {256, -128, 80, 0, -128, 64, -32, 0, 80, -32, 25, 0, 0, 0, 0, 0};
+    static const int64_t linear_low[HB_SAMPLE_ORDER] = {-528, 256, -165, 0}, linear_high[HB_SAMPLE_ORDER] = {-512, 264, -128, 0};
+    const hb_sample sample = {1.0f, -0.5f, 0.3f, -0.0f, 2.01f};
+    struct sums sums, expected;
+    int64_t limit;
+    memset(&sums, 0, sizeof sums);
+    store(expected.low, low, SUM_ENTRIES);
+    store(expected.high, high, SUM_ENTRIES);
+    store(expected.linear_low, linear_low, HB_SAMPLE_ORDER);
+    store(expected.linear_high, linear_high, HB_SAMPLE_ORDER);
+    hb_store_number(expected.running_limit, -1024);
+    expect("gather a sample", gather(&sums, sample), HB_TAKEN);
+    expect("its sums", memcmp(&sums, &expected, sizeof sums), 0);
+    expect("read them with 1000", read_sums(&sums, 1000, &limit), HB_WRITTEN);
+    expect("the limit", limit, -24);
+    expect("read them with 2^40", read_sums(&sums, HB_MAX_ALLOWANCE, &limit), HB_WRITTEN);
+    expect("the limit", limit, HB_MAX_ALLOWANCE - 1024);
+    expect("read them with more", read_sums(&sums, HB_MAX_ALLOWANCE + 1, &limit), HB_REFUSED_RANGE);
+    expect("read them with less than 0", read_sums(&sums, -1, &limit), HB_REFUSED_RANGE);
+    expect("read them with the greatest number", read_sums(&sums, INT64_MAX, &limit), HB_REFUSED_RANGE);
+    expect("read them with the least number", read_sums(&sums, INT64_MIN, &limit), HB_REFUSED_RANGE);
+}
+
+/* What gathering refuses, and that no sum is altered then */
+static void run_gather_refused(void)
+{
+    static const uint32_t refused[] = {0x41000001, 0xC1000001, 0x7F800000, 0xFF800000, 0x7F800001, 0x7FC00000, 0xFFFFFFFF};
+    const hb_sample greatest = {8, 8, 8, 8, 8}, sample = {1, 2, 3, 4, 5};
+    struct sums sums, before;
+    size_t k;
+    int64_t limit;
+    memset(&sums, 0, sizeof sums);
+    for (k = 0; k < 64; k++)
+        expect("gather the greatest sample", gather(&sums, greatest), HB_TAKEN);
+    before = sums;
+    expect("gather one more", gather(&sums, greatest), HB_REFUSED_FULL);
+    for (k = 0; k < sizeof refused / sizeof refused[0]; k++) {
+        hb_sample other = sample;
+        (k % 2 ? &other.rolling : &other.draw)[0] = of_bits(refused[k]);
+        expect("gather a number that is none", gather(&sums, other), HB_REFUSED_SAMPLE);
+    }
+    expect("the sums are as they were", memcmp(&sums, &before, sizeof sums), 0);
+    hb_store_number(sums.linear_low, -HB_LINEAR_RANGE - 1);
+    expect("gather into sums beyond their range", gather(&sums, sample), HB_REFUSED_RANGE);
+    expect("read them", read_sums(&sums, 0, &limit), HB_REFUSED_RANGE);
+    hb_store_number(sums.linear_low, HB_LINEAR_RANGE);
+    expect("gather into reversed sums", gather(&sums, sample), HB_REFUSED_REVERSED);
+    expect("read them", read_sums(&sums, 0, &limit), HB_REFUSED_REVERSED);
+    hb_store_number(sums.low + HB_NUMBER_BYTES, 0);
+    expect("gather into lopsided sums", gather(&sums, sample), HB_REFUSED_LOPSIDED);
+    expect("read them", read_sums(&sums, 0, &limit), HB_REFUSED_LOPSIDED);
+    hb_store_number(sums.high + HB_NUMBER_BYTES, -1);
+    before = sums;
+    expect("gather into crossed sums", gather(&sums, sample), HB_REFUSED_CROSSED);
+    expect("read them", read_sums(&sums, 0, &limit), HB_REFUSED_CROSSED);
+    expect("they are as they were", memcmp(&sums, &before, sizeof sums), 0);
+    expect("gather at order 3",
+           hb_gather(sample, 3, sums.low, HB_TABLE_BYTES(3), sums.high, HB_TABLE_BYTES(3), sums.linear_low, HB_VECTOR_BYTES(3), sums.linear_high,
+                     HB_VECTOR_BYTES(3), sums.running_limit, HB_NUMBER_BYTES),
+           HB_REFUSED_LENGTH);
+    expect("gather into null buffers", hb_gather(sample, 4, NULL, 0, NULL, 0, NULL, 0, NULL, 0, NULL, 0), HB_REFUSED_LENGTH);
+    expect("the same and order 0", hb_gather(sample, 0, NULL, 0, NULL, 0, NULL, 0, NULL, 0, NULL, 0), HB_REFUSED_ORDER);
+    expect("read null buffers", hb_read_sums(1, NULL, 0, NULL, 0, NULL, 0, NULL, 0, 0, 0, NULL, 0), HB_REFUSED_LENGTH);
+    expect("the same and order 9", hb_read_sums(9, NULL, 0, NULL, 0, NULL, 0, NULL, 0, 0, 0, NULL, 0), HB_REFUSED_ORDER);
+}
+
+/* From samples to a box without arithmetic: the draws are those of the coefficients 1, 2, 3 and 4, and these alone are left. */
+static void run_samples_to_box(void)
+{
+    static const hb_sample samples[] = {{5, 0, 0, 0, 5}, {0, 2, 0, 0, 4}, {0, 0, 2, 0, 6}, {0, 0, 0, 2, 8}, {1, 1, 0, 1, 7}};
+    static const int64_t truth[HB_SAMPLE_ORDER] = {1, 2, 3, 4};
+    uint8_t centre[HB_VECTOR_BYTES(HB_SAMPLE_ORDER)], sides[HB_SIDES_BYTES(HB_SAMPLE_ORDER)];
+    struct sums sums;
+    int64_t limit;
+    size_t k;
+    memset(&sums, 0, sizeof sums);
+    for (k = 0; k < sizeof samples / sizeof samples[0]; k++)
+        expect("gather", gather(&sums, samples[k]), HB_TAKEN);
+    expect("read", read_sums(&sums, 0, &limit), HB_WRITTEN);
+    store(centre, truth, HB_SAMPLE_ORDER);
+    expect("box",
+           hb_box(HB_SAMPLE_ORDER, sums.low, sizeof sums.low, sums.high, sizeof sums.high, sums.linear_low, sizeof sums.linear_low,
+                  sums.linear_high, sizeof sums.linear_high, limit, centre, sizeof centre, sides, sizeof sides),
+           HB_BOX);
+    for (k = 0; k < HB_SAMPLE_ORDER; k++) {
+        expect("the low of a side", hb_load_number(sides + 2 * k * HB_NUMBER_BYTES), truth[k]);
+        expect("its high", hb_load_number(sides + (2 * k + 1) * HB_NUMBER_BYTES), truth[k]);
+    }
+}
+
 /* The version's numbers and its string are one version. */
 static void run_version(void)
 {
@@ -357,6 +533,10 @@ int main(void)
     size_t k;
     run_version();
     run_words();
+    run_numbers();
+    run_gather();
+    run_gather_refused();
+    run_samples_to_box();
     run_one_table();
     for (k = 0; k < sizeof box_cases / sizeof box_cases[0]; k++)
         run_box_case(&box_cases[k]);

@@ -53,9 +53,9 @@
 #define BLOCK 120
 #define PROGRESS 10 /* seconds */
 
-/* Answers are -2 to 9, and 16, orders 1 to 8 or out of range (0). */
+/* Answers are -2 to 9, and 16 to 18, orders 1 to 8 or out of range (0). */
 #define LEAST (-2)
-#define ANSWERS (HB_REFUSED_REVERSED - LEAST + 1)
+#define ANSWERS (HB_REFUSED_FULL - LEAST + 1)
 #define ORDERS (HB_MAX_ORDER + 1)
 
 struct act {
@@ -83,6 +83,13 @@ static const struct act acts[LOAD_ACTS] = {
                    {HB_REFUSED_REVERSED, "reversed"},
                    {HB_REFUSED_FLAT, "flat"},
                    {HB_REFUSED_FAR, "far"}}},
+    [LOAD_GATHER] = {"hb_gather",
+                     {{HB_TAKEN, "taken"},
+                      {HB_REFUSED_SAMPLE, "sample"},
+                      REFUSED_1_TO_5,
+                      {HB_REFUSED_REVERSED, "reversed"},
+                      {HB_REFUSED_FULL, "full"}}},
+    [LOAD_READ_SUMS] = {"hb_read_sums", {{HB_WRITTEN, "written"}, REFUSED_1_TO_5, {HB_REFUSED_REVERSED, "reversed"}}},
 };
 
 /* Calls by act, order and answer. */
@@ -220,6 +227,8 @@ static const char *fault(const struct place *place, const struct load_buffer *bu
 
 static int64_t answered(const struct load_call *call, const struct place *lent) {
     int64_t n = call->n;
+    hb_sample sample;
+    memcpy(&sample, call->sample, sizeof sample);
     const struct place *low = &lent[0], *high = &lent[1], *third = &lent[2], *fourth = &lent[3], *fifth = &lent[4], *sixth = &lent[5];
     switch (call->act) {
     case LOAD_JUDGE:
@@ -228,6 +237,12 @@ static int64_t answered(const struct load_call *call, const struct place *lent) 
         return hb_test_factor(n, low->lent, low->length, high->lent, high->length, third->lent, third->length);
     case LOAD_TEST_VECTOR:
         return hb_test_vector(n, low->lent, low->length, high->lent, high->length, third->lent, third->length);
+    case LOAD_GATHER:
+        return hb_gather(sample, n, low->lent, low->length, high->lent, high->length, third->lent, third->length, fourth->lent, fourth->length,
+                         fifth->lent, fifth->length);
+    case LOAD_READ_SUMS:
+        return hb_read_sums(n, low->lent, low->length, high->lent, high->length, third->lent, third->length, fourth->lent, fourth->length,
+                            call->running_limit, call->allowance, fifth->lent, fifth->length);
     default:
         return hb_box(n, low->lent, low->length, high->lent, high->length, third->lent, third->length, fourth->lent, fourth->length,
                       call->limit, fifth->lent, fifth->length, sixth->lent, sixth->length);
@@ -239,6 +254,12 @@ static bool is_written(const struct load_call *call, size_t k) {
     if (call->act == LOAD_JUDGE) {
         return (call->answer == HB_DEFINITE && k == 2) || (call->answer == HB_NOT_DEFINITE && k == 3);
     }
+    if (call->act == LOAD_GATHER) {
+        return call->answer == HB_TAKEN;
+    }
+    if (call->act == LOAD_READ_SUMS) {
+        return call->answer == HB_WRITTEN && k == 4;
+    }
     return call->act == LOAD_BOX && call->answer == HB_BOX && k == 5;
 }
 
@@ -246,14 +267,14 @@ static bool is_written(const struct load_call *call, size_t k) {
 static void lend(struct worker *worker, const struct load_call *call, struct place *lent, bool *sealed) {
     for (size_t k = 0; k < call->count; k++) {
         uint64_t bits = mixed(mixed(seed ^ (current << 3)) ^ k);
-        bool read_only = k < call->inputs;
+        bool read_only = k < call->only_read;
         lent[k] = chosen(call->buffers[k].length, worker->pages[k], bits);
         lay(&lent[k], &call->buffers[k]);
         sealed[k] = read_only && !lent[k].heap && (bits >> 16) % 8 == 0;
         if (sealed[k]) {
             protect(worker->pages[k], PROT_READ);
         }
-        if (!read_only) {
+        if (k >= call->read) {
             FORGET(lent[k].content, lent[k].length);
         }
     }

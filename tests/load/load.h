@@ -1,11 +1,11 @@
-/* Seeded calls of the four acts with the second implementation's answers: the C side of src/lib.rs. */
+/* Seeded calls of the acts with the second implementation's answers, and its brackets of floats: the C side of src/lib.rs. */
 #ifndef LOAD_H
 #define LOAD_H
 
 #include <stddef.h>
 #include <stdint.h>
 
-enum { LOAD_JUDGE, LOAD_TEST_FACTOR, LOAD_TEST_VECTOR, LOAD_BOX, LOAD_ACTS };
+enum { LOAD_JUDGE, LOAD_TEST_FACTOR, LOAD_TEST_VECTOR, LOAD_BOX, LOAD_GATHER, LOAD_READ_SUMS, LOAD_ACTS };
 
 /* The most buffers that an act has. */
 #define LOAD_MOST 6
@@ -16,10 +16,14 @@ struct load_buffer {
     size_t length;
 };
 
-/* A call: the act, its numbers, the answer expected, how many of its buffers are only read (the first ones), and its buffers in the entry's order. */
+/*
+ * A call: the act, its numbers, the answer expected, the bits of a sample's floats in their order, how many of its buffers are read (the first ones) and
+ * how many of these are only read, all or none, and its buffers in the entry's order. What an act does not take is 0.
+ */
 struct load_call {
-    int64_t act, n, limit, answer;
-    size_t inputs, count;
+    int64_t act, n, limit, running_limit, allowance, answer;
+    uint32_t sample[5];
+    size_t read, only_read, count;
     struct load_buffer buffers[LOAD_MOST];
 };
 
@@ -28,5 +32,8 @@ struct load_source;
 struct load_source *load_open(uint64_t seed);
 void load_call(struct load_source *source, uint64_t number, struct load_call *call);
 void load_close(struct load_source *source);
+
+/* The whole numbers next below and above 16 times the float with these bits. 0 where the float is refused. */
+int load_bracket(uint32_t bits, int64_t *low, int64_t *high);
 
 #endif

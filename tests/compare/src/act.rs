@@ -4,6 +4,7 @@ use std::thread;
 
 use hankboulder_reference::generate::Generator;
 use hankboulder_reference::random::Random;
+use hankboulder_reference::rides::Sample;
 
 use crate::counts::{Counts, Outcome};
 use crate::guarded::{Guarded, Lent, Surroundings};
@@ -14,10 +15,25 @@ use crate::variation::varied;
 pub struct Call {
     /// The order
     pub n: i64,
-    /// The limit, of the act that has one
-    pub limit: i64,
+    /// The sample, of the act that has one
+    pub sample: Sample,
+    /// What else is passed as a number: the limit of the box, or the running limit
+    /// and the allowance
+    pub numbers: Vec<i64>,
     /// The buffers in the order of the C entry, read and written ones
     pub buffers: Vec<Vec<u8>>,
+}
+
+impl Call {
+    /// A call that has an order and buffers alone.
+    pub fn new(n: i64, buffers: Vec<Vec<u8>>) -> Call {
+        Call {
+            n,
+            sample: Sample::default(),
+            numbers: vec![],
+            buffers,
+        }
+    }
 }
 
 /// An act.
@@ -26,18 +42,18 @@ pub struct Act {
     pub name: &'static str,
     /// Every answer that it can give
     pub answers: &'static [i64],
-    /// Those that it cannot give at order 1
-    pub not_at_order_1: &'static [i64],
+    /// Whether it can give an answer other than 1 at an order from 1 to 8
+    pub possible: fn(i64, i64) -> bool,
     /// How many of the buffers are read: the first ones
     pub inputs: usize,
-    /// Whether it has a limit
-    pub limited: bool,
+    /// Whether it has a sample
+    pub sampled: bool,
     /// A generated call, faulty ones among them
     pub generate: fn(&mut Generator) -> Call,
     /// The reference's outcome; leaves the buffers as they are after the call
     pub reference: fn(&mut Call) -> Outcome,
     /// The library's answer
-    pub library: fn(i64, i64, &[Lent]) -> i64,
+    pub library: fn(&Call, &[Lent]) -> i64,
     /// Fails where the library's other entries speak against an answer and the
     /// buffers after it
     pub confirm: fn(&Call, i64),
@@ -51,6 +67,11 @@ const THREADS: u64 = 4;
 /// refused by fewer: most of these are refused again.
 const VARIATIONS: usize = 11;
 const VARIATIONS_OF_REFUSED: usize = 1;
+
+/// What most acts can answer at an order: a table of order 1 is symmetric.
+pub fn symmetric_at_1(order: i64, answer: i64) -> bool {
+    order > 1 || answer != 5
+}
 
 /// The surroundings of a call that is looked at for its outcome alone
 const PLAIN: Surroundings = Surroundings {
@@ -71,7 +92,7 @@ impl Act {
         let guard = |content: &Vec<u8>| Guarded::new(content, surroundings);
         let mut guarded: Vec<Guarded> = call.buffers.iter().map(guard).collect();
         let lent: Vec<Lent> = guarded.iter_mut().map(Guarded::lend).collect();
-        ((self.library)(call.n, call.limit, &lent), guarded)
+        ((self.library)(call, &lent), guarded)
     }
 
     /// What the library does wrong in a call, if anything: another answer than
@@ -166,7 +187,7 @@ impl Act {
                 VARIATIONS
             };
             for _ in 0..variations {
-                let call = varied(&call, self.inputs, self.limited, &mut random);
+                let call = varied(&call, self.inputs, self.sampled, &mut random);
                 counts.add(call.n, self.agree(&call, random.index(8)));
             }
         }

@@ -11,14 +11,17 @@ use hankboulder_reference::judge::List;
 pub enum Detail {
     /// The vector written by the judge is from this list.
     From(List),
-    /// The box is refused by 3, and only numbers of this kind are beyond their
+    /// The call is refused by 3, and only numbers of this kind are beyond their
     /// range.
     Beyond(Kind),
+    /// The sample is refused by 18, and only sums of this kind would leave their
+    /// range.
+    Full(Kind),
     /// The box is given, though t(k) = 0 for some k.
     Stepless,
 }
 
-/// The kinds of numbers that check 3 asks of the box.
+/// The kinds of numbers that checks 3 and 18 ask.
 #[derive(Clone, Copy, Debug, PartialEq, Eq, PartialOrd, Ord)]
 #[allow(missing_docs)]
 pub enum Kind {
@@ -28,17 +31,22 @@ pub enum Kind {
     LinearHigh,
     Limit,
     Centre,
+    RunningLimit,
+    Allowance,
 }
 
-/// Every kind.
-pub const KINDS: [Kind; 6] = [
-    Kind::Low,
-    Kind::High,
-    Kind::LinearLow,
-    Kind::LinearHigh,
-    Kind::Limit,
-    Kind::Centre,
-];
+/// Numbers of a kind, and their range.
+pub type OfKind = (Kind, Vec<i64>, i128);
+
+/// The kind of the numbers that are beyond their range, where it is one alone.
+pub fn one_beyond(of_kinds: &[OfKind]) -> Option<Kind> {
+    let passes = |number: &i64, range| i128::from(*number).abs() <= range;
+    let mut kinds = of_kinds
+        .iter()
+        .filter(|(_, numbers, range)| !numbers.iter().all(|number| passes(number, *range)))
+        .map(|(kind, _, _)| *kind);
+    kinds.next().filter(|_| kinds.next().is_none())
+}
 
 /// What a call comes to.
 #[derive(Clone, Copy, Debug, PartialEq, Eq, PartialOrd, Ord)]
@@ -73,6 +81,7 @@ impl fmt::Display for Outcome {
             Some(Detail::From(List::Tried)) => write!(f, ", tried vector"),
             Some(Detail::From(List::Solved(s))) => write!(f, ", solved vector with s = {s}"),
             Some(Detail::Beyond(kind)) => write!(f, ", by {kind:?} alone"),
+            Some(Detail::Full(kind)) => write!(f, ", {kind:?} alone"),
             Some(Detail::Stepless) => write!(f, ", t(k) = 0 for some k"),
         }
     }

@@ -6,8 +6,8 @@ use hankboulder_reference::generate::Generator;
 use hankboulder_reference::problem::{CENTRE_RANGE, ENTRY_RANGE, LIMIT_RANGE, LINEAR_RANGE};
 use hankboulder_reference::refusal::Refusal;
 
-use crate::act::{Act, Call};
-use crate::counts::{Detail, Kind, Outcome};
+use crate::act::{symmetric_at_1, Act, Call};
+use crate::counts::{one_beyond, Detail, Kind, Outcome};
 use crate::guarded::Lent;
 use crate::numbers;
 
@@ -34,10 +34,9 @@ extern "C" {
 pub const BOX: Act = Act {
     name: "hb_box",
     answers: &[0, -1, 1, 2, 3, 4, 5, 16, 8, 9],
-    // A table of order 1 is symmetric.
-    not_at_order_1: &[5],
+    possible: symmetric_at_1,
     inputs: 5,
-    limited: true,
+    sampled: false,
     generate,
     reference,
     library,
@@ -46,22 +45,22 @@ pub const BOX: Act = Act {
 
 fn generate(generator: &mut Generator) -> Call {
     let call = generator.box_call();
+    let buffers = vec![
+        call.low,
+        call.high,
+        call.linear_low,
+        call.linear_high,
+        call.centre,
+        call.sides,
+    ];
     Call {
-        n: call.n,
-        limit: call.limit,
-        buffers: vec![
-            call.low,
-            call.high,
-            call.linear_low,
-            call.linear_high,
-            call.centre,
-            call.sides,
-        ],
+        numbers: vec![call.limit],
+        ..Call::new(call.n, buffers)
     }
 }
 
 fn reference(call: &mut Call) -> Outcome {
-    let (n, limit) = (call.n, call.limit);
+    let (n, limit) = (call.n, call.numbers[0]);
     let [low, high, linear_low, linear_high, centre, sides] = &mut call.buffers[..] else {
         unreachable!("the box has six buffers");
     };
@@ -84,23 +83,17 @@ fn beyond(call: &Call) -> Option<Kind> {
     let [low, high, linear_low, linear_high, centre, _] = &call.buffers[..] else {
         unreachable!("the box has six buffers");
     };
-    let of_kinds = [
+    one_beyond(&[
         (Kind::Low, numbers(low), ENTRY_RANGE),
         (Kind::High, numbers(high), ENTRY_RANGE),
         (Kind::LinearLow, numbers(linear_low), LINEAR_RANGE),
         (Kind::LinearHigh, numbers(linear_high), LINEAR_RANGE),
-        (Kind::Limit, vec![call.limit], LIMIT_RANGE),
+        (Kind::Limit, call.numbers.clone(), LIMIT_RANGE),
         (Kind::Centre, numbers(centre), CENTRE_RANGE),
-    ];
-    let passes = |number: &i64, range| i128::from(*number).abs() <= range;
-    let mut kinds = of_kinds
-        .iter()
-        .filter(|(_, numbers, range)| !numbers.iter().all(|number| passes(number, *range)))
-        .map(|(kind, _, _)| *kind);
-    kinds.next().filter(|_| kinds.next().is_none())
+    ])
 }
 
-fn library(n: i64, limit: i64, lent: &[Lent]) -> i64 {
+fn library(call: &Call, lent: &[Lent]) -> i64 {
     let [low, high, linear_low, linear_high, centre, sides] = lent else {
         unreachable!("the box has six buffers");
     };
@@ -108,7 +101,7 @@ fn library(n: i64, limit: i64, lent: &[Lent]) -> i64 {
     // two overlap, unless both are of the low and the high end.
     unsafe {
         hb_box(
-            n,
+            call.n,
             low.pointer,
             low.length,
             high.pointer,
@@ -117,7 +110,7 @@ fn library(n: i64, limit: i64, lent: &[Lent]) -> i64 {
             linear_low.length,
             linear_high.pointer,
             linear_high.length,
-            limit,
+            call.numbers[0],
             centre.pointer,
             centre.length,
             sides.pointer,

@@ -4,7 +4,7 @@ use hankboulder_reference::entries::{judge_code, judged, NEGATIVE, POSITIVE};
 use hankboulder_reference::generate::Generator;
 use hankboulder_reference::judge::Verdict;
 
-use crate::act::{Act, Call};
+use crate::act::{symmetric_at_1, Act, Call};
 use crate::counts::{Detail, Outcome};
 use crate::guarded::Lent;
 use crate::test_factor::TEST_FACTOR;
@@ -28,11 +28,11 @@ extern "C" {
 pub const JUDGE: Act = Act {
     name: "hb_judge",
     answers: &[0, -1, -2, 1, 2, 3, 4, 5],
-    // A table of order 1 is symmetric. Factoring it ends where L is 1 or more,
-    // and where not, (1) shows it.
-    not_at_order_1: &[5, -2],
+    // Factoring a table of order 1 ends where L is 1 or more, and where not, (1)
+    // shows it.
+    possible: |order, answer| symmetric_at_1(order, answer) && (order > 1 || answer != -2),
     inputs: 2,
-    limited: false,
+    sampled: false,
     generate,
     reference,
     library,
@@ -41,11 +41,8 @@ pub const JUDGE: Act = Act {
 
 fn generate(generator: &mut Generator) -> Call {
     let call = generator.judge_call();
-    Call {
-        n: call.n,
-        limit: 0,
-        buffers: vec![call.low, call.high, call.factor, call.vector],
-    }
+    let buffers = vec![call.low, call.high, call.factor, call.vector];
+    Call::new(call.n, buffers)
 }
 
 fn reference(call: &mut Call) -> Outcome {
@@ -62,7 +59,7 @@ fn reference(call: &mut Call) -> Outcome {
     }
 }
 
-fn library(n: i64, _limit: i64, lent: &[Lent]) -> i64 {
+fn library(call: &Call, lent: &[Lent]) -> i64 {
     let [low, high, factor, vector] = lent else {
         unreachable!("the judge has four buffers");
     };
@@ -70,7 +67,7 @@ fn library(n: i64, _limit: i64, lent: &[Lent]) -> i64 {
     // two overlap.
     unsafe {
         hb_judge(
-            n,
+            call.n,
             low.pointer,
             low.length,
             high.pointer,
@@ -94,10 +91,7 @@ fn confirm(after: &Call, answer: i64) {
         NEGATIVE => (&TEST_VECTOR, vector),
         _ => return,
     };
-    let call = Call {
-        n: after.n,
-        limit: 0,
-        buffers: [low, high, written].map(Vec::clone).to_vec(),
-    };
+    let buffers = [low, high, written].map(Vec::clone).to_vec();
+    let call = Call::new(after.n, buffers);
     test.expect(&call, POSITIVE);
 }

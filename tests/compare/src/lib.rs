@@ -10,15 +10,17 @@
 mod act;
 mod counts;
 pub mod enclosure;
+pub mod gather;
 mod guarded;
 pub mod judge;
 mod offered;
+pub mod read_sums;
 pub mod test_factor;
 pub mod test_vector;
 mod variation;
 
 pub use act::{Act, Call};
-pub use counts::{Counts, Detail, Kind, Outcome, KINDS};
+pub use counts::{Counts, Detail, Kind, Outcome};
 pub use guarded::Lent;
 
 /// Numbers as 8 bytes each, low byte first.

@@ -2,7 +2,7 @@
 
 use hankboulder_reference::entries;
 
-use crate::act::{Act, Call};
+use crate::act::{symmetric_at_1, Act, Call};
 use crate::offered::{library, reference};
 
 extern "C" {
@@ -21,19 +21,14 @@ extern "C" {
 pub const TEST_FACTOR: Act = Act {
     name: "hb_test_factor",
     answers: &[0, -1, 1, 2, 3, 4, 5, 6],
-    // A table of order 1 is symmetric.
-    not_at_order_1: &[5],
+    possible: symmetric_at_1,
     inputs: 3,
-    limited: false,
+    sampled: false,
     generate: |generator| {
         let call = generator.factor_call();
-        Call {
-            n: call.n,
-            limit: 0,
-            buffers: vec![call.low, call.high, call.factor],
-        }
+        Call::new(call.n, vec![call.low, call.high, call.factor])
     },
     reference: |call| reference(call, entries::test_factor),
-    library: |n, _, lent| library(n, lent, hb_test_factor),
+    library: |call, lent| library(call.n, lent, hb_test_factor),
     confirm: |_, _| {},
 };

@@ -2,6 +2,7 @@
 
 use hankboulder_reference::entries;
 use hankboulder_reference::generate::Generator;
+use hankboulder_reference::rides::Sample;
 
 /// The acts, numbered as in `load.h`.
 #[derive(Clone, Copy, Debug, PartialEq, Eq)]
@@ -12,17 +13,44 @@ pub enum Act {
     TestFactor = 1,
     TestVector = 2,
     Box = 3,
+    Gather = 4,
+    ReadSums = 5,
 }
 
 impl Act {
-    /// How many of the buffers are only read: the first ones.
-    pub fn inputs(self) -> usize {
+    /// How many of the buffers are read: the first ones.
+    pub fn read(self) -> usize {
         match self {
             Act::Judge => 2,
             Act::TestFactor | Act::TestVector => 3,
-            Act::Box => 5,
+            Act::Box | Act::Gather => 5,
+            Act::ReadSums => 4,
         }
     }
+
+    /// How many of these are only read.
+    pub fn only_read(self) -> usize {
+        match self {
+            Act::Gather => 0,
+            _ => self.read(),
+        }
+    }
+
+    /// Whether its buffers have both ends of linear terms, after the tables.
+    pub fn has_ends(self) -> bool {
+        matches!(self, Act::Box | Act::Gather | Act::ReadSums)
+    }
+}
+
+/// What a call is passed besides its buffers. What its act does not take is 0.
+#[derive(Clone, Debug, Default)]
+#[allow(missing_docs)]
+pub struct Passed {
+    pub n: i64,
+    pub sample: Sample,
+    pub limit: i64,
+    pub running_limit: i64,
+    pub allowance: i64,
 }
 
 /// The arguments of a call.
@@ -30,10 +58,8 @@ impl Act {
 pub struct Call {
     /// The act
     pub act: Act,
-    /// The order
-    pub n: i64,
-    /// The limit; 0 where the act has none
-    pub limit: i64,
+    /// What is passed by value
+    pub passed: Passed,
     /// The buffers in the order of the C entry
     pub buffers: Vec<Vec<u8>>,
 }
@@ -41,33 +67,46 @@ pub struct Call {
 impl Call {
     /// A generated call, faulty ones among them.
     pub fn generated(act: Act, generator: &mut Generator) -> Call {
-        let mut limit = 0;
-        let (n, buffers) = match act {
+        let mut passed = Passed::default();
+        let buffers = match act {
             Act::Judge => {
                 let call = generator.judge_call();
-                (call.n, vec![call.low, call.high, call.factor, call.vector])
+                passed.n = call.n;
+                vec![call.low, call.high, call.factor, call.vector]
             }
             Act::TestFactor => {
                 let call = generator.factor_call();
-                (call.n, vec![call.low, call.high, call.factor])
+                passed.n = call.n;
+                vec![call.low, call.high, call.factor]
             }
             Act::TestVector => {
                 let call = generator.vector_call();
-                (call.n, vec![call.low, call.high, call.vector])
+                passed.n = call.n;
+                vec![call.low, call.high, call.vector]
             }
             Act::Box => {
                 let call = generator.box_call();
-                limit = call.limit;
-                let bounds = [call.low, call.high];
-                let linear = [call.linear_low, call.linear_high];
-                let others = [call.centre, call.sides];
-                (call.n, [&bounds[..], &linear, &others].concat())
+                (passed.n, passed.limit) = (call.n, call.limit);
+                let sums = [call.low, call.high, call.linear_low, call.linear_high];
+                sums.into_iter().chain([call.centre, call.sides]).collect()
+            }
+            Act::Gather => {
+                let call = generator.gather_call();
+                (passed.n, passed.sample) = (call.n, call.sample);
+                let sums = [call.low, call.high, call.linear_low, call.linear_high];
+                sums.into_iter().chain([call.running_limit]).collect()
+            }
+            Act::ReadSums => {
+                let call = generator.sums_call();
+                (passed.n, passed.allowance) = (call.n, call.allowance);
+                passed.running_limit = call.running_limit;
+                let sums = [call.low, call.high, call.linear_low, call.linear_high];
+                sums.into_iter().chain([call.limit]).collect()
             }
         };
         Call {
             act,
-            n,
-            limit,
+            passed,
             buffers,
         }
     }
@@ -75,16 +114,23 @@ impl Call {
     /// The second implementation's answer. The buffers are left as they are
     /// after the call.
     pub fn answer(&mut self) -> i64 {
-        let n = self.n;
+        let passed = &self.passed;
+        let n = passed.n;
         match (self.act, &mut self.buffers[..]) {
             (Act::Judge, [low, high, factor, vector]) => {
                 entries::judge(n, low, high, factor, vector)
             }
             (Act::TestFactor, [low, high, factor]) => entries::test_factor(n, low, high, factor),
             (Act::TestVector, [low, high, vector]) => entries::test_vector(n, low, high, vector),
-            (Act::Box, [low, high, linear_low, linear_high, centre, sides]) => {
-                let limit = self.limit;
-                entries::enclose(n, low, high, linear_low, linear_high, limit, centre, sides)
+            (Act::Box, [low, high, least, most, centre, sides]) => {
+                entries::enclose(n, low, high, least, most, passed.limit, centre, sides)
+            }
+            (Act::Gather, [low, high, least, most, running]) => {
+                entries::gather(&passed.sample, n, low, high, least, most, running)
+            }
+            (Act::ReadSums, [low, high, least, most, limit]) => {
+                let (running, allowance) = (passed.running_limit, passed.allowance);
+                entries::read_sums(n, low, high, least, most, running, allowance, limit)
             }
             _ => unreachable!("each act has its number of buffers"),
         }

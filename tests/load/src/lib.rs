@@ -1,5 +1,6 @@
-//! Seeded calls of the four acts with the second implementation's answers, for
-//! the driver in C. `load.h` has the C side of what is here.
+//! Seeded calls of the acts with the second implementation's answers, and its
+//! brackets of floats, for the programs in C. `load.h` has the C side of what is
+//! here.
 
 #![warn(missing_docs)]
 #![deny(unsafe_op_in_unsafe_fn)]
@@ -8,7 +9,10 @@ mod call;
 mod source;
 mod variation;
 
+use std::ffi::c_int;
 use std::ptr;
+
+use hankboulder_reference::floats::bracket;
 
 use source::Source;
 
@@ -30,8 +34,12 @@ pub struct LoadCall {
     act: i64,
     n: i64,
     limit: i64,
+    running_limit: i64,
+    allowance: i64,
     answer: i64,
-    inputs: usize,
+    sample: [u32; 5],
+    read: usize,
+    only_read: usize,
     count: usize,
     buffers: [LoadBuffer; MOST],
 }
@@ -66,12 +74,17 @@ pub unsafe extern "C" fn load_call(source: *mut Source, number: u64, call: *mut 
             length: before.len(),
         };
     }
+    let passed = &before.passed;
     let handed = LoadCall {
         act: before.act as i64,
-        n: before.n,
-        limit: before.limit,
+        n: passed.n,
+        limit: passed.limit,
+        running_limit: passed.running_limit,
+        allowance: passed.allowance,
         answer,
-        inputs: before.act.inputs(),
+        sample: passed.sample.numbers(),
+        read: before.act.read(),
+        only_read: before.act.only_read(),
         count: before.buffers.len(),
         buffers,
     };
@@ -88,4 +101,22 @@ pub unsafe extern "C" fn load_call(source: *mut Source, number: u64, call: *mut 
 pub unsafe extern "C" fn load_close(source: *mut Source) {
     // SAFETY: the source is open.
     drop(unsafe { Box::from_raw(source) });
+}
+
+/// The bracket of a float; 0 where it is refused.
+///
+/// # Safety
+///
+/// Both numbers can be written.
+#[no_mangle]
+pub unsafe extern "C" fn load_bracket(bits: u32, low: *mut i64, high: *mut i64) -> c_int {
+    let Some(ends) = bracket(bits) else {
+        return 0;
+    };
+    // SAFETY: both can be written. A bracket is within ±128.
+    unsafe {
+        low.write(ends.low as i64);
+        high.write(ends.high as i64);
+    }
+    1
 }

@@ -3,14 +3,21 @@
 use hankboulder_reference::generate::Generator;
 use hankboulder_reference::random::Random;
 
-use crate::call::{Act, Call};
+use crate::call::{Act, Call, Passed};
 use crate::variation::varied;
 
 /// A generated call and its variations have numbers one after the other.
 const GROUP: u64 = 12;
 
 /// The acts in turn, one for each group.
-const TURNS: [Act; 4] = [Act::Judge, Act::TestFactor, Act::TestVector, Act::Box];
+const TURNS: [Act; 6] = [
+    Act::Judge,
+    Act::TestFactor,
+    Act::TestVector,
+    Act::Box,
+    Act::Gather,
+    Act::ReadSums,
+];
 
 /// The calls of a seed. A call depends on the seed and its number alone.
 pub struct Source {
@@ -28,8 +35,7 @@ impl Source {
     pub fn new(seed: u64) -> Source {
         let none = Call {
             act: Act::Judge,
-            n: 0,
-            limit: 0,
+            passed: Passed::default(),
             buffers: vec![],
         };
         Source {

@@ -1,7 +1,10 @@
 //! Small changes of a call.
 
-use hankboulder_reference::generate::numbers::{changed, count, mirrored, read, write};
+use hankboulder_reference::generate::numbers::{
+    changed, changed_float, count, mirrored, read, write,
+};
 use hankboulder_reference::random::Random;
+use hankboulder_reference::rides::Sample;
 use hankboulder_reference::summary::NUMBER_WIDTH;
 
 use crate::call::{Act, Call};
@@ -9,7 +12,7 @@ use crate::call::{Act, Call};
 /// Low and high, the buffers that must be symmetric.
 const TABLES: usize = 2;
 
-/// The box's ends of the linear terms.
+/// The ends of the linear terms, of the acts that have them.
 const LINEAR_LOW: usize = 2;
 const LINEAR_HIGH: usize = 3;
 
@@ -18,11 +21,11 @@ const LINEAR_HIGH: usize = 3;
 pub fn varied(call: &Call, random: &mut Random) -> Call {
     let mut varied = call.clone();
     match random.index(64) {
-        0 => varied.n = change_order(call.n, random),
+        0 => varied.passed.n = change_order(call.passed.n, random),
         1 => varied.buffers.iter_mut().for_each(Vec::clear),
         2..=4 => change_length(&mut varied, random),
         5 => {
-            let input = random.index(call.act.inputs());
+            let input = random.index(call.act.read());
             let length = call.buffers[input].len();
             varied.buffers[input] = random.bytes(length);
         }
@@ -63,14 +66,33 @@ fn change_length(call: &mut Call, random: &mut Random) {
     buffer.truncate(changed);
 }
 
-/// Changes one number of an input, or the limit. In a table the mirrored entry
-/// is mostly changed with it, and sometimes those of the other table. Of a linear
-/// term both ends are sometimes changed.
+/// Changes one number that is passed by value: the limit, the running limit, the
+/// allowance or one of the sample.
+fn change_passed(call: &mut Call, random: &mut Random) {
+    let passed = &mut call.passed;
+    match call.act {
+        Act::Box => passed.limit = changed(passed.limit, random),
+        Act::ReadSums if random.one_in(2) => {
+            passed.running_limit = changed(passed.running_limit, random);
+        }
+        Act::ReadSums => passed.allowance = changed(passed.allowance, random),
+        _ => {
+            let mut numbers = passed.sample.numbers();
+            let place = random.index(numbers.len());
+            numbers[place] = changed_float(numbers[place], random);
+            passed.sample = Sample::of(numbers);
+        }
+    }
+}
+
+/// Changes one number of an input, or one that is passed by value. In a table the
+/// mirrored entry is mostly changed with it, and sometimes those of the other
+/// table. Of a linear term both ends are sometimes changed.
 fn change_number(call: &mut Call, random: &mut Random) {
-    let inputs = call.act.inputs();
-    let choice = random.index(inputs + usize::from(call.act == Act::Box));
+    let inputs = call.act.read();
+    let choice = random.index(inputs + usize::from(call.act.has_ends()));
     if choice == inputs {
-        call.limit = changed(call.limit, random);
+        change_passed(call, random);
         return;
     }
     let count = count(&call.buffers[choice]);
@@ -82,7 +104,7 @@ fn change_number(call: &mut Call, random: &mut Random) {
     let after = changed(before, random);
     write(&mut call.buffers[choice], place, after);
     if choice >= TABLES {
-        let end = call.act == Act::Box && [LINEAR_LOW, LINEAR_HIGH].contains(&choice);
+        let end = call.act.has_ends() && [LINEAR_LOW, LINEAR_HIGH].contains(&choice);
         if end && random.one_in(2) {
             write(
                 &mut call.buffers[LINEAR_LOW + LINEAR_HIGH - choice],

@@ -143,7 +143,13 @@ fn refusal_3_at_every_linear_term_centre_entry_and_limit() {
         }
         for limit in beyond(LIMIT_RANGE) {
             let call = diagonal(order, 4);
-            expect(&Call { limit, ..call }, REFUSED_RANGE);
+            expect(
+                &Call {
+                    numbers: vec![limit],
+                    ..call
+                },
+                REFUSED_RANGE,
+            );
         }
     }
 }
@@ -165,7 +171,7 @@ fn the_ends_of_their_ranges_pass_3() {
             assert_eq!(BOX.agree(&call, k).answer, BOX_GIVEN);
         }
         let mut call = diagonal(order, 4);
-        call.limit = sign * LIMIT_RANGE;
+        call.numbers[0] = sign * LIMIT_RANGE;
         let answer = if sign > 0 { BOX_GIVEN } else { EMPTY };
         assert_eq!(BOX.agree(&call, 0).answer, answer);
     }
@@ -200,7 +206,7 @@ fn refusal_9_at_every_place() {
             set_linear(&mut call, k, number);
             assert_eq!(BOX.agree(&call, k).answer, answer);
             // 9 comes before 'empty'.
-            call.limit = -LIMIT_RANGE;
+            call.numbers[0] = -LIMIT_RANGE;
             let answer = if answer == BOX_GIVEN { EMPTY } else { answer };
             assert_eq!(BOX.agree(&call, k).answer, answer);
         }

@@ -2,11 +2,16 @@
 //! same buffers after, and no byte beside a buffer written.
 
 use hankboulder_compare::enclosure::BOX;
+use hankboulder_compare::gather::GATHER;
 use hankboulder_compare::judge::JUDGE;
+use hankboulder_compare::read_sums::READ_SUMS;
 use hankboulder_compare::test_factor::TEST_FACTOR;
 use hankboulder_compare::test_vector::TEST_VECTOR;
-use hankboulder_compare::{Act, Counts, Detail, KINDS};
+use hankboulder_compare::{Act, Counts, Detail, Kind};
 use hankboulder_reference::judge::List;
+
+/// The kinds of numbers that sums share with a problem.
+const SUMS: [Kind; 4] = [Kind::Low, Kind::High, Kind::LinearLow, Kind::LinearHigh];
 
 /// How many calls of an act are made that are not refused, and at least how many
 /// of them have each answer.
@@ -23,11 +28,6 @@ const REFUSED: usize = 1500;
 const AT_AN_ORDER: usize = 200;
 const IN_A_WAY: usize = 50;
 
-/// Whether an act can give an answer at an order from 1 to 8.
-fn possible(act: &Act, order: i64, answer: i64) -> bool {
-    answer != 1 && (order != 1 || !act.not_at_order_1.contains(&answer))
-}
-
 fn agrees_on_generated_calls(act: &Act, seed: u64, answered: Answered) -> Counts {
     let counts = act.agree_on_generated(seed, answered.calls);
     println!("{}: {counts}", act.name);
@@ -41,14 +41,16 @@ fn agrees_on_generated_calls(act: &Act, seed: u64, answered: Answered) -> Counts
         for order in 1..=8 {
             let given = counts.of_answer_at(Some(order), *answer);
             let place = format!("order {order}: answer {answer}: {given} calls");
-            if possible(act, order, *answer) {
+            if *answer != 1 && (act.possible)(order, *answer) {
                 assert!(given >= AT_AN_ORDER, "{place}");
             } else {
                 assert_eq!(given, 0, "{place}");
             }
         }
     }
-    assert_eq!(counts.of_answer(1), counts.of_order(None));
+    // 17 comes before 1, where a sample is handed over.
+    let before = counts.of_answer_at(None, 17);
+    assert_eq!(counts.of_answer(1) + before, counts.of_order(None));
     counts
 }
 
@@ -106,11 +108,39 @@ fn the_box_agrees_with_the_reference_at_every_order() {
     };
     let counts = agrees_on_generated_calls(&BOX, 4, answered);
     for order in 1..=8 {
-        for kind in KINDS {
+        for kind in SUMS.into_iter().chain([Kind::Limit, Kind::Centre]) {
             expect_way(&counts, order, Detail::Beyond(kind), true);
         }
         // At orders 1 and 2, a power of 2 that can be taken off every diagonal
         // entry can be taken off one alone.
         expect_way(&counts, order, Detail::Stepless, order > 2);
+    }
+}
+
+#[test]
+fn gathering_agrees_with_the_reference() {
+    let answered = Answered {
+        calls: 200_000,
+        least: &[(0, 200_000)],
+    };
+    let counts = agrees_on_generated_calls(&GATHER, 5, answered);
+    for kind in SUMS.into_iter().chain([Kind::RunningLimit]) {
+        expect_way(&counts, 4, Detail::Beyond(kind), true);
+        expect_way(&counts, 4, Detail::Full(kind), true);
+    }
+}
+
+#[test]
+fn reading_the_sums_agrees_with_the_reference_at_every_order() {
+    let answered = Answered {
+        calls: 200_000,
+        least: &[(0, 200_000)],
+    };
+    let counts = agrees_on_generated_calls(&READ_SUMS, 6, answered);
+    let others = [Kind::RunningLimit, Kind::Allowance, Kind::Limit];
+    for order in 1..=8 {
+        for kind in SUMS.into_iter().chain(others) {
+            expect_way(&counts, order, Detail::Beyond(kind), true);
+        }
     }
 }

@@ -5,6 +5,7 @@ mod acceptance;
 mod boxes;
 mod generated;
 mod refusals;
+mod rides;
 mod support;
 mod two_ends;
 mod vectors;

@@ -2,6 +2,7 @@
 
 use hankboulder_compare::enclosure::BOX;
 use hankboulder_compare::judge::JUDGE;
+use hankboulder_compare::read_sums::READ_SUMS;
 use hankboulder_compare::test_factor::TEST_FACTOR;
 use hankboulder_compare::test_vector::TEST_VECTOR;
 use hankboulder_compare::{bytes, Act, Call};
@@ -53,8 +54,8 @@ impl FactorTest {
 /// Makes a call of an act on the bounds of a factor test.
 pub type Caller = fn(&FactorTest) -> Call;
 
-/// Every act on bounds.
-pub const ACTS: [(&Act, Caller); 4] = [
+/// Every act on bounds of any order.
+pub const ACTS: [(&Act, Caller); 5] = [
     (&TEST_FACTOR, FactorTest::call),
     (&TEST_VECTOR, |test| {
         let ones = vec![1; test.order];
@@ -64,6 +65,14 @@ pub const ACTS: [(&Act, Caller); 4] = [
     (&BOX, |test| {
         let zeros = vec![0; test.order];
         box_call(&test.low, &test.high, &zeros, 0, &zeros)
+    }),
+    (&READ_SUMS, |test| {
+        let zeros = bytes(&vec![0; test.order]);
+        let others = [zeros.clone(), zeros, vec![0x5A; 8]];
+        Call {
+            numbers: vec![0, 0],
+            ..call_on(&test.low, &test.high, &others)
+        }
     }),
 ];
 
@@ -75,7 +84,7 @@ pub fn judge_call(low: &[i64], high: &[i64]) -> Call {
     call_on(low, high, &[output(order * order), output(order)])
 }
 
-/// The places of the box's buffers after the bounds
+/// The places of the box's buffers after the bounds; sums have the first two
 pub const LINEAR_LOW: usize = 2;
 pub const LINEAR_HIGH: usize = 3;
 pub const CENTRE: usize = 4;
@@ -105,18 +114,15 @@ pub fn problem_call(problem: &RawProblem) -> Call {
         sides,
     ];
     Call {
-        limit: problem.limit,
+        numbers: vec![problem.limit],
         ..call_on(&problem.low, &problem.high, &others)
     }
 }
 
 /// A call on bounds, with the buffers that follow them.
 pub fn call_on(low: &[i64], high: &[i64], others: &[Vec<u8>]) -> Call {
-    Call {
-        n: low.len().isqrt() as i64,
-        limit: 0,
-        buffers: [&[bytes(low), bytes(high)], others].concat(),
-    }
+    let buffers = [&[bytes(low), bytes(high)], others].concat();
+    Call::new(low.len().isqrt() as i64, buffers)
 }
 
 /// A table with one number on the diagonal and another elsewhere.

@@ -157,7 +157,7 @@ fn of_one_buffer(call: &Call) -> (i64, Vec<u8>) {
         })
         .collect();
     lent[LINEAR_HIGH] = lent[LINEAR_LOW];
-    let answer = (BOX.library)(call.n, call.limit, &lent);
+    let answer = (BOX.library)(call, &lent);
     let before = &call.buffers;
     assert_eq!(buffers[..SIDES], before[..SIDES], "an input was written");
     (answer, buffers.swap_remove(SIDES))
