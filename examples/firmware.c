@@ -1,141 +1,98 @@
 /* part: head */
-/* From the rides that a unit has measured to the kilometres on its display. docs/FIRMWARE.md has this file part by part, and says why. */
+/* From the samples that a unit's hub hands over to the kilometres on its display. docs/FIRMWARE.md has this file part by part, and says why. */
 #include <inttypes.h>
 #include <stdio.h>
 
 #include "hankboulder.h"
 
-/* part: numbers */
-/* Writes numbers as the library reads them: 8 bytes each, low byte first, whatever the processor's own order is. */
-static void store(uint8_t *buffer, const int64_t *numbers, size_t count)
-{
-    for (size_t k = 0; k < count; k++)
-        for (size_t byte = 0; byte < HB_NUMBER_BYTES; byte++)
-            buffer[k * HB_NUMBER_BYTES + byte] = (uint8_t)((uint64_t)numbers[k] >> (8 * byte));
-}
+/* part: sums */
+/* The unknown coefficients: what rolling, climb, air and start take. They count sixteenths of the draw for a sixteenth of a factor. */
+#define ORDER HB_SAMPLE_ORDER
 
-/* Reads them back. */
-static void load(int64_t *numbers, const uint8_t *buffer, size_t count)
-{
-    for (size_t k = 0; k < count; k++) {
-        uint64_t bits = 0;
-        for (size_t byte = HB_NUMBER_BYTES; byte > 0; byte--)
-            bits = bits << 8 | buffer[k * HB_NUMBER_BYTES + byte - 1];
-        numbers[k] = bits >> 63 ? -(int64_t)~bits - 1 : (int64_t)bits;
-    }
-}
-
-/* part: rides */
-/* The unknown coefficients: energy for a kilometre, and for a metre climbed. The unit of energy is 10 mWh. */
-#define ORDER 2
-
-/* A ride: its kilometres and the metres climbed, and the energy that it took */
-struct ride {
-    int64_t factors[ORDER];
-    int64_t energy;
-};
-
-/* What the rides add up to. The unit keeps these, and they are exact. */
+/* What the samples add up to, in the library's bytes, and the allowance for those that were taken. The unit keeps these; all begin at 0. */
 struct sums {
-    int64_t low[ORDER * ORDER];
-    int64_t high[ORDER * ORDER];
-    int64_t linear_low[ORDER];
-    int64_t linear_high[ORDER];
-    int64_t limit;
-};
-
-/*
- * Adds rides to the sums, for every x with which the squares of the rides' errors, energy - factors'x, add up to at most allowed.
- * Multiplied out that is x'Mx + 2a'x <= limit: M is the sum of the products of a ride's factors, a that of -energy * factors, and limit is
- * allowed less that of energy^2. A product of two factors may be up to slack more than was measured, and one of energy and a factor up to
- * energy_slack more.
- */
-static void gather(struct sums *sums, const struct ride *rides, size_t count, int64_t slack, int64_t energy_slack, int64_t allowed)
-{
-    sums->limit += allowed;
-    for (size_t k = 0; k < count; k++) {
-        for (int i = 0; i < ORDER; i++) {
-            for (int j = 0; j < ORDER; j++) {
-                int64_t product = rides[k].factors[i] * rides[k].factors[j];
-                sums->low[i * ORDER + j] += product;
-                sums->high[i * ORDER + j] += product + slack;
-            }
-            int64_t term = rides[k].energy * rides[k].factors[i];
-            sums->linear_low[i] -= term + energy_slack;
-            sums->linear_high[i] -= term;
-        }
-        sums->limit -= rides[k].energy * rides[k].energy;
-    }
-}
-
-/* part: coarsen */
-/* Half of a number, rounded down and rounded up */
-static int64_t half_down(int64_t number)
-{
-    return (number - (number & 1)) / 2;
-}
-
-static int64_t half_up(int64_t number)
-{
-    return (number + (number & 1)) / 2;
-}
-
-/*
- * Halves the sums, so that no coefficients are lost: x'Mx + 2a'x <= limit becomes x'(M/2)x + 2(a/2)'x <= limit/2. Lows are rounded down,
- * highs and the limit up: so M/2 is between the tables, and a/2 between the ends of the linear terms.
- */
-static void halve(struct sums *sums)
-{
-    sums->limit = half_up(sums->limit);
-    for (int k = 0; k < ORDER * ORDER; k++) {
-        sums->low[k] = half_down(sums->low[k]);
-        sums->high[k] = half_up(sums->high[k]);
-    }
-    for (int k = 0; k < ORDER; k++) {
-        sums->linear_low[k] = half_down(sums->linear_low[k]);
-        sums->linear_high[k] = half_up(sums->linear_high[k]);
-    }
-}
-
-/* part: problem */
-static int within(const int64_t *numbers, size_t count, int64_t range)
-{
-    for (size_t k = 0; k < count; k++)
-        if (numbers[k] < -range || numbers[k] > range)
-            return 0;
-    return 1;
-}
-
-/* Whether the library takes numbers of this size */
-static int fits(const struct sums *sums)
-{
-    return within(sums->low, ORDER * ORDER, HB_ENTRY_RANGE) && within(sums->high, ORDER * ORDER, HB_ENTRY_RANGE) &&
-           within(sums->linear_low, ORDER, HB_LINEAR_RANGE) && within(sums->linear_high, ORDER, HB_LINEAR_RANGE) &&
-           within(&sums->limit, 1, HB_LIMIT_RANGE);
-}
-
-/* What the library is asked about, in its own bytes but for the limit */
-struct problem {
     uint8_t low[HB_TABLE_BYTES(ORDER)];
     uint8_t high[HB_TABLE_BYTES(ORDER)];
     uint8_t linear_low[HB_VECTOR_BYTES(ORDER)];
     uint8_t linear_high[HB_VECTOR_BYTES(ORDER)];
-    int64_t limit;
+    uint8_t running_limit[HB_NUMBER_BYTES];
+    int64_t allowance;
 };
 
-/* Makes a problem of the sums, halved as often as it takes. They come as a copy, and those that the unit keeps stay exact. */
-static void pack(struct problem *problem, struct sums sums)
+/* part: gather */
+static void log_refusal(const char *function, int64_t number);
+static void halve(struct sums *sums);
+
+/*
+ * Adds a sample, which the right coefficients miss by at most miss sixteenths of the draw: its square is allowed for where the sample is taken. Where the
+ * sums are full they are halved, which makes room; returns how often. A sample that is refused for itself is dropped, and the sums are as they were.
+ */
+static int gather(struct sums *sums, hb_sample sample, int64_t miss)
 {
-    int halvings = 0;
-    for (; !fits(&sums); halvings++)
-        halve(&sums);
-    if (halvings > 0)
-        printf("  halvings: %d\n", halvings);
-    store(problem->low, sums.low, ORDER * ORDER);
-    store(problem->high, sums.high, ORDER * ORDER);
-    store(problem->linear_low, sums.linear_low, ORDER);
-    store(problem->linear_high, sums.linear_high, ORDER);
-    problem->limit = sums.limit;
+    for (int halvings = 0;; halvings++) {
+        int64_t answer = hb_gather(sample, ORDER, sums->low, sizeof sums->low, sums->high, sizeof sums->high, sums->linear_low,
+                                   sizeof sums->linear_low, sums->linear_high, sizeof sums->linear_high, sums->running_limit,
+                                   sizeof sums->running_limit);
+        switch (answer) {
+        case HB_TAKEN:
+            sums->allowance += miss * miss;
+            return halvings;
+        case HB_REFUSED_FULL:
+            halve(sums);
+            break;
+        default:
+            log_refusal("hb_gather", answer);
+            return halvings;
+        }
+    }
+}
+
+/* part: coarsen */
+/* Halves some numbers, each rounded down, or each rounded up */
+static void halve_down(uint8_t *numbers, size_t count)
+{
+    for (size_t k = 0; k < count; k++) {
+        int64_t number = hb_load_number(numbers + HB_NUMBER_BYTES * k);
+        hb_store_number(numbers + HB_NUMBER_BYTES * k, (number - (number & 1)) / 2);
+    }
+}
+
+static void halve_up(uint8_t *numbers, size_t count)
+{
+    for (size_t k = 0; k < count; k++) {
+        int64_t number = hb_load_number(numbers + HB_NUMBER_BYTES * k);
+        hb_store_number(numbers + HB_NUMBER_BYTES * k, (number + (number & 1)) / 2);
+    }
+}
+
+/*
+ * Halves the sums, so that no coefficients are lost: with M and a between them, x'Mx + 2a'x <= allowance + running limit becomes the same of their halves.
+ * Lows are rounded down, highs, running limit and allowance up: so M/2 is between the tables, and a/2 between the ends of the linear terms.
+ */
+static void halve(struct sums *sums)
+{
+    halve_down(sums->low, ORDER * ORDER);
+    halve_up(sums->high, ORDER * ORDER);
+    halve_down(sums->linear_low, ORDER);
+    halve_up(sums->linear_high, ORDER);
+    halve_up(sums->running_limit, 1);
+    sums->allowance = (sums->allowance + (sums->allowance & 1)) / 2;
+}
+
+/* part: read */
+/* Reads the sums with their allowance. Returns 1, with the limit that hb_box takes. */
+static int read_limit(const struct sums *sums, int64_t *limit)
+{
+    uint8_t found[HB_NUMBER_BYTES];
+    int64_t answer = hb_read_sums(ORDER, sums->low, sizeof sums->low, sums->high, sizeof sums->high, sums->linear_low, sizeof sums->linear_low,
+                                  sums->linear_high, sizeof sums->linear_high, hb_load_number(sums->running_limit), sums->allowance, found,
+                                  sizeof found);
+    if (answer != HB_WRITTEN) {
+        log_refusal("hb_read_sums", answer);
+        return 0;
+    }
+    *limit = hb_load_number(found);
+    return 1;
 }
 
 /* part: refusals */
@@ -150,7 +107,7 @@ static void log_refusal(const char *function, int64_t number)
         remedy = "a mistake in this program's call";
         break;
     case HB_REFUSED_RANGE:
-        remedy = "a measurement out of range, gather anew";
+        remedy = "the sums are damaged, or more is allowed for than 2^40, gather anew";
         break;
     case HB_REFUSED_CROSSED:
     case HB_REFUSED_LOPSIDED:
@@ -169,6 +126,12 @@ static void log_refusal(const char *function, int64_t number)
     case HB_REFUSED_FAR:
         remedy = "the centre is too far off, or the bounds are too wide";
         break;
+    case HB_REFUSED_SAMPLE:
+        remedy = "the hub has handed over no measurement, drop the sample";
+        break;
+    case HB_REFUSED_FULL:
+        remedy = "no room for the sample, halve the sums";
+        break;
     default:
         number = 0;
     }
@@ -177,19 +140,19 @@ static void log_refusal(const char *function, int64_t number)
 
 /* part: judge */
 /* Judges the bounds. Returns 1, with the factor written, where every matrix between them is positive definite. */
-static int judge(const struct problem *problem, uint8_t *factor)
+static int judge(const struct sums *sums, uint8_t *factor)
 {
     uint8_t vector[HB_VECTOR_BYTES(ORDER)];
-    int64_t witness[ORDER];
-    int64_t answer = hb_judge(ORDER, problem->low, sizeof problem->low, problem->high, sizeof problem->high, factor, HB_TABLE_BYTES(ORDER), vector,
-                              sizeof vector);
+    int64_t answer = hb_judge(ORDER, sums->low, sizeof sums->low, sums->high, sizeof sums->high, factor, HB_TABLE_BYTES(ORDER), vector, sizeof vector);
     switch (answer) {
     case HB_DEFINITE:
         printf("  definite\n");
         return 1;
     case HB_NOT_DEFINITE:
-        load(witness, vector, ORDER);
-        printf("  not definite, as the vector (%" PRId64 ", %" PRId64 ") shows\n", witness[0], witness[1]);
+        printf("  not definite, as the vector");
+        for (int k = 0; k < ORDER; k++)
+            printf(" %" PRId64, hb_load_number(vector + HB_NUMBER_BYTES * k));
+        printf(" shows\n");
         return 0;
     case HB_UNDECIDED:
         printf("  undecided\n");
@@ -201,10 +164,10 @@ static int judge(const struct problem *problem, uint8_t *factor)
 }
 
 /* part: filed */
-/* Tests the factor that was filed with the bounds. Returns 1 where it shows that they are definite, and they need not be judged again. */
-static int test_filed(const struct problem *problem, const uint8_t *factor)
+/* Tests the factor that was filed with the sums. Returns 1 where it shows that they are definite, and they need not be judged again. */
+static int test_filed(const struct sums *sums, const uint8_t *factor)
 {
-    int64_t answer = hb_test_factor(ORDER, problem->low, sizeof problem->low, problem->high, sizeof problem->high, factor, HB_TABLE_BYTES(ORDER));
+    int64_t answer = hb_test_factor(ORDER, sums->low, sizeof sums->low, sums->high, sizeof sums->high, factor, HB_TABLE_BYTES(ORDER));
     switch (answer) {
     case HB_ACCEPTED:
         printf("  the filed factor is accepted\n");
@@ -220,12 +183,13 @@ static int test_filed(const struct problem *problem, const uint8_t *factor)
 
 /* part: logged */
 /* Tests a witness vector that a unit has logged, in a workshop's tool. */
-static void test_logged(const struct problem *problem, const int64_t *witness)
+static void test_logged(const struct sums *sums, const int64_t *witness)
 {
     uint8_t vector[HB_VECTOR_BYTES(ORDER)];
     int64_t answer;
-    store(vector, witness, ORDER);
-    answer = hb_test_vector(ORDER, problem->low, sizeof problem->low, problem->high, sizeof problem->high, vector, sizeof vector);
+    for (int k = 0; k < ORDER; k++)
+        hb_store_number(vector + HB_NUMBER_BYTES * k, witness[k]);
+    answer = hb_test_vector(ORDER, sums->low, sizeof sums->low, sums->high, sizeof sums->high, vector, sizeof vector);
     switch (answer) {
     case HB_YES:
         printf("  the logged vector shows that not every matrix is definite\n");
@@ -239,23 +203,24 @@ static void test_logged(const struct problem *problem, const int64_t *witness)
 }
 
 /* part: centre */
+/* The middle of two numbers of the sums */
+static double middle_of(const uint8_t *low, const uint8_t *high, int place)
+{
+    return (double)(hb_load_number(low + HB_NUMBER_BYTES * place) + hb_load_number(high + HB_NUMBER_BYTES * place)) / 2;
+}
+
 /*
  * The centre, where Cc + a = 0 for the middle C of the bounds and the middle a of the linear terms, by elimination: no pivot is 0, for C is
  * positive definite. Entries are rounded from the last to the first, and each makes up for the rounding of those after it. Any rounding is
  * sound, for a box holds the ellipsoid from any centre.
  */
-static void solve_centre(const struct problem *problem, int64_t *centre)
+static void solve_centre(const struct sums *sums, int64_t *centre)
 {
-    int64_t low[ORDER * ORDER], high[ORDER * ORDER], linear_low[ORDER], linear_high[ORDER];
     double middle[ORDER][ORDER], rest[ORDER];
-    load(low, problem->low, ORDER * ORDER);
-    load(high, problem->high, ORDER * ORDER);
-    load(linear_low, problem->linear_low, ORDER);
-    load(linear_high, problem->linear_high, ORDER);
     for (int i = 0; i < ORDER; i++) {
-        rest[i] = -(double)(linear_low[i] + linear_high[i]) / 2;
+        rest[i] = -middle_of(sums->linear_low, sums->linear_high, i);
         for (int j = 0; j < ORDER; j++)
-            middle[i][j] = (double)(low[i * ORDER + j] + high[i * ORDER + j]) / 2;
+            middle[i][j] = middle_of(sums->low, sums->high, i * ORDER + j);
         for (int k = 0; k < i; k++) {
             double share = middle[i][k] / middle[k][k];
             rest[i] -= share * rest[k];
@@ -274,18 +239,21 @@ static void solve_centre(const struct problem *problem, int64_t *centre)
 }
 
 /* part: box */
-/* Boxes the ellipsoid from a centre. Returns 1, with the sides written, where a box is given. */
-static int box(const struct problem *problem, const int64_t *centre, int64_t *sides)
+/* Boxes the ellipsoid of the sums from a centre. Returns 1, with the sides written, where a box is given. */
+static int box(const struct sums *sums, const int64_t *centre, int64_t *sides)
 {
     uint8_t middle[HB_VECTOR_BYTES(ORDER)], found[HB_SIDES_BYTES(ORDER)];
-    int64_t answer;
-    store(middle, centre, ORDER);
-    answer = hb_box(ORDER, problem->low, sizeof problem->low, problem->high, sizeof problem->high, problem->linear_low,
-                    sizeof problem->linear_low, problem->linear_high, sizeof problem->linear_high, problem->limit, middle, sizeof middle,
-                    found, sizeof found);
+    int64_t limit, answer;
+    if (!read_limit(sums, &limit))
+        return 0;
+    for (int k = 0; k < ORDER; k++)
+        hb_store_number(middle + HB_NUMBER_BYTES * k, centre[k]);
+    answer = hb_box(ORDER, sums->low, sizeof sums->low, sums->high, sizeof sums->high, sums->linear_low, sizeof sums->linear_low,
+                    sums->linear_high, sizeof sums->linear_high, limit, middle, sizeof middle, found, sizeof found);
     switch (answer) {
     case HB_BOX:
-        load(sides, found, 2 * ORDER);
+        for (int k = 0; k < 2 * ORDER; k++)
+            sides[k] = hb_load_number(found + HB_NUMBER_BYTES * k);
         for (int k = 0; k < ORDER; k++)
             printf("  coefficient %d from %" PRId64 " to %" PRId64 "\n", k, sides[2 * k], sides[2 * k + 1]);
         return 1;
@@ -305,11 +273,19 @@ static void show_table(void)
     printf("  display: printed table\n");
 }
 
-/* Shows how many kilometres 400 Wh last, where each has 10 metres to climb, at the greatest and at the least energy that the box allows. */
+/*
+ * Shows how many kilometres 400 Wh last, 64,000 sixteenths of the draw: a kilometre has 16 sixteenths of rolling and of air, 10 metres to climb and one start,
+ * and takes the greatest and the least energy that the box allows.
+ */
 static void show_kilometres(const int64_t *sides)
 {
-    const int64_t energy = 40000, climb = 10;
-    int64_t least = sides[0] + climb * sides[2], most = sides[1] + climb * sides[3];
+    static const int64_t kilometre[ORDER] = {16, 10, 16, 1};
+    const int64_t energy = 64000;
+    int64_t least = 0, most = 0;
+    for (int k = 0; k < ORDER; k++) {
+        least += kilometre[k] * sides[2 * k];
+        most += kilometre[k] * sides[2 * k + 1];
+    }
     if (least <= 0)
         show_table();
     else
@@ -318,109 +294,154 @@ static void show_kilometres(const int64_t *sides)
 
 /* part: display */
 /*
- * The display's work: test the factor that was filed with the bounds, or judge them and have a factor to file; then box from the centre.
- * filed is 1 where there is a filed factor.
+ * The display's work: test the factor that was filed with the sums, or judge them and have a factor to file; then read them and box from the
+ * centre. filed is 1 where there is a filed factor.
  */
-static void display(const struct problem *problem, uint8_t *factor, int filed)
+static void display(const struct sums *sums, uint8_t *factor, int filed)
 {
     int64_t centre[ORDER], sides[2 * ORDER];
-    int definite = filed && test_filed(problem, factor);
+    int definite = filed && test_filed(sums, factor);
     if (!definite)
-        definite = judge(problem, factor);
+        definite = judge(sums, factor);
     if (!definite) {
         show_table();
         return;
     }
-    solve_centre(problem, centre);
-    if (box(problem, centre, sides))
+    solve_centre(sums, centre);
+    if (box(sums, centre, sides))
         show_kilometres(sides);
     else
         show_table();
 }
 
-/* part: cases */
-#define COUNT(rides) (sizeof(rides) / sizeof((rides)[0]))
+/* part: rides */
+/*
+ * A stretch of a ride, in sixteenths: 62.5 m each of rolling and of air (more where it is faster than 25 km/h, and less where it is slower), metres climbed,
+ * starts, and 6.25 mWh each of draw
+ */
+struct stretch {
+    float rolling, climb, air, start, draw;
+};
 
-/* Makes the problem of some rides alone. */
-static void pack_rides(struct problem *problem, const struct ride *rides, size_t count, int64_t slack, int64_t energy_slack,
-                       int64_t allowed)
+/* A ride: 24 for a sixteenth of rolling, 36 for a metre, 12 for a sixteenth of air and 18 for a start, and draws that are off by up to 2 */
+static const struct stretch ride[] = {
+    {2, 1, 1, 0, 97}, {1, 0, 2, 1, 65}, {3, 0, 1, 0, 85},  {1, 2, 0, 0, 95}, {1, 0, 1, 2, 73},  {2, 0, 3, 0, 84},
+    {0, 2, 0, 1, 91}, {1, 1, 1, 1, 89}, {2, 0, 0, 3, 103}, {0, 1, 4, 0, 86}, {4, 0, 1, 0, 107}, {0, 0, 3, 2, 71},
+};
+
+#define COUNT(stretches) (sizeof(stretches) / sizeof((stretches)[0]))
+
+/* Gathers stretches as a hub measures them that is off by so many sixteenths of each number, and what it is off by is allowed for by miss. */
+static void gather_all(struct sums *sums, const struct stretch *stretches, size_t count, const struct stretch *off, int64_t miss)
 {
-    struct sums sums = {{0}, {0}, {0}, {0}, 0};
-    gather(&sums, rides, count, slack, energy_slack, allowed);
-    pack(problem, sums);
+    int halvings = 0;
+    for (size_t k = 0; k < count; k++) {
+        const struct stretch *stretch = &stretches[k];
+        hb_sample sample = {(stretch->rolling + off->rolling) / 16, (stretch->climb + off->climb) / 16, (stretch->air + off->air) / 16,
+                            (stretch->start + off->start) / 16, (stretch->draw + off->draw) / 16};
+        halvings += gather(sums, sample, miss);
+    }
+    if (halvings > 0)
+        printf("  halvings: %d\n", halvings);
 }
 
-/* A week of rides, its factor filed and damaged, its numbers damaged, many such weeks, and the week known less well */
-static void show_weeks(void)
-{
-    const struct ride week[] = {{{10, 50}, 12350}, {{8, 200}, 17420}, {{12, 0}, 11980}};
-    uint8_t factor[HB_TABLE_BYTES(ORDER)] = {0};
-    struct sums season = {{0}, {0}, {0}, {0}, 0};
-    struct problem problem;
+static const struct stretch nothing = {0, 0, 0, 0, 0};
 
-    printf("a week of rides\n");
-    pack_rides(&problem, week, COUNT(week), 1, 100, 30000);
-    display(&problem, factor, 0);
+/* part: cases */
+/* A ride, its factor filed and damaged, its sums damaged, a hub that fails, and many such rides */
+static void show_rides(void)
+{
+    const hb_sample unmeasured = {0.125f, 0, 0.0625f, 0, 12.5f};
+    uint8_t factor[HB_TABLE_BYTES(ORDER)] = {0};
+    struct sums sums = {{0}, {0}, {0}, {0}, {0}, 0}, many = sums;
+
+    printf("a ride\n");
+    gather_all(&sums, ride, COUNT(ride), &nothing, 2);
+    display(&sums, factor, 0);
     printf("the same after the next start, its factor filed\n");
-    display(&problem, factor, 1);
+    display(&sums, factor, 1);
     printf("the same, the filed factor damaged\n");
-    factor[HB_NUMBER_BYTES] ^= 64;
-    display(&problem, factor, 1);
+    factor[HB_NUMBER_BYTES + 2] ^= 64;
+    display(&sums, factor, 1);
     printf("the same, the linear terms damaged\n");
-    problem.linear_low[1] ^= 16;
-    display(&problem, factor, 0);
-    printf("the same, the bounds damaged too\n");
-    problem.low[HB_NUMBER_BYTES] ^= 1;
-    display(&problem, factor, 1);
-    printf("thirty such weeks\n");
-    for (int k = 0; k < 30; k++)
-        gather(&season, week, COUNT(week), 1, 100, 30000);
-    pack(&problem, season);
-    display(&problem, factor, 0);
-    printf("the week, the products of its factors known to 20 each\n");
-    pack_rides(&problem, week, COUNT(week), 20, 100, 30000);
-    display(&problem, factor, 0);
-    printf("the same, known to 130 each\n");
-    pack_rides(&problem, week, COUNT(week), 130, 100, 30000);
-    display(&problem, factor, 0);
-    printf("the week, the products of its energies known to 5000 each\n");
-    pack_rides(&problem, week, COUNT(week), 1, 5000, 30000);
-    display(&problem, factor, 0);
+    sums.linear_high[1] ^= 64;
+    gather_all(&sums, ride, 1, &nothing, 2);
+    display(&sums, factor, 0);
+    printf("the same, the tables damaged too\n");
+    sums.low[HB_NUMBER_BYTES] ^= 1;
+    display(&sums, factor, 1);
+    printf("a ride, and a stretch whose draw was not measured\n");
+    gather_all(&many, ride, COUNT(ride), &nothing, 2);
+    gather(&many, unmeasured, 2);
+    display(&many, factor, 0);
+    printf("thirty thousand such rides\n");
+    for (int k = 1; k < 30000; k++)
+        gather_all(&many, ride, COUNT(ride), &nothing, 2);
+    display(&many, factor, 0);
+}
+
+/* The ride where less is known of it */
+static void show_wider(void)
+{
+    static const struct stretch draws = {0, 0, 0, 0, 0.3f}, air = {0, 0, 0.01f, 0, 0}, all = {0.01f, 0.01f, 0.01f, 0.01f, 0};
+    uint8_t factor[HB_TABLE_BYTES(ORDER)] = {0};
+    struct sums none = {{0}, {0}, {0}, {0}, {0}, 0}, sums = none;
+
+    printf("the ride, missed by up to 5 in each stretch\n");
+    gather_all(&sums, ride, COUNT(ride), &nothing, 5);
+    display(&sums, factor, 0);
+    printf("the ride, its draws between sixteenths\n");
+    sums = none;
+    gather_all(&sums, ride, COUNT(ride), &draws, 2);
+    display(&sums, factor, 0);
+    printf("the ride, the air between sixteenths\n");
+    sums = none;
+    gather_all(&sums, ride, COUNT(ride), &air, 2);
+    display(&sums, factor, 0);
+    printf("the ride, all factors between sixteenths\n");
+    sums = none;
+    gather_all(&sums, ride, COUNT(ride), &all, 2);
+    display(&sums, factor, 0);
+    printf("the ride, with more allowed for than can be\n");
+    sums = none;
+    gather_all(&sums, ride, COUNT(ride), &nothing, 1 << 20);
+    display(&sums, factor, 0);
 }
 
 /* Rides that do not tell */
 static void show_others(void)
 {
-    const struct ride level[] = {{{10, 0}, 10010}, {{12, 0}, 11980}};
-    const struct ride alike[] = {{{1, 3}, 1141}, {{0, 1}, 47}};
-    const struct ride first[] = {{{1, 0}, 1000}, {{1, 1}, 1047}};
-    const struct ride unlike[] = {{{10, 50}, 12350}, {{10, 50}, 17000}, {{12, 0}, 11980}};
-    const struct ride other_unit[] = {{{10, 50}, 1235000}, {{8, 200}, 1742000}, {{12, 0}, 1198000}};
-    const int64_t logged[ORDER] = {0, 1};
+    static const struct stretch level[] = {{2, 0, 1, 0, 60}, {1, 0, 3, 1, 78}, {3, 0, 1, 0, 84}, {1, 0, 0, 2, 60}, {0, 0, 4, 1, 66}};
+    static const struct stretch alike[] = {{1, 2, 0, 0, 96}, {2, 1, 0, 0, 84}, {0, 0, 3, 1, 54}, {0, 0, 8, 3, 100}};
+    static const struct stretch first[] = {{1, 0, 0, 0, 24}, {0, 1, 0, 0, 36}, {0, 0, 1, 0, 12}, {0, 0, 0, 1, 18}};
+    static const struct stretch unlike[] = {{2, 1, 1, 0, 20}, {2, 1, 1, 0, 96}};
+    static const int64_t logged[ORDER] = {0, 1, 0, 0};
     uint8_t factor[HB_TABLE_BYTES(ORDER)] = {0};
-    struct problem problem;
+    struct sums none = {{0}, {0}, {0}, {0}, {0}, 0}, sums = none;
 
     printf("level rides only\n");
-    pack_rides(&problem, level, COUNT(level), 1, 100, 20000);
-    display(&problem, factor, 0);
-    test_logged(&problem, logged);
-    printf("two rides that are too much alike\n");
-    pack_rides(&problem, alike, COUNT(alike), 0, 0, 20000);
-    display(&problem, factor, 0);
-    printf("the first two kilometres\n");
-    pack_rides(&problem, first, COUNT(first), 0, 0, 20000);
-    display(&problem, factor, 0);
+    gather_all(&sums, level, COUNT(level), &nothing, 2);
+    display(&sums, factor, 0);
+    test_logged(&sums, logged);
+    printf("stretches that are too much alike\n");
+    sums = none;
+    gather_all(&sums, alike, COUNT(alike), &nothing, 2);
+    display(&sums, factor, 0);
+    printf("the first four stretches\n");
+    sums = none;
+    gather_all(&sums, first, COUNT(first), &nothing, 2);
+    display(&sums, factor, 0);
     printf("rides that contradict each other\n");
-    pack_rides(&problem, unlike, COUNT(unlike), 1, 100, 30000);
-    display(&problem, factor, 0);
-    printf("a meter that counts in another unit\n");
-    pack_rides(&problem, other_unit, COUNT(other_unit), 1, 100, 30000);
-    display(&problem, factor, 0);
+    sums = none;
+    gather_all(&sums, ride, COUNT(ride), &nothing, 2);
+    gather_all(&sums, unlike, COUNT(unlike), &nothing, 2);
+    display(&sums, factor, 0);
 }
 
 int main(void)
 {
-    show_weeks();
+    show_rides();
+    show_wider();
     show_others();
     return 0;
 }

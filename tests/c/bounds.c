@@ -1,9 +1,9 @@
 /*
- * What docs/FIRMWARE.md says of bounds: how wide they may be, how many rides fit, and that halving loses no coefficients. The code under
+ * What docs/FIRMWARE.md says of bounds: how wide they may be, how many samples fit, and that halving loses no coefficients. The code under
  * test is that of examples/firmware.c. The last line printed is 'N passed, M failed'.
  *
- * With the three numbers of a ride (kilometres, metres climbed, energy) as arguments, it prints a row of the page's table instead, a figure
- * on each line: how many such rides fit in the entries, in the linear terms, in the limit, and in all of them.
+ * With the greatest factor and the draw of samples as arguments, in sixteenths, it prints a row of the page's table instead, a figure on each line: how
+ * many such samples fit in the entries, in the linear terms, in the running limit, and in all of them.
  */
 #define main firmware_main
 #include "../../examples/firmware.c"
@@ -38,6 +38,17 @@ static int64_t magnitude(int64_t number)
     return number < 0 ? -number : number;
 }
 
+/* A number of a buffer, and another one put there */
+static int64_t get(const uint8_t *buffer, int place)
+{
+    return hb_load_number(buffer + HB_NUMBER_BYTES * place);
+}
+
+static void put(uint8_t *buffer, int place, int64_t number)
+{
+    hb_store_number(buffer + HB_NUMBER_BYTES * place, number);
+}
+
 /* x'Mx + 2a'x */
 static int64_t value(const int64_t *matrix, const int64_t *linear, const int64_t *x)
 {
@@ -50,9 +61,6 @@ static int64_t value(const int64_t *matrix, const int64_t *linear, const int64_t
     return sum;
 }
 
-/* What the coefficients of a test are within, either way */
-static const int64_t greatest[ORDER] = {2500, 250};
-
 /* Whether halves are the numbers' own, rounded outward: the low one by at most 1/2 down, the high one by at most 1/2 up */
 static int rounded_outward(int64_t low, int64_t high, int64_t half_low, int64_t half_high)
 {
@@ -61,32 +69,35 @@ static int rounded_outward(int64_t low, int64_t high, int64_t half_low, int64_t 
 
 /*
  * Whether halved sums are right for those before: M/2 and a/2 are between the bounds for each M and a that were, by less than 1 more on
- * either side; an x that had x'Mx + 2a'x = limit less some rest is within the limit still; and the limit is greater by at most 1/2.
+ * either side; an x that had x'Mx + 2a'x = allowance + running limit less some rest is within their halves still; and both are greater by at most 1/2.
  */
 static int halved_well(void)
 {
     struct sums sums, before;
-    int64_t matrix[ORDER * ORDER], linear[ORDER], x[ORDER];
+    int64_t matrix[ORDER * ORDER], linear[ORDER], x[ORDER], limit, halved;
     int well = 1;
     for (int k = 0; k < ORDER * ORDER; k++) {
-        sums.low[k] = between(-(1 << 24), 1 << 24);
-        sums.high[k] = sums.low[k] + between(0, 1000);
-        matrix[k] = between(sums.low[k], sums.high[k]);
+        put(sums.low, k, between(-HB_ENTRY_RANGE, HB_ENTRY_RANGE - 1000));
+        put(sums.high, k, get(sums.low, k) + between(0, 1000));
+        matrix[k] = between(get(sums.low, k), get(sums.high, k));
     }
     for (int k = 0; k < ORDER; k++) {
-        sums.linear_low[k] = between(-((int64_t)1 << 40), (int64_t)1 << 40);
-        sums.linear_high[k] = sums.linear_low[k] + between(0, 1000);
-        linear[k] = between(sums.linear_low[k], sums.linear_high[k]);
-        x[k] = between(-greatest[k], greatest[k]);
+        put(sums.linear_low, k, between(-HB_LINEAR_RANGE, HB_LINEAR_RANGE - 1000));
+        put(sums.linear_high, k, get(sums.linear_low, k) + between(0, 1000));
+        linear[k] = between(get(sums.linear_low, k), get(sums.linear_high, k));
+        x[k] = between(-HB_CENTRE_RANGE, HB_CENTRE_RANGE);
     }
-    sums.limit = value(matrix, linear, x) + between(0, 1);
+    sums.allowance = between(0, HB_MAX_ALLOWANCE);
+    limit = value(matrix, linear, x) + between(0, 1);
+    put(sums.running_limit, 0, limit - sums.allowance);
     before = sums;
     halve(&sums);
     for (int k = 0; k < ORDER * ORDER; k++)
-        well = well && rounded_outward(before.low[k], before.high[k], sums.low[k], sums.high[k]);
+        well = well && rounded_outward(get(before.low, k), get(before.high, k), get(sums.low, k), get(sums.high, k));
     for (int k = 0; k < ORDER; k++)
-        well = well && rounded_outward(before.linear_low[k], before.linear_high[k], sums.linear_low[k], sums.linear_high[k]);
-    return well && value(matrix, linear, x) <= 2 * sums.limit && 2 * sums.limit <= before.limit + 1;
+        well = well && rounded_outward(get(before.linear_low, k), get(before.linear_high, k), get(sums.linear_low, k), get(sums.linear_high, k));
+    halved = get(sums.running_limit, 0) + sums.allowance;
+    return well && value(matrix, linear, x) <= 2 * halved && 2 * halved <= limit + 2;
 }
 
 static void test_halving(void)
@@ -97,49 +108,56 @@ static void test_halving(void)
     expect("sums that are halved well", well, 100000);
 }
 
-static int64_t boxed(const struct problem *problem, const int64_t *centre, int64_t *sides)
+static int64_t boxed(const struct sums *sums, int64_t limit, const int64_t *centre, int64_t *sides)
 {
     uint8_t middle[HB_VECTOR_BYTES(ORDER)], found[HB_SIDES_BYTES(ORDER)] = {0};
     int64_t answer;
-    store(middle, centre, ORDER);
-    answer = hb_box(ORDER, problem->low, sizeof problem->low, problem->high, sizeof problem->high, problem->linear_low,
-                    sizeof problem->linear_low, problem->linear_high, sizeof problem->linear_high, problem->limit, middle, sizeof middle,
-                    found, sizeof found);
-    load(sides, found, 2 * ORDER);
+    for (int k = 0; k < ORDER; k++)
+        put(middle, k, centre[k]);
+    answer = hb_box(ORDER, sums->low, sizeof sums->low, sums->high, sizeof sums->high, sums->linear_low, sizeof sums->linear_low,
+                    sums->linear_high, sizeof sums->linear_high, limit, middle, sizeof middle, found, sizeof found);
+    for (int k = 0; k < 2 * ORDER; k++)
+        sides[k] = get(found, k);
     return answer;
 }
 
 /*
- * A season of rides with coefficients x, each energy off by noise at most, and the true linear terms anywhere between their ends. Returns
- * how often its sums are halved, or -1 where there is no box or x is not in it.
+ * A stretch with random factors up to some size, in sixteenths, whose draw is off by up to noise quarters of a sixteenth: so its last digits may lie
+ * between sixteenths. Returns 0 where the draw is beyond the range.
  */
+static int draw_stretch(const int64_t *x, int64_t size, int64_t noise, hb_sample *sample)
+{
+    int64_t factors[ORDER], quarters = between(-noise, noise);
+    for (int k = 0; k < ORDER; k++) {
+        factors[k] = between(-size, size);
+        quarters += 4 * factors[k] * x[k];
+    }
+    sample->rolling = (float)factors[0] / 16;
+    sample->climb = (float)factors[1] / 16;
+    sample->air = (float)factors[2] / 16;
+    sample->start = (float)factors[3] / 16;
+    sample->draw = (float)quarters / 64;
+    return magnitude(quarters) <= 64 * HB_SAMPLE_RANGE;
+}
+
+/* A season of stretches with coefficients x. Returns how often its sums are halved, or -1 where there is no box or x is not in it. */
 static int boxed_season(void)
 {
-    const int64_t x[ORDER] = {between(300, 2400), between(10, 240)}, noise = between(1, 300);
-    const int64_t energy_slack = between(0, 50);
-    int64_t count = between(4, 6) << between(0, 9), centre[ORDER], sides[2 * ORDER];
-    struct sums sums = {{0}, {0}, {0}, {0}, 0}, copy;
-    struct problem problem;
+    const int64_t noise = between(0, 12), miss = (noise + 3) / 4, size = between(0, 1) ? between(2, 6) : between(30, 60);
+    int64_t x[ORDER], count = between(4, 6) << between(3, 11), centre[ORDER], sides[2 * ORDER], limit;
+    struct sums sums = {{0}, {0}, {0}, {0}, {0}, 0};
+    hb_sample sample;
     int halvings = 0;
-    for (int64_t k = 0; k < count; k++) {
-        struct ride ride = {{between(1, 40), between(0, 400)}, 0};
-        ride.energy = ride.factors[0] * x[0] + ride.factors[1] * x[1] + between(-noise, noise);
-        gather(&sums, &ride, 1, 1, energy_slack, noise * noise);
+    for (int k = 0; k < ORDER; k++)
+        x[k] = size > 6 ? between(-2, 2) : between(-20, 20);
+    while (count > 0) {
+        if (draw_stretch(x, size, noise, &sample)) {
+            halvings += gather(&sums, sample, miss);
+            count--;
+        }
     }
-    for (int k = 0; k < ORDER; k++) {
-        int64_t shift = between(0, energy_slack * count);
-        sums.linear_low[k] += shift;
-        sums.linear_high[k] += shift;
-    }
-    for (copy = sums; !fits(&copy); halvings++)
-        halve(&copy);
-    store(problem.low, copy.low, ORDER * ORDER);
-    store(problem.high, copy.high, ORDER * ORDER);
-    store(problem.linear_low, copy.linear_low, ORDER);
-    store(problem.linear_high, copy.linear_high, ORDER);
-    problem.limit = copy.limit;
-    solve_centre(&problem, centre);
-    if (boxed(&problem, centre, sides) != HB_BOX)
+    solve_centre(&sums, centre);
+    if (!read_limit(&sums, &limit) || boxed(&sums, limit, centre, sides) != HB_BOX)
         return -1;
     for (int k = 0; k < ORDER; k++)
         if (x[k] < sides[2 * k] || x[k] > sides[2 * k + 1])
@@ -153,46 +171,90 @@ static void test_seasons(void)
     for (int k = 0; k < 300; k++) {
         int halvings = boxed_season();
         boxes += halvings >= 0;
-        often += halvings >= 5;
+        often += halvings >= 3;
     }
     expect("seasons whose box holds their coefficients", boxes, 300);
-    expect("those of them that were halved five times or more", often, 30);
+    expect("those of them that were halved three times or more", often, 30);
 }
 
 /* Random bounds, narrow ones and wide ones: those of twice the middle are sum, and the widths of rows are w */
 struct bounds {
-    int64_t low[ORDER * ORDER], high[ORDER * ORDER], sum[ORDER * ORDER], w[ORDER];
+    struct sums sums;
+    int64_t sum[ORDER * ORDER], w[ORDER];
 };
 
 static void draw(struct bounds *bounds)
 {
-    int64_t width = between(0, 1) ? between(0, 40) : 0;
+    const int64_t width = between(0, 1) ? between(0, 12) : 0;
+    const struct sums none = {{0}, {0}, {0}, {0}, {0}, 0};
+    bounds->sums = none;
     for (int i = 0; i < ORDER; i++)
         for (int j = i; j < ORDER; j++) {
-            int64_t low = i == j ? between(1, 60) : between(-40, 40);
-            bounds->low[i * ORDER + j] = bounds->low[j * ORDER + i] = low;
-            bounds->high[i * ORDER + j] = bounds->high[j * ORDER + i] = low + between(0, width);
+            int64_t low = i == j ? between(5, 60) : between(-18, 18), high = low + between(0, width);
+            put(bounds->sums.low, i * ORDER + j, low);
+            put(bounds->sums.low, j * ORDER + i, low);
+            put(bounds->sums.high, i * ORDER + j, high);
+            put(bounds->sums.high, j * ORDER + i, high);
         }
     for (int i = 0; i < ORDER; i++) {
         bounds->w[i] = 0;
         for (int j = 0; j < ORDER; j++) {
-            bounds->sum[i * ORDER + j] = bounds->low[i * ORDER + j] + bounds->high[i * ORDER + j];
-            bounds->w[i] += bounds->high[i * ORDER + j] - bounds->low[i * ORDER + j];
+            int64_t low = get(bounds->sums.low, i * ORDER + j), high = get(bounds->sums.high, i * ORDER + j);
+            bounds->sum[i * ORDER + j] = low + high;
+            bounds->w[i] += high - low;
         }
     }
 }
 
+/* The determinant of a matrix, row by row, along its first row */
+static int64_t determinant(const int64_t *matrix, int count)
+{
+    int64_t sum = 0, rest[ORDER * ORDER];
+    if (count == 0)
+        return 1;
+    for (int taken = 0; taken < count; taken++) {
+        int place = 0;
+        for (int i = 1; i < count; i++)
+            for (int j = 0; j < count; j++)
+                if (j != taken)
+                    rest[place++] = matrix[i * count + j];
+        sum += (taken % 2 ? -1 : 1) * matrix[taken] * determinant(rest, count - 1);
+    }
+    return sum;
+}
+
+/* The principal minor of the rows and columns whose bits are set */
+static int64_t principal_minor(const int64_t *matrix, int bits)
+{
+    int64_t part[ORDER * ORDER];
+    int place = 0, count = 0;
+    for (int i = 0; i < ORDER; i++) {
+        count += bits >> i & 1;
+        for (int j = 0; j < ORDER; j++)
+            if (bits >> i & bits >> j & 1)
+                part[place++] = matrix[i * ORDER + j];
+    }
+    return determinant(part, count);
+}
+
 /*
- * The sign of twice the middle less w(i) + off on the diagonal, for order 2: 1 where it is positive definite, 0 where it is positive
- * semidefinite only, and -1 elsewhere
+ * The sign of twice the middle less w(i) + off on the diagonal: 1 where it is positive definite, so all leading minors are positive, 0 where it is positive
+ * semidefinite only, so no principal minor is negative, and -1 elsewhere
  */
 static int sign(const struct bounds *bounds, int64_t off)
 {
-    int64_t first = bounds->sum[0] - bounds->w[0] - off, last = bounds->sum[3] - bounds->w[1] - off;
-    int64_t determinant = first * last - bounds->sum[1] * bounds->sum[2];
-    if (first > 0 && determinant > 0)
+    int64_t matrix[ORDER * ORDER];
+    int definite = 1, semidefinite = 1;
+    for (int i = 0; i < ORDER; i++)
+        for (int j = 0; j < ORDER; j++)
+            matrix[i * ORDER + j] = bounds->sum[i * ORDER + j] - (i == j ? bounds->w[i] + off : 0);
+    for (int count = 1; count <= ORDER; count++)
+        definite = definite && principal_minor(matrix, (1 << count) - 1) > 0;
+    if (definite)
         return 1;
-    return first >= 0 && last >= 0 && determinant >= 0 ? 0 : -1;
+    for (int bits = 1; bits < 1 << ORDER; bits++)
+        semidefinite = semidefinite && principal_minor(matrix, bits) >= 0;
+    return semidefinite ? 0 : -1;
 }
 
 /*
@@ -203,21 +265,16 @@ static void test_width(void)
 {
     const int64_t zeros[ORDER] = {0};
     int64_t below[2] = {0}, above[2] = {0}, otherwise = 0;
-    for (int k = 0; k < 200000; k++) {
+    for (int k = 0; k < 60000; k++) {
         struct bounds bounds;
-        struct problem problem;
+        const struct sums *sums = &bounds.sums;
         uint8_t factor[HB_TABLE_BYTES(ORDER)], vector[HB_VECTOR_BYTES(ORDER)];
         int64_t sides[2 * ORDER];
         int shown[2];
         draw(&bounds);
-        store(problem.low, bounds.low, ORDER * ORDER);
-        store(problem.high, bounds.high, ORDER * ORDER);
-        store(problem.linear_low, zeros, ORDER);
-        store(problem.linear_high, zeros, ORDER);
-        problem.limit = 0;
-        shown[0] = hb_judge(ORDER, problem.low, sizeof problem.low, problem.high, sizeof problem.high, factor, sizeof factor, vector,
-                            sizeof vector) == HB_DEFINITE;
-        shown[1] = boxed(&problem, zeros, sides) != HB_REFUSED_FLAT;
+        shown[0] = hb_judge(ORDER, sums->low, sizeof sums->low, sums->high, sizeof sums->high, factor, sizeof factor, vector, sizeof vector) ==
+                   HB_DEFINITE;
+        shown[1] = boxed(sums, 0, zeros, sides) != HB_REFUSED_FLAT;
         for (int box = 0; box < 2; box++) {
             if (sign(&bounds, 2 * box) < 1) {
                 below[box]++;
@@ -243,32 +300,33 @@ static void test_far(void)
 {
     int64_t far = 0, near = 0, otherwise = 0;
     for (int k = 0; k < 100000; k++) {
-        const int64_t size = between(0, 2000), low[ORDER * ORDER] = {between(5000, 9000), 100, 100, between(5000, 9000)};
-        int64_t high[ORDER * ORDER], linear_low[ORDER], linear_high[ORDER], centre[ORDER], sides[2 * ORDER], greatest_twice = 0, answer;
-        struct problem problem;
+        const int64_t size = between(0, 1000);
+        int64_t low[ORDER * ORDER], high[ORDER * ORDER], centre[ORDER], sides[2 * ORDER], greatest_twice = 0, answer;
+        struct sums sums;
         for (int i = 0; i < ORDER; i++) {
-            centre[i] = between(-HB_CENTRE_RANGE, HB_CENTRE_RANGE);
-            for (int j = 0; j < ORDER; j++)
+            centre[i] = between(-HB_CENTRE_RANGE, HB_CENTRE_RANGE) / 2;
+            for (int j = 0; j < ORDER; j++) {
+                low[i * ORDER + j] = i == j ? between(5000, 9000) : 100;
                 high[i * ORDER + j] = low[i * ORDER + j] + (i == j ? between(0, size) : size);
+                put(sums.low, i * ORDER + j, low[i * ORDER + j]);
+                put(sums.high, i * ORDER + j, high[i * ORDER + j]);
+            }
         }
         for (int i = 0; i < ORDER; i++) {
-            int64_t twice = 0, width = 0;
+            int64_t twice = 0, width = 0, linear_low, linear_high;
             for (int j = 0; j < ORDER; j++) {
                 twice += (low[i * ORDER + j] + high[i * ORDER + j]) * centre[j];
                 width += (high[i * ORDER + j] - low[i * ORDER + j]) * magnitude(centre[j]);
             }
-            linear_low[i] = -twice / 2 + between(-1000, 1000);
-            linear_high[i] = linear_low[i] + between(0, size) * between(0, 1000);
-            width += linear_high[i] - linear_low[i];
-            twice = magnitude(twice + linear_low[i] + linear_high[i]) + width;
+            linear_low = -twice / 2 + between(-1000, 1000);
+            linear_high = linear_low + between(0, size) * between(0, 1000);
+            put(sums.linear_low, i, linear_low);
+            put(sums.linear_high, i, linear_high);
+            width += linear_high - linear_low;
+            twice = magnitude(twice + linear_low + linear_high) + width;
             greatest_twice = twice > greatest_twice ? twice : greatest_twice;
         }
-        store(problem.low, low, ORDER * ORDER);
-        store(problem.high, high, ORDER * ORDER);
-        store(problem.linear_low, linear_low, ORDER);
-        store(problem.linear_high, linear_high, ORDER);
-        problem.limit = 0;
-        answer = boxed(&problem, centre, sides);
+        answer = boxed(&sums, 0, centre, sides);
         far += answer == HB_REFUSED_FAR;
         near += answer == HB_BOX || answer == HB_EMPTY;
         otherwise += (answer == HB_REFUSED_FAR) != (greatest_twice > (int64_t)1 << 21);
@@ -278,38 +336,36 @@ static void test_far(void)
     expect("none that is otherwise", -otherwise, 0);
 }
 
-/* How many rides fit, by the ranges: in the entries, the linear terms, the limit, and all of them */
-static void count_rides(const struct ride *ride, int64_t *counts)
+/* How many samples fit, by the ranges: in the entries, the linear terms, the running limit, and all of them. Both numbers are in sixteenths. */
+static void count_samples(int64_t factor, int64_t draw, int64_t *counts)
 {
-    int64_t most = ride->factors[0] > ride->factors[1] ? ride->factors[0] : ride->factors[1];
-    counts[0] = HB_ENTRY_RANGE / (most * most);
-    counts[1] = HB_LINEAR_RANGE / (most * ride->energy);
-    counts[2] = HB_LIMIT_RANGE / (ride->energy * ride->energy);
+    counts[0] = HB_ENTRY_RANGE / (factor * factor);
+    counts[1] = HB_LINEAR_RANGE / (factor * draw);
+    counts[2] = HB_LIMIT_RANGE / (draw * draw);
     counts[3] = counts[0] < counts[1] ? counts[0] : counts[1];
     counts[3] = counts[3] < counts[2] ? counts[3] : counts[2];
 }
 
-static void test_rides(void)
+static void test_samples(void)
 {
-    const struct ride rides[] = {{{10, 100}, 15000}, {{10, 10}, 15000}, {{10, 1}, 1310720}, {{1, 1}, 2000000000}};
-    for (size_t k = 0; k < COUNT(rides); k++) {
-        struct sums sums = {{0}, {0}, {0}, {0}, 0};
-        int64_t counts[4];
-        count_rides(&rides[k], counts);
-        for (int64_t ride = 0; ride < counts[3]; ride++)
-            gather(&sums, &rides[k], 1, 0, 0, 0);
-        expect("as many rides as are said fit", fits(&sums), 1);
-        gather(&sums, &rides[k], 1, 0, 0, 0);
-        expect("one more does not", !fits(&sums), 1);
+    static const int64_t samples[][2] = {{128, 128}, {16, 128}, {4, 128}, {100, 1}, {7, 96}};
+    for (size_t k = 0; k < COUNT(samples); k++) {
+        const hb_sample sample = {(float)samples[k][0] / 16, 0.0625f, 0, 0, (float)samples[k][1] / 16};
+        struct sums sums = {{0}, {0}, {0}, {0}, {0}, 0};
+        int64_t counts[4], halvings = 0;
+        count_samples(samples[k][0], samples[k][1], counts);
+        for (int64_t taken = 0; taken < counts[3]; taken++)
+            halvings += gather(&sums, sample, 0);
+        expect("as many samples as are said fit", -halvings, 0);
+        expect("one more does not, and has room after one halving", gather(&sums, sample, 0) == 1, 1);
     }
 }
 
 int main(int count, char **arguments)
 {
-    if (count == 4) {
-        const struct ride ride = {{atoll(arguments[1]), atoll(arguments[2])}, atoll(arguments[3])};
+    if (count == 3) {
         int64_t counts[4];
-        count_rides(&ride, counts);
+        count_samples(atoll(arguments[1]), atoll(arguments[2]), counts);
         for (int k = 0; k < 4; k++)
             printf("%" PRId64 "\n", counts[k]);
         return 0;
@@ -318,7 +374,7 @@ int main(int count, char **arguments)
     test_seasons();
     test_width();
     test_far();
-    test_rides();
+    test_samples();
     printf("%d passed, %d failed\n", passed, failed);
     return failed != 0;
 }
