@@ -1,5 +1,5 @@
-// The library from Rattle: the four acts on small problems, a summary file and its fields, and a function whose own contract rests on the
-// judge's. What is printed is held to the file stdout.
+// The library from Rattle: the acts on small problems, a sample gathered into running sums and these read, a summary file and its fields,
+// and a function whose own contract rests on the judge's. What is printed is held to the file stdout.
 ghost use mathlib.Core.Path.{_≡_};
 ghost use mathlib.Core.Bool.{true};
 ghost use Prim.Native.Nat.{_≤_};
@@ -7,6 +7,8 @@ ghost use lib.ListN.{length};
 ghost use Rattle.tables.specs.Matrix.{at};
 ghost use Rattle.tables.specs.Members.{PositiveDefinite};
 use libc::STDOUT_FILENO;
+use rides::reading::Reading as SumsReading;
+use rides::sample::Sample;
 use summary::problem::Reading;
 use tables::Checked;
 use verdict::judge::Verdict;
@@ -106,6 +108,46 @@ fn boxed() {
     print_two(b"sides", &sides);
 }
 
+// A sample gathered into sums of zeros, and these read with an allowance of 2000; and a sample with a draw beyond 8, which is refused by 17
+// with every sum kept.
+fn gathered() {
+    let mut low = [0i64; 16];
+    let mut high = [0i64; 16];
+    let mut from = [0i64; 4];
+    let mut to = [0i64; 4];
+    let mut limit = [0i64; 1];
+    let sample = Sample {
+        rolling: 1.0,
+        climb: 0.03125,
+        air: -0.03125,
+        start: 0.0,
+        draw: 2.0,
+    };
+    let taken = rides::gather::gather(
+        sample, 4, &mut low, &mut high, &mut from, &mut to, &mut limit,
+    );
+    print_number(b"gather", rides::gather::gathered_code(taken));
+    let beyond = Sample {
+        rolling: 1.0,
+        climb: 0.03125,
+        air: -0.03125,
+        start: 0.0,
+        draw: 8.5,
+    };
+    let refused = rides::gather::gather(
+        beyond, 4, &mut low, &mut high, &mut from, &mut to, &mut limit,
+    );
+    print_number(b"gather", rides::gather::gathered_code(refused));
+    print_four(b"from", &from);
+    print_four(b"to", &to);
+    print_number(b"running", limit[0]);
+    let reading = rides::reading::read_sums(4, &low, &high, &from, &to, limit[0], 2000);
+    match reading {
+        SumsReading::Limit(alpha) => print_number(b"read_sums", alpha),
+        SumsReading::Refused(r) => print_number(b"refused", tables::refusal_number(r) as i64),
+    }
+}
+
 // Whether the judge calls two bounds of order 2 definite. Where it does, every symmetric matrix between them is positive definite: the
 // contract says so, and is proved from the judge's in a line.
 fn surely_definite(low: [i64; 4], high: [i64; 4]) -> bool
@@ -179,6 +221,7 @@ fn main() {
     not_definite();
     refused();
     boxed();
+    gathered();
     promised();
     read_summary();
     read_fields();

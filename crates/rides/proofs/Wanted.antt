@@ -88,7 +88,7 @@ module _ (s : Sample) (n : ℤ) (sized : Bool) (c : Constraint) where
       go false = g Refused.Sample
 
 -- ---- no sample: the sums of zeros explain 0 at every point
-none-explained : (v : ℤ) (X : ℕ → ℤ) (p : ℤ) → Explained noSums (pos 0) v X p
+pub none-explained : (v : ℤ) (X : ℕ → ℤ) (p : ℤ) → Explained noSums (pos 0) v X p
 unfolding noSums form
 none-explained v X p =
     record {

@@ -1,4 +1,4 @@
--- R22 of docs/RULES.md: which points the running sums explain, by how much.
+-- R23.3 of docs/RULES.md: which points the running sums explain, by how much.
 use Prim.Native.Nat.{ℕ}
 use lib.IntN.{ℤ, pos, _+ℤ_, _-ℤ_, _*ℤ_}
 use lib.Signed.{_≤ℤ_}
