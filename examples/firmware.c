@@ -23,6 +23,25 @@ struct sums {
 static void log_refusal(const char *function, int64_t number);
 static void halve(struct sums *sums);
 
+/* The most that one sample may be missed by, in sixteenths of the draw: its square is HB_MAX_ALLOWANCE. */
+#define MOST_MISS 1048576
+
+/* Whether hb_read_sums takes the allowance. One that it does not take, a damaged one too, stays as it is: it is refused until the unit gathers anew. */
+static int allowance_is_good(const struct sums *sums)
+{
+    return sums->allowance >= 0 && sums->allowance <= HB_MAX_ALLOWANCE;
+}
+
+static void allow_for(struct sums *sums, int64_t miss)
+{
+    if (!allowance_is_good(sums))
+        return;
+    if (miss < -MOST_MISS || miss > MOST_MISS)
+        sums->allowance = HB_MAX_ALLOWANCE + 1;
+    else
+        sums->allowance += miss * miss;
+}
+
 /*
  * Adds a sample, which the right coefficients miss by at most miss sixteenths of the draw: its square is allowed for where the sample is taken. Where the
  * sums are full they are halved, which makes room; returns how often. A sample that is refused for itself is dropped, and the sums are as they were.
@@ -35,7 +54,7 @@ static int gather(struct sums *sums, hb_sample sample, int64_t miss)
                                    sizeof sums->running_limit);
         switch (answer) {
         case HB_TAKEN:
-            sums->allowance += miss * miss;
+            allow_for(sums, miss);
             return halvings;
         case HB_REFUSED_FULL:
             halve(sums);
@@ -76,7 +95,8 @@ static void halve(struct sums *sums)
     halve_down(sums->linear_low, ORDER);
     halve_up(sums->linear_high, ORDER);
     halve_up(sums->running_limit, 1);
-    sums->allowance = (sums->allowance + (sums->allowance & 1)) / 2;
+    if (allowance_is_good(sums))
+        sums->allowance = (sums->allowance + (sums->allowance & 1)) / 2;
 }
 
 /* part: read */
@@ -203,7 +223,7 @@ static void test_logged(const struct sums *sums, const int64_t *witness)
 }
 
 /* part: centre */
-/* The middle of two numbers of the sums */
+/* The middle of two numbers of the sums, which hb_read_sums has let through: so the two can be added */
 static double middle_of(const uint8_t *low, const uint8_t *high, int place)
 {
     return (double)(hb_load_number(low + HB_NUMBER_BYTES * place) + hb_load_number(high + HB_NUMBER_BYTES * place)) / 2;
@@ -239,13 +259,11 @@ static void solve_centre(const struct sums *sums, int64_t *centre)
 }
 
 /* part: box */
-/* Boxes the ellipsoid of the sums from a centre. Returns 1, with the sides written, where a box is given. */
-static int box(const struct sums *sums, const int64_t *centre, int64_t *sides)
+/* Boxes the ellipsoid of the sums and their limit from a centre. Returns 1, with the sides written, where a box is given. */
+static int box(const struct sums *sums, int64_t limit, const int64_t *centre, int64_t *sides)
 {
     uint8_t middle[HB_VECTOR_BYTES(ORDER)], found[HB_SIDES_BYTES(ORDER)];
-    int64_t limit, answer;
-    if (!read_limit(sums, &limit))
-        return 0;
+    int64_t answer;
     for (int k = 0; k < ORDER; k++)
         hb_store_number(middle + HB_NUMBER_BYTES * k, centre[k]);
     answer = hb_box(ORDER, sums->low, sizeof sums->low, sums->high, sizeof sums->high, sums->linear_low, sizeof sums->linear_low,
@@ -294,21 +312,21 @@ static void show_kilometres(const int64_t *sides)
 
 /* part: display */
 /*
- * The display's work: test the factor that was filed with the sums, or judge them and have a factor to file; then read them and box from the
- * centre. filed is 1 where there is a filed factor.
+ * The display's work: test the factor that was filed with the sums, or judge them and have a factor to file; then read them, which checks all of them
+ * before anything is worked out from them, and box from the centre. filed is 1 where there is a filed factor.
  */
 static void display(const struct sums *sums, uint8_t *factor, int filed)
 {
-    int64_t centre[ORDER], sides[2 * ORDER];
+    int64_t limit, centre[ORDER], sides[2 * ORDER];
     int definite = filed && test_filed(sums, factor);
     if (!definite)
         definite = judge(sums, factor);
-    if (!definite) {
+    if (!definite || !read_limit(sums, &limit)) {
         show_table();
         return;
     }
     solve_centre(sums, centre);
-    if (box(sums, centre, sides))
+    if (box(sums, limit, centre, sides))
         show_kilometres(sides);
     else
         show_table();

@@ -26,7 +26,7 @@
  * - Every call returns, with one of the numbers that the function's comment lists. Any contents, any lengths and any n are answered: what is wrong with
  *   them is named by a refusal.
  * - Lengths are in bytes. A pointer must point to as many readable bytes as its length says, and writable ones where it is not const. It may be null
- *   where the length is 0: that is an empty buffer, and is refused by HB_REFUSED_LENGTH if n is good.
+ *   where the length is 0: that is an empty buffer, and is refused by HB_REFUSED_LENGTH if n is good and no earlier check fails.
  * - Pointers need no alignment.
  * - The buffers of one call must not overlap: nothing is promised where they do. There are two exceptions, both of buffers that are only
  *   read, so const: low and high may be the same table, and linear_low and linear_high the same buffer. hb_gather writes all of them, and has
@@ -43,7 +43,8 @@
  * - The compiler uses vector registers (on x86-64 the xmm registers) for copies and whole numbers too, as it may in any C code: an interrupt handler
  *   that calls a function has to save them.
  *
- * What these comments say of answers and buffers is proved of the library's source. The stack is measured and not proved.
+ * What these comments say of answers and buffers is proved of the library's source. The stack is measured and not proved. The two inline functions are
+ * plain C: tested, not proved.
  */
 #ifndef HANKBOULDER_H
 #define HANKBOULDER_H
@@ -94,7 +95,7 @@ extern "C" {
  * The stack that a call needs, in bytes, at any order, its arguments and return address included. Measured and not proved: bench/stack painted the stack
  * below 2000 calls of each function at each order, and what was overwritten is rounded up here by a third or more (docs/FIRMWARE.md has the figures).
  * That is the archive which rattle-kit-5b compiles with LLVM 22 for x86-64, with memcpy and memset of glibc 2.36: with any other compiler or processor,
- * measure again. What an interrupt puts on the same stack comes on top.
+ * measure again. hb_gather takes order 4 alone, so its depth is that of its calls of order 4. What an interrupt puts on the same stack comes on top.
  */
 #define HB_JUDGE_STACK 8192
 #define HB_TEST_FACTOR_STACK 4096
@@ -127,8 +128,8 @@ enum {
     HB_WRITTEN = 0,
 
     HB_REFUSED_ORDER = 1,     /* "order": n is not 1 to 8 */
-    HB_REFUSED_LENGTH = 2,    /* "length": a buffer has not exactly the size that n calls for */
-    HB_REFUSED_RANGE = 3,     /* "range": an entry of low or high, a linear term, a limit, a centre entry or an allowance is beyond its range */
+    HB_REFUSED_LENGTH = 2,    /* "length": a buffer has not exactly the size that n calls for or, in hb_gather, n is another order than 4 */
+    HB_REFUSED_RANGE = 3,     /* "range": an entry of low or high, a linear term, a limit, running limit, centre entry or allowance is beyond its range */
     HB_REFUSED_CROSSED = 4,   /* "crossed": an entry of low is above its entry of high */
     HB_REFUSED_LOPSIDED = 5,  /* "lopsided": low or high is not symmetric */
     HB_REFUSED_FACTOR = 6,    /* "factor": not upper triangular, a diagonal entry below 1 or above 2^26, or any other beyond +-2^26 */
@@ -402,7 +403,7 @@ int64_t hb_gather(hb_sample sample, int64_t n, uint8_t *low, size_t low_len, uin
  *                            term of linear_high
  *   running_limit            their running limit, a number within +-2^54, as a number: hb_load_number reads it from the bytes that hb_gather keeps it in
  *   allowance                K, from 0 to 2^40: what the squares of 16 times the misses may add up to, over all samples that were taken (see hb_gather).
- *                            If each is missed by at most m, K = 256 * m * m * count suffices
+ *                            If each of count samples is missed by at most m, in the draw's unit, K = 256 * m * m * count, rounded up, suffices
  *   limit                    HB_NUMBER_BYTES = 8 bytes, written where the answer is HB_WRITTEN and kept as they were where it is any other
  *   low_len, high_len,       the lengths of the five buffers, in bytes
  *   linear_low_len,
