@@ -1,6 +1,7 @@
 /*
- * Gathers floats of every exponent in each rounding mode of the processor: the sums are the same, and the flags that a product which loses something would
- * raise are not. The last line printed is 'N passed, M failed'.
+ * Gathers floats of every exponent in each rounding mode of the processor. The answer and all sums are compared with those of rounding to nearest, and the
+ * flags that a product which loses something would raise have to be clear. In every mode the ends of factor and draw are compared with the whole numbers next
+ * below and above 16 times the float, which a double holds exactly. The last line printed is 'N passed, M failed'.
  */
 #include "hankboulder.h"
 
@@ -43,11 +44,22 @@ static int64_t gather(uint32_t bits, int mode, struct sums *sums)
     return answer;
 }
 
+/* Whether the ends of a float that was taken, as the first factor and as the draw, stand in the sums. The second factor is 1 in them. */
+static int bracketed(uint32_t bits, const struct sums *sums)
+{
+    float number;
+    memcpy(&number, &bits, sizeof bits);
+    double product = 16.0 * (double)number;
+    int64_t toward_zero = (int64_t)product;
+    int64_t below = toward_zero - ((double)toward_zero > product), above = toward_zero + ((double)toward_zero < product);
+    return sums->low[1] == below && sums->high[1] == above && sums->linear_low[1] == -above && sums->linear_high[1] == -below;
+}
+
 int main(void)
 {
     static const int modes[] = {FE_TONEAREST, FE_DOWNWARD, FE_UPWARD, FE_TOWARDZERO};
     uint32_t state = 1;
-    long taken = 0, differing = 0, raised = 0;
+    long taken = 0, differing = 0, raised = 0, elsewhere = 0;
     for (uint32_t head = 0; head < 512; head++) {
         for (int k = 0; k < DRAWN; k++) {
             struct sums nearest, other;
@@ -58,6 +70,7 @@ int main(void)
             for (size_t m = 0; m < sizeof modes / sizeof modes[0]; m++) {
                 differing += gather(head << 23 | digits, modes[m], &other) != answer || memcmp(&nearest, &other, sizeof other) != 0;
                 raised += fetestexcept(FE_INEXACT | FE_OVERFLOW | FE_UNDERFLOW) != 0;
+                elsewhere += answer == HB_TAKEN && !bracketed(head << 23 | digits, &other);
             }
         }
     }
@@ -65,6 +78,7 @@ int main(void)
     expect("half of the floats are taken", taken > 200 * DRAWN && taken < 300 * DRAWN);
     expect("the sums are the same in each mode", differing == 0);
     expect("no product loses anything", raised == 0);
+    expect("the ends are the whole numbers next to 16 times the float", elsewhere == 0);
     printf("%d passed, %d failed\n", passed, failed);
     return failed != 0;
 }

@@ -367,6 +367,36 @@ fn chains_of_samples_reach_18() {
     }
 }
 
+/// Fails where reading sums of 0, with these ends of linear term k, is answered
+/// otherwise by the library or the reference.
+fn expect_read(order: usize, k: usize, least: i64, most: i64, answer: i64) {
+    let mut call = on_zeros(order, Sample::default());
+    call.buffers[RUNNING_LIMIT].fill(0x5A);
+    call.numbers = vec![-7, 1000];
+    set(&mut call, LINEAR_LOW, k, least);
+    set(&mut call, LINEAR_HIGH, k, most);
+    if answer != WRITTEN {
+        READ_SUMS.expect(&call, answer);
+    }
+    assert_eq!(READ_SUMS.agree(&call, k).answer, answer);
+}
+
+#[test]
+fn reading_refuses_3_and_16_of_every_linear_end_at_every_order() {
+    for (order, k) in (1..=8).flat_map(|order| (0..order).map(move |k| (order, k))) {
+        for number in beyond(LINEAR_RANGE) {
+            expect_read(order, k, number, LINEAR_RANGE, REFUSED_RANGE);
+            expect_read(order, k, -LINEAR_RANGE, number, REFUSED_RANGE);
+        }
+        for (least, most) in [(1, 0), (0, -1), (LINEAR_RANGE, -LINEAR_RANGE)] {
+            expect_read(order, k, least, most, REFUSED_REVERSED);
+        }
+        for (least, most) in [(-LINEAR_RANGE, LINEAR_RANGE), (1, 1), (-1, 0)] {
+            expect_read(order, k, least, most, WRITTEN);
+        }
+    }
+}
+
 /// Reading, with a running limit and an allowance.
 fn read(running_limit: i64, allowance: i64) -> Result<i64, i64> {
     let zeros = on_zeros(ORDER, Sample::default()).buffers;
