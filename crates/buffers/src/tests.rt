@@ -39,7 +39,7 @@ pub fn test_factor(n: i64, low: &[u8], high: &[u8], factor: &[u8]) -> Answer
     }
     let mut f = [0i64; TABLE_ROOM];
     words::load_numbers(factor, &mut f, m * m, SIZE);
-    residual::factor_test::answer(m, &l, &u, &f)
+    residual::factor_test::answer(m, &mut l, &mut u, &f)
 }
 
 // The vector test of the numbers that the buffers spell.

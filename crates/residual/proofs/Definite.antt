@@ -21,7 +21,7 @@ use Rattle.tables.proofs.Forms.{form-+, form-*, gram-symmetric, image, imageNor
 use Rattle.tables.proofs.Dominance.{Dominant, dominant-nonneg}
 use Rattle.tables.proofs.Triangular.{UpperTriangular}
 use Rattle.cholesky.specs.Scale.{scale}
-use Rattle.residual.specs.Residual.{residual, radius, rowPasses, accepts}
+use Rattle.residual.specs.Residual.{residual, radius, rowPasses, rowsPass, accepts}
 
 pub upper-prefix : {m n : ℕ} {R : Matrix} → m ≤ n → UpperTriangular n R → UpperTriangular m R
 upper-prefix h up = record { below = λ i j k l. up .below i j k (omega arith); diagonal = λ j k. up .diagonal j (omega arith) }
@@ -76,9 +76,12 @@ norm-positive (suc n) R up x z =
 
 -- ---- a member N over q: the residual F = 2^32 N - q P is dominated by its diagonal
 module _ (n : ℕ) (R L U : Matrix) (t : T (accepts n R L U)) where
-  row-passes : (i : ℕ) → i < n → sumExcept n i (radius n R L U i) ≤ℤ residual n R L i i
-  unfolding accepts rowPasses
-  row-passes i h = le-of _ _ (all-at (rowPasses n R L U) n (true-of (accepts n R L U) t) i h)
+  abbrev radii : Matrix
+  radii = radius (residual n R L) (residual n R U)
+
+  row-passes : (i : ℕ) → i < n → sumExcept n i (radii i) ≤ℤ residual n R L i i
+  unfolding accepts rowsPass rowPasses
+  row-passes i h = le-of _ _ (all-at (rowPasses n (residual n R L) (residual n R U)) n (true-of (accepts n R L U) t) i h)
 
   module _ (N : Matrix) (q : ℤ) (m : Member n L U N q) where
     F : Matrix
@@ -88,28 +91,28 @@ module _ (n : ℕ) (R L U : Matrix) (t : T (accepts n R L U)) where
     q-nonneg = ≤ℤ-trans (pos-nonneg 1) (m .whole)
 
     -- |F(i,j)| is at most q times the greater of |2^32 L(i,j) - P(i,j)| and |2^32 U(i,j) - P(i,j)|
-    F-radius : (i j : ℕ) → i < n → j < n → absℤ (F i j) ≤ℤ (q *ℤ radius n R L U i j)
+    F-radius : (i j : ℕ) → i < n → j < n → absℤ (F i j) ≤ℤ (q *ℤ radii i j)
     unfolding F residual radius
     F-radius i j h k =
         let low = absℤ (residual n R L i j) in
         let high = absℤ (residual n R U i j) in
         abs-≤
-        (order (N i j ∷ q ∷ gram n R i j ∷ U i j ∷ radius n R L U i j ∷ [])
+        (order (N i j ∷ q ∷ gram n R i j ∷ U i j ∷ radii i j ∷ [])
         (m .high i j h k & *ℤ-mono q-nonneg (≤ℤ-trans (≤-abs (residual n R U i j)) (≤-maxʳ low high)))
         (search solver depth 40 fits 20000) (omega arith))
-        (order (N i j ∷ q ∷ gram n R i j ∷ L i j ∷ radius n R L U i j ∷ [])
+        (order (N i j ∷ q ∷ gram n R i j ∷ L i j ∷ radii i j ∷ [])
         (m .low i j h k & *ℤ-mono q-nonneg (≤ℤ-trans (neg-≤-abs (residual n R L i j)) (≤-maxˡ low high)))
         (search solver depth 40 fits 20000) (omega arith))
 
-    F-row : (i : ℕ) → i < n → sumExcept n i (λ j. absℤ (F i j)) ≤ℤ (q *ℤ sumExcept n i (radius n R L U i))
-    F-row i h = rw (← sumExcept-* n i q (radius n R L U i)) (sumExcept-mono n i _ _ (λ j k e. F-radius i j h k))
+    F-row : (i : ℕ) → i < n → sumExcept n i (λ j. absℤ (F i j)) ≤ℤ (q *ℤ sumExcept n i (radii i))
+    F-row i h = rw (← sumExcept-* n i q (radii i)) (sumExcept-mono n i _ _ (λ j k e. F-radius i j h k))
 
     F-dominant : Dominant n F
     unfolding F residual
     F-dominant = record {
       symmetric = λ i j h k. ap₂ (λ (u v : ℤ). scale *ℤ u +ℤ negℤ q *ℤ v) (m .symmetric i j h k) (gram-symmetric n R i j);
       dominates = λ i h.
-          order (sumExcept n i (λ j. absℤ (F i j)) ∷ q ∷ sumExcept n i (radius n R L U i) ∷ N i i ∷ L i i ∷ gram n R i i ∷ [])
+          order (sumExcept n i (λ j. absℤ (F i j)) ∷ q ∷ sumExcept n i (radii i) ∷ N i i ∷ L i i ∷ gram n R i i ∷ [])
           (F-row i h & *ℤ-mono q-nonneg (row-passes i h) & m .low i i h h) (search solver depth 40 fits 20000) (omega arith);
     }
 

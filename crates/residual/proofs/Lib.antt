@@ -1,6 +1,9 @@
 pub mod Definite
 pub mod Meaning
-pub mod Slack
+pub mod Sizes
+pub mod Turned
 pub mod Rows
+pub mod Worked
+pub mod InOrder
 pub mod OfferedFactor
 pub mod Offers

@@ -1,103 +1,86 @@
--- What the rows have over, and the residual test.
-use mathlib.Core.Path.{_≡_, sym, ap, _∙_}
-use mathlib.Core.Logic.{by-cases}
+-- Laws of the row test: the radius as the code works it out, and what a row has over.
+use mathlib.Core.Path.{_≡_, ap, ap₂}
 use mathlib.Core.List.{List, [], _∷_}
-use Prim.Native.Nat.{ℕ, suc, _≤_, _<_}
+use Prim.Native.Nat.{ℕ, suc, _<_}
 use native.Mathlib.Omega.{arith}
-use native.Mathlib.Decide.{decLt, ℕ-discrete}
-use lib.IntN.{ℤ, pos, _+ℤ_, _-ℤ_, _*ℤ_, *ℤ-comm, zero-*ℤ}
-use lib.Signed.{leZ}
-use lib.ListN.{length}
-use Rattle.integers.specs.Sum.{sum, sumExcept}
-use Rattle.integers.proofs.Parts.{leZ-true}
+use lib.IntN.{ℤ, pos, negℤ, _+ℤ_, _-ℤ_}
+use lib.Signed.{_≤ℤ_, _<ℤ_, ≤ℤ-refl, leZ}
+use mir.Syntax.{w64}
+use mir.Val.{SFits}
+use Rattle.integers.specs.Numbers.{Within, absℤ, maxℤ}
+use Rattle.integers.specs.Sum.{sum, except, sumExcept}
+use Rattle.integers.proofs.Parts.{≤ℤ-trans, ≤ℤ-antisym, leZ-true, leZ-false}
 use Rattle.integers.proofs.Solver.{_&_, order, solver}
-use Rattle.integers.proofs.Sums.{sum-suc, sum-ext, sum-prefix, except-same, except-other}
-use Rattle.integers.proofs.Machine.{within-more, within--, within-sum}
-use Rattle.tables.specs.Ranges.{greatestOrder}
-use Rattle.tables.specs.Matrix.{Matrix, nth, at, gram}
+use Rattle.integers.proofs.Order.{abs-≤, ≤-abs, neg-≤-abs, abs-nonneg, max-≤, ≤-maxˡ, ≤-maxʳ}
+use Rattle.integers.proofs.Sums.{sum-zero, sum-suc, sum-ext, except-by}
+use Rattle.integers.proofs.Machine.{within-more, within-neg, within--, within-in, within-high, within-sum, fits-within}
+use Rattle.tables.specs.Matrix.{Matrix, at}
 use Rattle.tables.specs.Checks.{all}
-use Rattle.tables.proofs.Checks.{bool-ext, le-of, all-ext}
-use Rattle.residual.specs.Residual.{residual, radius, rowPasses, accepts}
-use Rattle.residual.specs.Slack.{Offer, gramAt, spread, radiusAt, residualRange, RowsWithin, RadiiSubtracted}
-use Rattle.residual.proofs.OfferedFactor.{factor-below}
-use Rattle.residual.proofs.Slack.{radius-within, diagonal-within}
+use Rattle.tables.proofs.Checks.{all-ext, bool-ext, le-of}
+use Rattle.residual.specs.Residual.{radius, rowPasses, rowsPass}
+use Rattle.residual.specs.Scratch.{residualRange, Residue, rowOver}
 
--- what row i has over, of the columns before j
-abbrev pub over : ℕ → List ℤ → List ℤ → List ℤ → ℕ → ℕ → ℤ
-over n f l u j i = residual n (at n f) (at n l) i i -ℤ sumExcept j i (radius n (at n f) (at n l) (at n u) i)
+-- ---- the greater of |a| and |b|, for a ≤ b
+module _ {a b : ℤ} (h : a ≤ℤ b) where
+  -- it is what bounds both b and -a
+  radius-is : (m : ℤ) → b ≤ℤ m → negℤ a ≤ℤ m → maxℤ (absℤ a) (absℤ b) ≤ℤ m
+  radius-is m p q =
+      max-≤ (abs-≤ (≤ℤ-trans h p) q) (abs-≤ p (order (a ∷ b ∷ m ∷ []) (h & q) (search solver depth 40 fits 20000) (omega arith)))
 
-pub record Rows (n : ℕ) (f l u o : List ℤ) (j : ℕ) : Type 0 where
-  pub within : RowsWithin o j
-  pub rows : (i : ℕ) → i < j → nth o i ≡ over n f l u j i
+  pub radius-above : negℤ a ≤ℤ b → b ≡ maxℤ (absℤ a) (absℤ b)
+  radius-above q = ≤ℤ-antisym (≤ℤ-trans (≤-abs b) (≤-maxʳ (absℤ a) (absℤ b))) (radius-is b (≤ℤ-refl b) q)
 
-module _ {n : ℕ} {f l u : List ℤ} (s : Offer n l u f) where
-  abbrev R : Matrix
-  R = at n f
+  pub radius-below : b ≤ℤ negℤ a → negℤ a ≡ maxℤ (absℤ a) (absℤ b)
+  radius-below p = ≤ℤ-antisym (≤ℤ-trans (neg-≤-abs a) (≤-maxˡ (absℤ a) (absℤ b))) (radius-is (negℤ a) p (≤ℤ-refl (negℤ a)))
 
-  abbrev L : Matrix
-  L = at n l
+pub radius-within : {a b : ℤ} → a ≤ℤ b → Within residualRange a → Within residualRange b → Within residualRange (maxℤ (absℤ a) (absℤ b))
+radius-within {a} {b} h v w =
+    within-in (≤ℤ-trans (record { le = tt }) (≤ℤ-trans (abs-nonneg a) (≤-maxˡ (absℤ a) (absℤ b))))
+    (radius-is h (pos residualRange) (within-high w) (within-high (within-neg v)))
 
-  abbrev U : Matrix
-  U = at n u
+-- ---- what is left of row i, of the columns before j
+abbrev pub left : Matrix → Matrix → ℕ → ℕ → ℤ
+left A B i j = A i i -ℤ sumExcept j i (radius A B i)
 
-  gram-at : (i j : ℕ) → i ≤ j → j < n → gram n R i j ≡ gramAt R i j
-  unfolding gram gramAt
-  gram-at i j h k =
-      sum-prefix n (suc i) (λ k. R k i *ℤ R k j) (omega arith) (λ k a b. ap (λ (z : ℤ). z *ℤ R k j) (factor-below n R (s .factor .shape) k i a b) ∙ zero-*ℤ (R k j))
+module _ (A B : Matrix) (i : ℕ) where
+  pub left-none : A i i ≡ left A B i 0
+  left-none = order (A i i ∷ sumExcept 0 i (radius A B i) ∷ []) (sum-zero (λ j. except i j (radius A B i j))) (search solver depth 40 fits 20000) (omega arith)
 
-  radius-at : (i j : ℕ) → i < j → j < n → radiusAt n f l u i j ≡ radius n R L U i j
-  unfolding radiusAt radius residual spread
-  radius-at i j h k = rw (gram-at i j (omega arith) k)
+  pub left-more : (j : ℕ) → left A B i j -ℤ except i j (radius A B i j) ≡ left A B i (suc j)
+  left-more j =
+      order (A i i ∷ sumExcept j i (radius A B i) ∷ sumExcept (suc j) i (radius A B i) ∷ except i j (radius A B i j) ∷ [])
+      (sum-suc j (λ j. except i j (radius A B i j))) (search solver depth 40 fits 20000) (omega arith)
 
-  radius-symmetric : (i j : ℕ) → i < n → j < n → radius n R L U i j ≡ radius n R L U j i
-  unfolding radius residual gram
-  radius-symmetric i j h k =
-      let g : sum n (λ k. R k i *ℤ R k j) ≡ sum n (λ k. R k j *ℤ R k i) = sum-ext n _ _ (λ k m. *ℤ-comm (R k i) (R k j)) in
-      rw (s .tables .bounds .low-symmetric i j h k, s .tables .bounds .high-symmetric i j h k, g)
+-- a row passes where it has not less than 0 over
+pub row-passes : (n : ℕ) (A B : Matrix) (i : ℕ) → rowPasses n A B i ≡ leZ (pos 0) (rowOver n A B i)
+unfolding rowPasses rowOver
+row-passes n A B i = moved (A i i) (sumExcept n i (radius A B i))
+  where
+    moved : (a b : ℤ) → leZ b a ≡ leZ (pos 0) (a -ℤ b)
+    moved a b =
+        bool-ext (leZ b a) (leZ (pos 0) (a -ℤ b))
+        (λ e. leZ-true {x = pos 0} {y = a -ℤ b} (order (a ∷ b ∷ []) (le-of b a e) (search solver depth 40 fits 20000) (omega arith)))
+        (λ e. leZ-true {x = b} {y = a} (order (a ∷ b ∷ []) (le-of (pos 0) (a -ℤ b) e) (search solver depth 40 fits 20000) (omega arith)))
 
-  module _ {j : ℕ} (hj : j < n) {o o′ : List ℤ} (w : Rows n f l u o j) (x : RadiiSubtracted n f l u j o o′) where
-    -- a row before j
-    old-row : (i : ℕ) → i < j → nth o′ i ≡ over n f l u (suc j) i
-    old-row i h =
-        let radii = radius n R L U i in
-        let more : sumExcept (suc j) i radii ≡ sumExcept j i radii +ℤ radii j = sum-suc j _ ∙ ap (λ (z : ℤ). sumExcept j i radii +ℤ z) (except-other i j (radii j) (omega arith)) in
-        order (nth o′ i ∷ nth o i ∷ radiusAt n f l u i j ∷ radii j ∷ residual n R L i i ∷ sumExcept j i radii ∷ sumExcept (suc j) i radii ∷ [])
-        (x .before i h & w .rows i h & radius-at i j h hj & more) (search solver depth 40 fits 20000) (omega arith)
+-- ---- sizes, in the scratch tables of a residual
+module _ {n : ℕ} {a b : List ℤ} (r : Residue n a b) {i : ℕ} (hi : i < n) where
+  abbrev radii : ℕ → ℤ
+  radii = radius (at n a) (at n b) i
 
-    -- row j
-    new-row : nth o′ j ≡ over n f l u (suc j) j
-    unfolding residual
-    new-row =
-        let radii = radius n R L U j in
-        let none : sumExcept (suc j) j radii ≡ sumExcept j j radii +ℤ pos 0 = sum-suc j _ ∙ ap (λ (z : ℤ). sumExcept j j radii +ℤ z) (except-same j (radii j)) in
-        let all : sumExcept j j radii ≡ sum j (λ i. radiusAt n f l u i j) =
-        sum-ext j _ _ (λ i h. except-other j i (radii i) (omega arith) ∙ radius-symmetric j i hj (omega arith) ∙ sym (radius-at i j h hj)) in
-        order (nth o′ j ∷ at n l j j ∷ gram n R j j ∷ gramAt R j j ∷ sum j (λ i. radiusAt n f l u i j) ∷ sumExcept j j radii ∷ sumExcept (suc j) j radii ∷ [])
-        (x .own & gram-at j j (omega arith) hj & none & all) (search solver depth 40 fits 20000) (omega arith)
+  beside-within : (j : ℕ) → j < n → Within residualRange (except i j (radii j))
+  unfolding radius
+  beside-within j h =
+      except-by i j (radii j) (pos 0) (λ x y. Within residualRange x) (λ e. record { size = omega arith })
+      (λ d. radius-within (r .ordered i j hi h) (r .low i j hi h) (r .high i j hi h))
 
-    pub rows-step : Rows n f l u o′ (suc j)
-    rows-step =
-        record {
-          within = record {
-            size = x .size;
-            rows = λ i h.
-                by-cases (decLt i j) (λ k. rw (x .before i k) (within-more (omega arith) (within-- (w .within .rows i k) (radius-within s k hj))))
-                (λ k. let e : i ≡ j = omega arith in
-                rw (e, x .own) (within-more (omega arith) (within-- (diagonal-within s hj) (within-sum j residualRange _ (λ i h. radius-within s h hj)))));
-          };
-          rows = λ i h. by-cases (ℕ-discrete i j) (λ e. rw e new-row) (λ k. old-row i (omega arith));
-        }
+  pub left-fits : {j : ℕ} → j < n → SFits w64 (left (at n a) (at n b) i j -ℤ except i j (radii j))
+  left-fits {j} h =
+      let small = r .order in
+      fits-within (within-- (within-- (r .low i i hi hi) (within-sum j residualRange _ (λ k l. beside-within k (omega arith)))) (beside-within j h)) (omega arith)
 
-  -- the residual test is that no row has less than 0 over
-  pub rows-test : {o : List ℤ} → Rows n f l u o n → all n (λ i. leZ (pos 0) (nth o i)) ≡ accepts n R L U
-  unfolding accepts rowPasses
-  rows-test {o} w = all-ext n _ _ (λ i h. ap (leZ (pos 0)) (w .rows i h) ∙ moved (residual n R L i i) (sumExcept n i (radius n R L U i)))
-    where
-      moved : (a b : ℤ) → leZ (pos 0) (a -ℤ b) ≡ leZ b a
-      moved a b =
-          bool-ext (leZ (pos 0) (a -ℤ b)) (leZ b a)
-          (λ e. leZ-true {x = b} {y = a} (order (a ∷ b ∷ []) (le-of (pos 0) (a -ℤ b) e) (search solver depth 40 fits 20000) (omega arith)))
-          (λ e. leZ-true {x = pos 0} {y = a -ℤ b} (order (a ∷ b ∷ []) (le-of b a e) (search solver depth 40 fits 20000) (omega arith)))
-
-pub rows-start : {n : ℕ} {f l u o : List ℤ} → length o ≡ greatestOrder → Rows n f l u o 0
-rows-start e = record { within = record { size = e; rows = λ i h. absurd (omega arith) }; rows = λ i h. absurd (omega arith) }
+-- ---- the row test reads the first n rows and columns alone
+pub rows-ext : (n : ℕ) (A B C D : Matrix) → ((i j : ℕ) → i < n → j < n → A i j ≡ C i j) → ((i j : ℕ) → i < n → j < n → B i j ≡ D i j) →
+    rowsPass n A B ≡ rowsPass n C D
+unfolding rowsPass rowPasses radius
+rows-ext n A B C D f g =
+    all-ext n _ _ (λ i h. ap₂ leZ (sum-ext n _ _ (λ j k. ap (except i j) (ap₂ (λ (u v : ℤ). maxℤ (absℤ u) (absℤ v)) (f i j h k) (g i j h k)))) (f i i h h))

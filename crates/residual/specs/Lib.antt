@@ -1,3 +1,4 @@
 pub mod Residual
 pub mod FactorTest
-pub mod Slack
+pub mod ResidualAct
+pub mod Scratch

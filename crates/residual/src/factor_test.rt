@@ -5,27 +5,32 @@ ghost use lib.ListN.{length};
 ghost use Rattle.tables.specs.Matrix.{at};
 ghost use Rattle.tables.specs.Checks.{orderOf};
 ghost use Rattle.tables.specs.Bounds.{CheckedTables};
+ghost use Rattle.tables.specs.Entering.{Rooms};
 ghost use Rattle.tables.specs.Members.{PositiveDefinite};
 ghost use Rattle.tables.specs.declared.Answer.the-variants as Answer;
 ghost use Rattle.residual.specs.FactorTest.{factorAnswer, factorTest};
 use crate::offered::factor_shape;
-use crate::row_test::accepted;
+use crate::residual::turn;
+use crate::row_test::rows_pass;
 use tables::Answer;
 use tables::Checked;
 use tables::Refusal;
 use tables::TABLE_ROOM;
+use tables::Table;
 use tables::entering::enter;
 use tables::entering::order_of;
 
-// Check 6 and the residual test, of bounds and a factor of order n: the first n² numbers of each.
-pub fn answer(n: usize, low: &[i64], high: &[i64], factor: &[i64]) -> Answer
-    requires { ⌜ CheckedTables n (now low) (now high) × (n * n ≤ length (now factor)) ⌝ }
+// Check 6, the residual and the row test, of bounds and a factor of order n: the first n² numbers of each. The residual is worked out in
+// the scratch tables of the bounds.
+pub fn answer(n: usize, low: &mut Table, high: &mut Table, factor: &[i64]) -> Answer
+    requires { ⌜ CheckedTables n (now low) (now high) × Rooms (now low) (now high) × (n * n ≤ length (now factor)) ⌝ }
     ensures { λ r. ⌜ r ≡ factorAnswer n (at n (now (low .entry))) (at n (now (high .entry))) (at n (now (factor .entry))) ⌝ }
 {
     if !factor_shape(n, factor) {
         return Answer::Refused(Refusal::Factor);
     }
-    if accepted(n, low, high, factor) {
+    turn(n, factor, low, high);
+    if rows_pass(n, low, high) {
         Answer::Yes
     } else {
         Answer::No
@@ -50,5 +55,5 @@ pub fn test_factor(n: i64, low: &[i64], high: &[i64], factor: &[i64]) -> Answer
     if let Checked::Refused(r) = checked {
         return Answer::Refused(r);
     }
-    answer(m, &l, &u, factor)
+    answer(m, &mut l, &mut u, factor)
 }

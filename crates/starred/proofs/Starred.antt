@@ -19,7 +19,7 @@ use Rattle.tables.specs.declared.Answer.{Answer as TestAnswer}
 use Rattle.tables.specs.declared.Answer.the-variants.{Yes}
 use Rattle.cholesky.specs.Scale.{takeOff, scaledBy}
 use Rattle.cholesky.specs.Factoring.{factoring, columnsFrom, nextColumn, rows, goesOn, nextEntry, entries}
-use Rattle.residual.specs.Residual.{residual, radius, rowPasses, accepts}
+use Rattle.residual.specs.Residual.{residual, radius, rowPasses, rowsPass, accepts}
 use Rattle.residual.specs.FactorTest.{factorEntry, factorShape, factorAnswer, factorTested}
 use Rattle.residual.proofs.Meaning.{tested-definite}
 use Rattle.vectors.specs.Least.{leastMember, leastValue, nonzero, shows}
@@ -105,10 +105,10 @@ lines =
     ∷ []
 
 as-printed : map (λ (l : Line). l .rules) lines ≡ map (λ (l : Line). l .expected) lines
-unfolding judging judged listed factorTested factorAnswer factorShape factorEntry accepts rowPasses radius residual gram except after entered firstRefusal entryChecks orderOk orderOf boundsChecks endsChecks constraintEntered tablesWithin allWithin nowhereCrossed symmetric same all within factoring columnsFrom nextColumn rows goesOn nextEntry entries takeOff scaledBy at table tabulate form rowWidth leastMember leastValue nonzero shows tried first stoppedFactor solvedEntry solvedRows solved sum only floorDiv wholeRoot rootWithin boxing problemBox linearWithin termsWithin boxed boxOf sidesFrom halfSide smallerHalf secondBound firstHalf bound atCentre gradient highGradient lowGradient step stepAt bits trial lowered absℤ minℤ maxℤ ceilDiv rootAbove leastRoot
+unfolding judging judged listed factorTested factorAnswer factorShape factorEntry accepts rowsPass rowPasses radius residual gram except after entered firstRefusal entryChecks orderOk orderOf boundsChecks endsChecks constraintEntered tablesWithin allWithin nowhereCrossed symmetric same all within factoring columnsFrom nextColumn rows goesOn nextEntry entries takeOff scaledBy at table tabulate form rowWidth leastMember leastValue nonzero shows tried first stoppedFactor solvedEntry solvedRows solved sum only floorDiv wholeRoot rootWithin boxing problemBox linearWithin termsWithin boxed boxOf sidesFrom halfSide smallerHalf secondBound firstHalf bound atCentre gradient highGradient lowGradient step stepAt bits trial lowered absℤ minℤ maxℤ ceilDiv rootAbove leastRoot
 as-printed = refl
 
 -- so every member of [1 3; 3 10], on which the judge is undecided, is positive definite
 undecided-definite : PositiveDefinite 2 (at 2 narrow) (at 2 narrow)
-unfolding factorTested factorAnswer factorShape factorEntry accepts rowPasses radius residual gram except after entered firstRefusal entryChecks orderOk orderOf boundsChecks tablesWithin allWithin nowhereCrossed symmetric same all within at sum absℤ maxℤ
+unfolding factorTested factorAnswer factorShape factorEntry accepts rowsPass rowPasses radius residual gram except after entered firstRefusal entryChecks orderOk orderOf boundsChecks tablesWithin allWithin nowhereCrossed symmetric same all within at sum absℤ maxℤ
 undecided-definite = tested-definite narrow narrow exactFactor (pos 2) true refl

@@ -21,7 +21,7 @@ use Rattle.tables.proofs.Checks.{of-true, all-of}
 use Rattle.tables.proofs.Forms.{gram-symmetric}
 use Rattle.tables.proofs.Triangular.{UpperTriangular}
 use Rattle.cholesky.specs.Scale.{halfScale, scaledBy}
-use Rattle.residual.specs.Residual.{residual, radius, rowPasses, accepts}
+use Rattle.residual.specs.Residual.{residual, radius, rowPasses, rowsPass, accepts}
 use Rattle.cholesky.proofs.ScaledMatrix.{Suffices, order-positive, scaled-off, scaled-on, scaled-symmetric}
 use Rattle.cholesky.proofs.Factored.{ρ, gap, Factored}
 
@@ -71,7 +71,10 @@ module _ (τ : ℤ) (n : ℕ) (L U : Matrix) (b : Bounds n L U) where
           abs-≤ (order (H i j ∷ L i j ∷ M i j ∷ U i j ∷ gram n R i j ∷ []) facts (search solver depth 40 fits 20000) (omega arith))
           (order (H i j ∷ L i j ∷ M i j ∷ U i j ∷ gram n R i j ∷ []) facts (search solver depth 40 fits 20000) (omega arith))
 
-      radius-≤ : (i j : ℕ) → i < n → j < n → i ≢ j → radius n R L U i j ≤ℤ limit i j
+      abbrev radii : Matrix
+      radii = radius (residual n R L) (residual n R U)
+
+      radius-≤ : (i j : ℕ) → i < n → j < n → i ≢ j → radii i j ≤ℤ limit i j
       unfolding radius
       radius-≤ i j h k d =
           let o = b .ordered i j h k in
@@ -89,14 +92,14 @@ module _ (τ : ℤ) (n : ℕ) (L U : Matrix) (b : Bounds n L U) where
           all-terms : sum n (limit i) ≡ pos n *ℤ (ρ -ℤ pos 1) +ℤ halfScale *ℤ rowWidth n L U i
           all-terms = sum-+ n _ _ ∙ ap₂ (λ (u v : ℤ). u +ℤ v) (sum-const n (ρ -ℤ pos 1)) (sum-* n halfScale _)
 
-      row : (i : ℕ) → i < n → sumExcept n i (radius n R L U i) ≤ℤ residual n R L i i
+      row : (i : ℕ) → i < n → sumExcept n i (radii i) ≤ℤ residual n R L i i
       unfolding residual
       row i h =
           order
-          (sumExcept n i (radius n R L U i) ∷ sumExcept n i (limit i) ∷ pos n ∷ τ ∷ L i i ∷ U i i ∷ gram n R i i ∷ H i i ∷ rowWidth n L U i ∷ [])
-          (sumExcept-mono n i (radius n R L U i) (limit i) (λ j k d. radius-≤ i j h k d) & limits i h
+          (sumExcept n i (radii i) ∷ sumExcept n i (limit i) ∷ pos n ∷ τ ∷ L i i ∷ U i i ∷ gram n R i i ∷ H i i ∷ rowWidth n L U i ∷ [])
+          (sumExcept-mono n i (radii i) (limit i) (λ j k d. radius-≤ i j h k d) & limits i h
           & on-residue i h & scaled-on τ n L U i & s .enough & order-positive h) (search solver depth 40 fits 20000) (omega arith)
 
       pub factored-accepted : T (accepts n R L U)
-      unfolding accepts rowPasses
-      factored-accepted = of-true (all-of (rowPasses n R L U) n (λ i h. leZ-true (row i h)))
+      unfolding accepts rowsPass rowPasses
+      factored-accepted = of-true (all-of (rowPasses n (residual n R L) (residual n R U)) n (λ i h. leZ-true (row i h)))

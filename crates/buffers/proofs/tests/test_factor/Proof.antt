@@ -78,15 +78,13 @@ test-factor-spec =
     let e = c .before .before .before in
     let z = sizes-of _ _ _ _ _ (came-through _ _ _ _ _ (came e) (c .before .enum-told .given .1) .sizes) in
     rw (order (met e .before .before)) (refl, omega (arith, z .2), table-fits (order-small _)))
-    (λ c. sym (came (c .before .before .before .before .before .before) .rooms .low-size))
-    (λ c. sym (came (c .before .before .before .before .before .before .before) .rooms .high-size))
     (λ c. sym (room (c .before .before .before .before)))
     (λ c κs.
     let o = c .before .before .before .before in
     let t = o .before .before in
     let e = t .before .before in
     let h = came e .held (t .enum-told .given .1) in
-    rw (order (met e .before .before)) (h .tables, omega (arith, room o, table-fits (order-small (start e .args .n)))))
+    rw (order (met e .before .before)) (h .tables, came e .rooms, omega (arith, room o, table-fits (order-small (start e .args .n)))))
     (λ c.
     let o = c .before .before .before .before .before in
     let t = o .before .before in

@@ -67,13 +67,11 @@ test-factor-spec =
     let s = start e in
     exactly (means s) (definite s) _ (entered-refused _ _ _ _ _ Answer.Refused _ (came e) (c .before .checked .given .1)))
     (λ c. search needs)
-    (λ c. sym (c .before .before .before .enter .ensures .rooms .low-size))
-    (λ c. sym (c .before .before .before .before .enter .ensures .rooms .high-size))
     (λ c κs.
     let e = c .before .before .before .before in
     let q = c .before .before .enum-told .given .1 in
     let z = sizes-of _ _ _ _ _ (came-through _ _ _ _ _ (came e) q .sizes) in
-    rw (order (met e .before .before)) (came e .held q .tables, omega (arith, z .2)))
+    rw (order (met e .before .before)) (came e .held q .tables, came e .rooms, omega (arith, z .2)))
     (λ c.
     let d = c .before .before .before in
     let e = d .before .before in

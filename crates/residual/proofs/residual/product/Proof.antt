@@ -10,10 +10,10 @@ use Rattle.integers.specs.Sum.{sum}
 use Rattle.integers.proofs.Machine.{clean, clean-result}
 use Rattle.integers.proofs.Sums.{sum-zero, sum-suc}
 use Rattle.tables.specs.Matrix.{at}
-use Rattle.residual.specs.Slack.{gramAt}
-use Rattle.residual.proofs.Slack.{product-fits, products-fit}
-use Rattle.residual.proofs.row_test.product.Statement.{statement}
-use Rattle.residual.proofs.row_test.product.Tie as tie
+use Rattle.residual.specs.Scratch.{gramAt}
+use Rattle.residual.proofs.Sizes.{product-fits, products-fit}
+use Rattle.residual.proofs.residual.product.Statement.{statement}
+use Rattle.residual.proofs.residual.product.Tie as tie
 
 abbrev Inv-loop : tie.InvT-loop
 Inv-loop n f i j s₀ k₀ s k = (k ≤ suc i) × (toZ w64 s ≡ sum k (λ l. at n f l i *ℤ at n f l j))
