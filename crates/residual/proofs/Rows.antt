@@ -12,8 +12,8 @@ use Rattle.integers.specs.Sum.{sum, except, sumExcept}
 use Rattle.integers.proofs.Parts.{≤ℤ-trans, ≤ℤ-antisym, leZ-true, leZ-false}
 use Rattle.integers.proofs.Solver.{_&_, order, solver}
 use Rattle.integers.proofs.Order.{abs-≤, ≤-abs, neg-≤-abs, abs-nonneg, max-≤, ≤-maxˡ, ≤-maxʳ}
-use Rattle.integers.proofs.Sums.{sum-zero, sum-suc, sum-ext, except-by}
-use Rattle.integers.proofs.Machine.{within-more, within-neg, within--, within-in, within-high, within-sum, fits-within}
+use Rattle.integers.proofs.Sums.{sum-zero, sum-suc, sum-ext, sum-at}
+use Rattle.integers.proofs.Machine.{within-more, within-neg, within-+, within--, within-in, within-high, within-sum, fits-within}
 use Rattle.tables.specs.Matrix.{Matrix, at}
 use Rattle.tables.specs.Checks.{all}
 use Rattle.tables.proofs.Checks.{all-ext, bool-ext, le-of}
@@ -38,18 +38,24 @@ radius-within {a} {b} h v w =
     within-in (≤ℤ-trans (record { le = tt }) (≤ℤ-trans (abs-nonneg a) (≤-maxˡ (absℤ a) (absℤ b))))
     (radius-is h (pos residualRange) (within-high w) (within-high (within-neg v)))
 
--- ---- what is left of row i, of the columns before j
+-- ---- what is left of row i after the columns before j: its diagonal entry and radius, less the radii so far
 abbrev pub left : Matrix → Matrix → ℕ → ℕ → ℤ
-left A B i j = A i i -ℤ sumExcept j i (radius A B i)
+left A B i j = (A i i +ℤ radius A B i i) -ℤ sum j (radius A B i)
 
 module _ (A B : Matrix) (i : ℕ) where
-  pub left-none : A i i ≡ left A B i 0
-  left-none = order (A i i ∷ sumExcept 0 i (radius A B i) ∷ []) (sum-zero (λ j. except i j (radius A B i j))) (search solver depth 40 fits 20000) (omega arith)
+  pub left-none : A i i +ℤ radius A B i i ≡ left A B i 0
+  left-none = order (A i i ∷ radius A B i i ∷ sum 0 (radius A B i) ∷ []) (sum-zero (radius A B i)) (search solver depth 40 fits 20000) (omega arith)
 
-  pub left-more : (j : ℕ) → left A B i j -ℤ except i j (radius A B i j) ≡ left A B i (suc j)
+  pub left-more : (j : ℕ) → left A B i j -ℤ radius A B i j ≡ left A B i (suc j)
   left-more j =
-      order (A i i ∷ sumExcept j i (radius A B i) ∷ sumExcept (suc j) i (radius A B i) ∷ except i j (radius A B i j) ∷ [])
-      (sum-suc j (λ j. except i j (radius A B i j))) (search solver depth 40 fits 20000) (omega arith)
+      order (A i i ∷ radius A B i i ∷ sum j (radius A B i) ∷ sum (suc j) (radius A B i) ∷ radius A B i j ∷ [])
+      (sum-suc j (radius A B i)) (search solver depth 40 fits 20000) (omega arith)
+
+  pub left-all : (n : ℕ) → i < n → left A B i n ≡ rowOver n A B i
+  unfolding rowOver
+  left-all n h =
+      order (A i i ∷ radius A B i i ∷ sum n (radius A B i) ∷ sumExcept n i (radius A B i) ∷ []) (sum-at n i (radius A B i) h)
+      (search solver depth 40 fits 20000) (omega arith)
 
 -- a row passes where it has not less than 0 over
 pub row-passes : (n : ℕ) (A B : Matrix) (i : ℕ) → rowPasses n A B i ≡ leZ (pos 0) (rowOver n A B i)
@@ -67,16 +73,17 @@ module _ {n : ℕ} {a b : List ℤ} (r : Residue n a b) {i : ℕ} (hi : i < n) w
   abbrev radii : ℕ → ℤ
   radii = radius (at n a) (at n b) i
 
-  beside-within : (j : ℕ) → j < n → Within residualRange (except i j (radii j))
+  each-within : (j : ℕ) → j < n → Within residualRange (radii j)
   unfolding radius
-  beside-within j h =
-      except-by i j (radii j) (pos 0) (λ x y. Within residualRange x) (λ e. record { size = omega arith })
-      (λ d. radius-within (r .ordered i j hi h) (r .low i j hi h) (r .high i j hi h))
+  each-within j h = radius-within (r .ordered i j hi h) (r .low i j hi h) (r .high i j hi h)
 
-  pub left-fits : {j : ℕ} → j < n → SFits w64 (left (at n a) (at n b) i j -ℤ except i j (radii j))
+  pub first-fits : SFits w64 (at n a i i +ℤ radii i)
+  first-fits = fits-within (within-+ (r .low i i hi hi) (each-within i hi)) (omega arith)
+
+  pub left-fits : {j : ℕ} → j < n → SFits w64 (left (at n a) (at n b) i j -ℤ radii j)
   left-fits {j} h =
       let small = r .order in
-      fits-within (within-- (within-- (r .low i i hi hi) (within-sum j residualRange _ (λ k l. beside-within k (omega arith)))) (beside-within j h)) (omega arith)
+      fits-within (within-- (within-- (within-+ (r .low i i hi hi) (each-within i hi)) (within-sum j residualRange _ (λ k l. each-within k (omega arith)))) (each-within j h)) (omega arith)
 
 -- ---- the row test reads the first n rows and columns alone
 pub rows-ext : (n : ℕ) (A B C D : Matrix) → ((i j : ℕ) → i < n → j < n → A i j ≡ C i j) → ((i j : ℕ) → i < n → j < n → B i j ≡ D i j) →

@@ -3,7 +3,6 @@ ghost use mathlib.Core.Path.{_≡_};
 ghost use Prim.Native.Nat.{_<_};
 ghost use lib.Signed.{_≤ℤ_};
 ghost use Rattle.integers.specs.Numbers.{Within, absℤ, maxℤ};
-ghost use Rattle.integers.specs.Sum.{except};
 ghost use Rattle.tables.specs.Matrix.{at};
 ghost use Rattle.residual.specs.Residual.{radius, rowsPass};
 ghost use Rattle.residual.specs.Scratch.{residualRange, Residue, rowOver};
@@ -18,27 +17,25 @@ fn radius(a: i64, b: i64) -> i64
     if below <= b { b } else { below }
 }
 
-// The radius at (i, j), and 0 on the diagonal.
-fn radius_beside(n: usize, low: &Table, high: &Table, i: usize, j: usize) -> i64
+// The radius at (i, j).
+fn radius_at(n: usize, low: &Table, high: &Table, i: usize, j: usize) -> i64
     requires { ⌜ Residue n (now low) (now high) × (i < n) × (j < n) ⌝ }
-    ensures { λ r. ⌜ r ≡ except i j (radius (at n (now (low .entry))) (at n (now (high .entry))) i j) ⌝ }
+    ensures { λ r. ⌜ r ≡ radius (at n (now (low .entry))) (at n (now (high .entry))) i j ⌝ }
 {
-    if i == j {
-        return 0;
-    }
     let here = i * n + j;
     radius(low[here], high[here])
 }
 
-// What row i has over: its diagonal entry less its radii.
+// What row i has over: its diagonal entry less its radii. The radius on the diagonal is no part of them: it is added first, and subtracted
+// with the others.
 fn row_over(n: usize, low: &Table, high: &Table, i: usize) -> i64
     requires { ⌜ Residue n (now low) (now high) × (i < n) ⌝ }
     ensures { λ r. ⌜ r ≡ rowOver n (at n (now (low .entry))) (at n (now (high .entry))) i ⌝ }
 {
-    let mut over = low[i * n + i];
+    let mut over = low[i * n + i] + radius_at(n, low, high, i, i);
     let mut j = 0;
     while j < n {
-        over -= radius_beside(n, low, high, i, j);
+        over -= radius_at(n, low, high, i, j);
         j += 1;
     }
     over
