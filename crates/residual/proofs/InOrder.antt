@@ -1,15 +1,30 @@
--- The factor test in its two parts: the residual whole, and then the row test over its tables.
+-- R7.4 and R7.5 of docs/RULES.md: the factor test is the residual whole, and then the row test over its two tables; and what the tables enclose.
 use mathlib.Core.Path.{_≡_, refl, sym, ap, _∙_}
-use mathlib.Core.Bool.{Bool}
-use mathlib.Core.List.{List}
-use Prim.Native.Nat.{ℕ}
-use lib.Dec.{eqb}
-use lib.IntN.{ℤ}
+use mathlib.Core.Bool.{Bool, true}
+use mathlib.Core.List.{List, [], _∷_}
+use Prim.Native.Nat.{ℕ, _<_}
+use native.Mathlib.Omega.{arith}
 use borrow.Author.Tests.{eqb-true}
-use mathlib.Core.Bool.{true}
-use Rattle.tables.specs.Checks.{sizesOk}
+use lib.Dec.{eqb}
+use lib.IntN.{ℤ, _-ℤ_, _*ℤ_}
+use Rattle.integers.proofs.Order.{Between}
+use Rattle.integers.proofs.Solver.{order, solver}
+use Rattle.tables.specs.Matrix.{Matrix, at, table, gram}
+use Rattle.tables.specs.Members.{Member}
+use Rattle.tables.specs.Checks.{firstRefusal, orderOf, sizesOk}
+use Rattle.tables.specs.Answers.{after, yesOrNo}
+use Rattle.tables.specs.Entering.{doorChecks, entered}
+use Rattle.tables.specs.declared.Checked.{Checked}
+use Rattle.tables.specs.declared.Checked.the-variants.{Passed, Refused}
+use Rattle.tables.specs.declared.Answer.{Answer}
+use Rattle.tables.specs.declared.Answer.the-variants as Answer
+use Rattle.tables.proofs.Matrix.{at-table}
 use Rattle.tables.proofs.Checks.{and-left, and-right, sizes-of}
-use Rattle.residual.specs.ResidualAct.{residualSizes}
+use Rattle.cholesky.specs.Scale.{scale}
+use Rattle.residual.specs.Residual.{residual, rowsPass, accepts}
+use Rattle.residual.specs.FactorTest.{checkFactor, factorAnswer, factorTested}
+use Rattle.residual.specs.ResidualAct.{Tabled, kept, tables, tabled, tabling, residualSizes}
+use Rattle.residual.proofs.Rows.{rows-ext}
 
 -- where check 2 passes, each table has its size
 pub residual-sizes-of : (size l u f a b : ℕ) → residualSizes size l u f a b ≡ true → (l ≡ size) × (u ≡ size) × (f ≡ size) × (a ≡ size) × (b ≡ size)
@@ -18,3 +33,35 @@ residual-sizes-of size l u f a b e =
     let z = sizes-of size size l u f (and-left _ _ e) in
     let t = and-right (sizesOk size size l u f) _ e in
     (z .0, z .1, z .2, eqb-true a size (and-left _ _ t), eqb-true b size (and-right (eqb a size) _ t))
+
+-- ---- the residual whole, and then the rows
+-- what the row test makes of what the residual's act leaves, for order k
+abbrev pub thenRows : ℕ → Tabled → Answer
+thenRows k t = after Answer.Refused (t .checked) (yesOrNo (rowsPass k (at k (t .low)) (at k (t .high))))
+
+-- the test of a factor is the row test over the residual's tables
+rows-of-tables : (k : ℕ) (R L U : Matrix) → accepts k R L U ≡ rowsPass k (at k (table k (residual k R L))) (at k (table k (residual k R U)))
+unfolding accepts
+rows-of-tables k R L U = rows-ext k _ _ _ _ (λ i j h l. sym (at-table k _ i j h l)) (λ i j h l. sym (at-table k _ i j h l))
+
+pub in-order : (n : ℤ) (sized : Bool) (l u f a b : List ℤ) → factorTested n sized l u f ≡ thenRows (orderOf n) (tabling n sized l u f a b)
+unfolding factorTested factorAnswer tabling tabled entered after
+in-order n sized l u f a b =
+    let k = orderOf n in
+    go (firstRefusal (doorChecks n sized true l u)) (firstRefusal (checkFactor k (at k f) ∷ [])) (tables k (at k l) (at k u) (at k f))
+    (ap yesOrNo (rows-of-tables k (at k f) (at k l) (at k u)))
+  where
+    go : (c d : Checked) (t : Tabled) {x : Answer} → x ≡ thenRows (orderOf n) t →
+        after Answer.Refused c (after Answer.Refused d x) ≡ thenRows (orderOf n) (after (kept a b) c (after (kept a b) d t))
+    go (Refused r) d t e = refl
+    go Passed (Refused r) t e = refl
+    go Passed Passed t e = e
+
+-- ---- 2^32 N - q P, of each member N over q, lies between q times the two tables
+pub residual-encloses : (n : ℕ) (R L U N : Matrix) (q : ℤ) → Member n L U N q → (i j : ℕ) → i < n → j < n →
+    Between (q *ℤ residual n R L i j) (scale *ℤ N i j -ℤ q *ℤ gram n R i j) (q *ℤ residual n R U i j)
+unfolding residual
+residual-encloses n R L U N q m i j h k = record {
+  low = order (q ∷ N i j ∷ L i j ∷ gram n R i j ∷ []) (m .low i j h k) (search solver depth 40 fits 20000) (omega arith);
+  high = order (q ∷ N i j ∷ U i j ∷ gram n R i j ∷ []) (m .high i j h k) (search solver depth 40 fits 20000) (omega arith);
+}

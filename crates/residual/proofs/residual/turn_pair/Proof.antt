@@ -42,8 +42,8 @@ turn-pair-spec =
     mul-x-2
     sub-x
     -- the stores
-    (λ c. omega (arith, here (c .before)))
-    (λ c. omega (arith, here (c .before)))
-    (λ c. omega (arith, across (c .before)))
-    (λ c. omega (arith, across (c .before)))
+    (λ c. omega (arith, here (c .before), across (c .before)))
+    (λ c. omega (arith, here (c .before), across (c .before)))
+    (λ c. omega (arith, here (c .before), across (c .before)))
+    (λ c. omega (arith, here (c .before), across (c .before)))
     (λ c. let s = c .before in rw (clean (sub-x c), clean (mul-x-2 c), clean (s .fits .p), clean-element _ (c .x .given))))
