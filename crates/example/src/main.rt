@@ -1,5 +1,5 @@
-// The library from Rattle: the acts on small problems, a sample gathered into running sums and these read, a summary file and its fields,
-// and a function whose own contract rests on the judge's. What is printed is held to the file stdout.
+// The library from Rattle: the acts and the residual on small problems, a sample gathered into running sums and these read, a summary file
+// and its fields, and a function whose own contract rests on the judge's. What is printed is held to the file stdout.
 ghost use mathlib.Core.Path.{_≡_};
 ghost use mathlib.Core.Bool.{true};
 ghost use Prim.Native.Nat.{_≤_};
@@ -61,6 +61,48 @@ fn definite() {
     print_two(b"vector", &vector);
     let answer = residual::factor_test::test_factor(2, &table, &table, &factor);
     print_number(b"test_factor", tables::answer_code(answer));
+}
+
+// The number of a refusal, or 0 where nothing is refused.
+fn print_checked(word: &[u8], checked: Checked)
+    requires { ⌜ length (now word) ≤ 16 ⌝ }
+{
+    match checked {
+        Checked::Passed => print_number(word, 0),
+        Checked::Refused(r) => print_number(word, tables::refusal_number(r) as i64),
+    }
+}
+
+// The residual of [2 1; 1 2] to [3 1; 1 3] and a factor; and of one that is refused by 6, with both tables kept.
+fn residuals() {
+    let low = [2i64, 1, 1, 2];
+    let high = [3i64, 1, 1, 3];
+    let factor = [89738i64, 47861, 0, 75910];
+    let turned = [89738i64, 0, 47861, 75910];
+    let mut from_low = [5i64; 4];
+    let mut from_high = [5i64; 4];
+    let refused = residual::residual::residual(
+        2,
+        &low,
+        &high,
+        &turned,
+        &mut from_low,
+        &mut from_high,
+    );
+    print_checked(b"residual", refused);
+    print_four(b"low", &from_low);
+    print_four(b"high", &from_high);
+    let written = residual::residual::residual(
+        2,
+        &low,
+        &high,
+        &factor,
+        &mut from_low,
+        &mut from_high,
+    );
+    print_checked(b"residual", written);
+    print_four(b"low", &from_low);
+    print_four(b"high", &from_high);
 }
 
 // [1 2; 2 1]: not definite, with a vector, to which the vector test says yes.
@@ -218,6 +260,7 @@ fn read_fields() {
 
 fn main() {
     definite();
+    residuals();
     not_definite();
     refused();
     boxed();
