@@ -7,11 +7,14 @@ use native.Mathlib.Omega.{arith}
 use borrow.Author.Tests.{eqb-true}
 use lib.Dec.{eqb}
 use lib.IntN.{ℤ, _-ℤ_, _*ℤ_}
+use lib.Signed.{leZ}
+use Rattle.integers.specs.Numbers.{absℤ, maxℤ}
+use Rattle.integers.specs.Sum.{sumExcept}
 use Rattle.integers.proofs.Order.{Between}
 use Rattle.integers.proofs.Solver.{order, solver}
 use Rattle.tables.specs.Matrix.{Matrix, at, table, gram}
 use Rattle.tables.specs.Members.{Member}
-use Rattle.tables.specs.Checks.{firstRefusal, orderOf, sizesOk}
+use Rattle.tables.specs.Checks.{all, firstRefusal, orderOf, sizesOk}
 use Rattle.tables.specs.Answers.{after, yesOrNo}
 use Rattle.tables.specs.Entering.{doorChecks, entered}
 use Rattle.tables.specs.declared.Checked.{Checked}
@@ -21,7 +24,7 @@ use Rattle.tables.specs.declared.Answer.the-variants as Answer
 use Rattle.tables.proofs.Matrix.{at-table}
 use Rattle.tables.proofs.Checks.{and-left, and-right, sizes-of}
 use Rattle.cholesky.specs.Scale.{scale}
-use Rattle.residual.specs.Residual.{residual, rowsPass, accepts}
+use Rattle.residual.specs.Residual.{residual, radius, rowPasses, rowsPass, accepts}
 use Rattle.residual.specs.FactorTest.{checkFactor, factorAnswer, factorTested}
 use Rattle.residual.specs.ResidualAct.{Tabled, kept, tables, tabled, tabling, residualSizes}
 use Rattle.residual.proofs.Rows.{rows-ext}
@@ -33,6 +36,12 @@ residual-sizes-of size l u f a b e =
     let z = sizes-of size size l u f (and-left _ _ e) in
     let t = and-right (sizesOk size size l u f) _ e in
     (z .0, z .1, z .2, eqb-true a size (and-left _ _ t), eqb-true b size (and-right (eqb a size) _ t))
+
+-- ---- the residual test written out, without the two tables
+pub written-out : (n : ℕ) (R L U : Matrix) →
+    accepts n R L U ≡ all n (λ i. leZ (sumExcept n i (λ j. maxℤ (absℤ (residual n R L i j)) (absℤ (residual n R U i j)))) (residual n R L i i))
+unfolding accepts rowsPass rowPasses radius
+written-out n R L U = refl
 
 -- ---- the residual whole, and then the rows
 -- what the row test makes of what the residual's act leaves, for order k

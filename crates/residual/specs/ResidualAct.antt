@@ -1,4 +1,4 @@
--- The residual as an act, R5.14 and R7.5 of docs/RULES.md: checks 1 to 6, and then both of its tables.
+-- The residual as an act, R7.5 and R7.6 of docs/RULES.md: checks 1 to 6, and then both of its tables.
 use mathlib.Core.Bool.{Bool, true, _&&_}
 use mathlib.Core.List.{List, [], _∷_}
 use Prim.Native.Nat.{ℕ, _*_}
