@@ -1,4 +1,4 @@
-//! The residual test of an offered factor: R7.
+//! The residual of an offered factor, and the residual test: R7.
 
 use crate::problem::{
     check_lengths, check_order, pairs, square, table_size, Bounds, Table, FACTOR_RANGE,
@@ -14,24 +14,30 @@ pub fn product(factor: &Table) -> Table {
         .collect()
 }
 
+/// R7.5: the low and the high table of the residual.
+pub fn residual(bounds: &Bounds, factor: &Table) -> [Table; 2] {
+    let p = product(factor);
+    let n = bounds.order;
+    [&bounds.low, &bounds.high].map(|bound| {
+        (0..n)
+            .map(|i| (0..n).map(|j| (1 << 32) * bound[i][j] - p[i][j]).collect())
+            .collect()
+    })
+}
+
 /// R7.3: all rows pass.
 pub fn accepted(bounds: &Bounds, factor: &Table) -> bool {
-    let p = product(factor);
-    (0..bounds.order).all(|i| row_test(bounds, &p, i))
+    let [low, high] = residual(bounds, factor);
+    (0..bounds.order).all(|i| row_test(&low, &high, i))
 }
 
 /// R7.2: row i passes.
-fn row_test(bounds: &Bounds, p: &Table, i: usize) -> bool {
-    let residual = |entry: i128, j: usize| (1 << 32) * entry - p[i][j];
-    let off_diagonal: i128 = (0..bounds.order)
+fn row_test(low: &Table, high: &Table, i: usize) -> bool {
+    let off_diagonal: i128 = (0..low.len())
         .filter(|j| *j != i)
-        .map(|j| {
-            let from_low = residual(bounds.low[i][j], j).abs();
-            let from_high = residual(bounds.high[i][j], j).abs();
-            from_low.max(from_high)
-        })
+        .map(|j| low[i][j].abs().max(high[i][j].abs()))
         .sum();
-    residual(bounds.low[i][i], i) >= off_diagonal
+    low[i][i] >= off_diagonal
 }
 
 /// Check 6: the form of a factor (R4.6, R2.8).
@@ -64,4 +70,27 @@ pub fn test_factor(n: i64, low: &[i64], high: &[i64], factor: &[i64]) -> Result<
     let bounds = Bounds::read(order, low, high)?;
     let factor = check_factor(order, factor)?;
     Ok(accepted(&bounds, &factor))
+}
+
+/// The residual by itself (R7.6): checks 1 to 6, and then both tables, for
+/// lent tables of these lengths.
+pub fn residual_tables(
+    n: i64,
+    low: &[i64],
+    high: &[i64],
+    factor: &[i64],
+    lent: [usize; 2],
+) -> Result<[Table; 2], Refusal> {
+    let order = check_order(n)?;
+    let table = table_size(order);
+    check_lengths(&[
+        (low.len(), table),
+        (high.len(), table),
+        (factor.len(), table),
+        (lent[0], table),
+        (lent[1], table),
+    ])?;
+    let bounds = Bounds::read(order, low, high)?;
+    let factor = check_factor(order, factor)?;
+    Ok(residual(&bounds, &factor))
 }

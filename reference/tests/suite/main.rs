@@ -9,6 +9,7 @@ mod program_text;
 mod properties;
 mod readings;
 mod refusals;
+mod residual_tables;
 mod rides;
 mod support;
 mod two_ends;
