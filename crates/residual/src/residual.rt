@@ -8,7 +8,8 @@ ghost use Rattle.tables.specs.Matrix.{at};
 ghost use Rattle.tables.specs.Entering.{Rooms};
 ghost use Rattle.tables.specs.Bounds.{CheckedTables};
 ghost use Rattle.residual.specs.ResidualAct.{Tabled, tabled, residualSizes, residualAct};
-ghost use Rattle.residual.specs.Scratch.{Shaped, Offer, gramRange, gramAt, Unturned, UnturnedColumn, turnedPair, turnedColumn, turned};
+ghost use Rattle.residual.specs.Scratch.{gramRange, Shaped, Offer, gramAt};
+ghost use Rattle.residual.specs.Scratch.{Unturned, UnturnedColumn, turnedPair, turnedColumn, turned};
 use crate::offered::factor_shape;
 use cholesky::scaling::SCALE;
 use tables::Checked;
@@ -47,8 +48,8 @@ fn turn_pair(n: usize, t: &mut Table, i: usize, j: usize, p: i64)
 // The pairs of column j, down to the diagonal, of both tables.
 fn turn_column(n: usize, factor: &[i64], j: usize, low: &mut Table, high: &mut Table)
     requires { ⌜ Shaped n (now factor) × (j < n) × UnturnedColumn n (now low) j × UnturnedColumn n (now high) j ⌝ }
-    ensures { λ _. ⌜ (now (low .exit) ≡ turnedColumn n (at n (now (factor .entry))) (now (low .entry)) j (suc j)) × (now (high .exit) ≡
-        turnedColumn n (at n (now (factor .entry))) (now (high .entry)) j (suc j)) ⌝ }
+    ensures { λ _. ⌜ (now (low .exit) ≡ turnedColumn n (at n (now (factor .entry))) (now (low .entry)) j (suc j)) ×
+        (now (high .exit) ≡ turnedColumn n (at n (now (factor .entry))) (now (high .entry)) j (suc j)) ⌝ }
 {
     let mut i = 0;
     while i <= j {
@@ -83,8 +84,11 @@ fn write_residual(
 ) -> Checked
     requires { ⌜ CheckedTables n (now low) (now high) × Rooms (now low) (now high) × (n * n ≤ length (now factor)) × (length
         (now «low_residual») ≡ n * n) × (length (now «high_residual») ≡ n * n) ⌝ }
-    ensures { λ r. ⌜ _≡_ {A = Tabled} (record { checked = r; low = now («low_residual» .exit); high = now («high_residual» .exit) })
-        (tabled n (at n (now (low .entry))) (at n (now (high .entry))) (at n (now (factor .entry)))
+    ensures { λ r. ⌜ _≡_ {A = Tabled} (record {
+      checked = r;
+      low = now («low_residual» .exit);
+      high = now («high_residual» .exit);
+    }) (tabled n (at n (now (low .entry))) (at n (now (high .entry))) (at n (now (factor .entry)))
         (now («low_residual» .entry)) (now («high_residual» .entry))) ⌝ }
 {
     if !factor_shape(n, factor) {

@@ -17,7 +17,11 @@ fn line(word: &str, table: &Table) -> String {
 #[test]
 fn the_example_prints_these_tables() {
     let [low, high] = residual_tables(2, &LOW, &HIGH, &FACTOR, [4, 4]).unwrap();
-    let wanted = format!("residual 0\n{}\n{}\n", line("low", &low), line("high", &high));
+    let wanted = format!(
+        "residual 0\n{}\n{}\n",
+        line("low", &low),
+        line("high", &high)
+    );
     let path = concat!(env!("CARGO_MANIFEST_DIR"), "/../crates/example/stdout");
     let printed = std::fs::read_to_string(path).unwrap();
     assert!(printed.contains(&wanted), "{wanted}");
