@@ -9,7 +9,7 @@ use Rattle.tables.specs.Refusals.{refusalNumber}
 use Rattle.tables.specs.Checks.{Check, firstRefusal}
 use Rattle.tables.specs.Answers.{after, yesOrNo, answerCode}
 use Rattle.tables.specs.declared.Refusal.{Refusal}
-use Rattle.tables.specs.declared.Refusal.the-variants.{Order, Length, Range, Crossed, Lopsided, Factor, Vector, Flat, Far, Cut, Tag, Again, Absent, Size, Long, Reversed, Sample, Full}
+use Rattle.tables.specs.declared.Refusal.the-variants.{Order, Length, Range, Crossed, Lopsided, Factor, Vector, Flat, Far, Cut, Tag, Again, Absent, Size, Long, Reversed, Sample, Full, Falling}
 use Rattle.tables.specs.declared.Checked.{Checked}
 use Rattle.tables.specs.declared.Checked.the-variants.{Passed, Refused}
 use Rattle.tables.specs.declared.Answer.{Answer}
@@ -82,6 +82,7 @@ refusal-positive Long = omega arith
 refusal-positive Reversed = omega arith
 refusal-positive Sample = omega arith
 refusal-positive Full = omega arith
+refusal-positive Falling = omega arith
 
 pub code-yes : (a : Answer) → answerCode a ≡ pos 0 → a ≡ Answer.Yes
 unfolding answerCode

@@ -80,6 +80,7 @@ pub enum Refusal {
     Reversed,
     Sample,
     Full,
+    Falling,
 }
 
 // What checks find: nothing to refuse, or the first refusal.
@@ -118,6 +119,7 @@ pub fn refusal_number(r: Refusal) -> u8
         Refusal::Reversed => 16,
         Refusal::Sample => 17,
         Refusal::Full => 18,
+        Refusal::Falling => 19,
     }
 }
 
