@@ -1,4 +1,4 @@
--- The walk passes exactly the files that are made of fields of different kinds, and finds their contents.
+-- The walk passes exactly the files that are made of fields with rising tags, and finds their contents.
 use mathlib.Core.Path.{_≡_, refl, sym, ap, _∙_}
 use mathlib.Core.Bool.{false, false≢true}
 use mathlib.Core.List.{List, [], _∷_, _++_, append-assoc}
@@ -6,8 +6,9 @@ use mathlib.Core.Option.{Option, none, some}
 use Prim.Native.Nat.{ℕ, suc, _+_, _^_, _≤_, _<_}
 use native.Mathlib.Nat.{add-zero}
 use native.Mathlib.Numerals.{add-one}
+use native.Mathlib.Decide.{ℕ-discrete}
 use native.Mathlib.Omega.{arith}
-use borrow.Author.Tests.{eq-eqb, ne-eqb, ltb-false}
+use borrow.Author.Tests.{eq-eqb, ne-eqb, lt-ltb, le-ltb, ltb-false}
 use lib.ListN.{length, getD, take, drop, length-append, length-drop, take-append-drop, drop-of-length-le}
 use lib.Seq.{length-take-le, take-at, drop-at, drop-cons, drop-drop, getD-drop}
 use Rattle.words.specs.Numbers.{toLeBytes, fromLeBytes, unsignedAt, withUnsigned}
@@ -23,18 +24,26 @@ use Rattle.fields.specs.Fields.{placeOf, tagOf, head, kindOf, tagged, fi
 use Rattle.fields.specs.Layouts.{startOf, lengthOf, seen, unseen, placed, walk, walked, content}
 use Rattle.fields.specs.Entries.{Entry, headBytes, entryBytes, fileOf, entryOf, Writable, contentSeen, Written}
 use Rattle.fields.proofs.Finding.{Stands, kind-place, same-kind, tag-known, field-end, field-whole, found-inside, found-end}
-use Rattle.fields.proofs.Walking.{seen-yes, seen-no, walk-end, walk-more, walk-ind}
+use Rattle.fields.proofs.Walking.{seen-is, walk-end, walk-more, walk-ind}
 use Rattle.fields.proofs.Parts.{kind-discrete, HasPlaces, unseen-start, unseen-places, start-placed, length-placed, start-kept, length-kept, placed-places}
 
 -- ---- the content of a kind among the entries
 module _ (e : Entry) (es : List Entry) (k : Kind) where
-  entry-here : k ≡ e .kind → entryOf (e ∷ es) k ≡ some (e .bytes)
+  pub entry-here : k ≡ e .kind → entryOf (e ∷ es) k ≡ some (e .bytes)
   unfolding entryOf
   entry-here q = rw (eq-eqb (placeOf k) (placeOf (e .kind)) (ap placeOf q), entryOf)
 
-  entry-next : (k ≡ e .kind → ⊥) → entryOf (e ∷ es) k ≡ entryOf es k
+  pub entry-next : (k ≡ e .kind → ⊥) → entryOf (e ∷ es) k ≡ entryOf es k
   unfolding entryOf
   entry-next n = rw (ne-eqb (placeOf k) (placeOf (e .kind)) (λ q. n (same-kind k (e .kind) q)), entryOf)
+
+-- with rising tags from above t on, no entry has a tag up to t
+pub none-below : (es : List Entry) (t : ℕ) → Writable t es → (k : Kind) → tagOf k ≤ t → entryOf es k ≡ none
+unfolding Writable entryOf
+none-below [] t w k h = refl
+none-below (e ∷ es) t w k h =
+    let n : k ≡ e .kind → ⊥ = λ p. let q = ap placeOf p in let b = w .1 in omega arith in
+    entry-next e es k n ∙ none-below es (tagOf (e .kind)) (w .2) k (let b = w .1 in omega arith)
 
 -- ---- an entry in a file
 -- the field of an entry whose head stands at `at`
@@ -89,9 +98,6 @@ module _ (s : List ℕ) where
   reads-none l = record { passed = refl; found = λ k b q. absurd (false≢true (cc)); kept = λ k q. (refl, refl) }
 
   module _ (e : Entry) (es : List Entry) (at : ℕ) (l : Layout) (h : drop at s ≡ entryBytes e ++ fileOf es) (d : entryOf es (e .kind) ≡ none) (z : HasPlaces l) where
-    other : (k : Kind) (b : List ℕ) → entryOf es k ≡ some b → k ≡ e .kind → ⊥
-    other k b q p = let r = rw p at q in false≢true (cc)
-
     reads-more : (w : Walked) → Reads es (placed l (fieldOf at e)) w → Reads (e ∷ es) l w
     unfolding content
     reads-more w r = record { passed = r .passed; found = λ k. found k (kind-discrete k (e .kind)); kept = λ k. kept k (kind-discrete k (e .kind)) }
@@ -112,25 +118,31 @@ module _ (s : List ℕ) where
             let o = r .kept k (sym (entry-next e es k n) ∙ q) in
             (o .0 ∙ start-kept l (fieldOf at e) k n, o .1 ∙ length-kept l (fieldOf at e) k n)
 
-  reads : (es : List Entry) (at : ℕ) (l : Layout) → drop at s ≡ fileOf es → Writable es → HasPlaces l → ((k : Kind) (b : List ℕ) → entryOf es k ≡ some b → startOf l k ≡ 0) → Reads es l (walk s at l)
+  -- no kind with a tag above t is in the layout
+  abbrev Above : ℕ → Layout → Type 0
+  Above t l = (k : Kind) → t < tagOf k → startOf l k ≡ 0
+
+  reads : (es : List Entry) (at t : ℕ) (l : Layout) → drop at s ≡ fileOf es → Writable t es → HasPlaces l → Above t l → Reads es l (walk s at t l)
   unfolding fileOf Writable
-  reads [] at l h w z u =
+  reads [] at t l h w z u =
       let end : length s ≤ at = let q = sym (length-drop at s) ∙ ap length h in omega arith in
-      rw (walk-end s at l (field-end s at end)) (reads-none l)
-  reads (e ∷ es) at l h w z u =
+      rw (walk-end s at t l (field-end s at end)) (reads-none l)
+  reads (e ∷ es) at t l h w z u =
       let f = fieldOf at e in
+      let b : t < tagOf (e .kind) = w .1 in
       let here = entry-found s at e (fileOf es) h (w .0) in
-      let fresh = seen-no l (e .kind) refl (omega (arith, u (e .kind) (e .bytes) (entry-here e es (e .kind) refl))) in
-      rw (walk-more s at l f here fresh)
-      (reads-more e es at l h (w .1) z _
-      (reads es (f .next) (placed l f) (entry-behind s at e (fileOf es) h) (w .2) (placed-places l f z)
-      (λ k b q. let n = other e es at l h (w .1) z k b q in start-kept l f k n ∙ u k b (entry-next e es k n ∙ q))))
+      let fresh = seen-is l (e .kind) (sym (u (e .kind) b)) refl in
+      let d = none-below es (tagOf (e .kind)) (w .2) (e .kind) (omega arith) in
+      rw (walk-more s at t l f here fresh (le-ltb (tagOf (e .kind)) t (omega arith)))
+      (reads-more e es at l h d z _
+      (reads es (f .next) (tagOf (e .kind)) (placed l f) (entry-behind s at e (fileOf es) h) (w .2) (placed-places l f z)
+      (λ k q. let n : k ≡ e .kind → ⊥ = λ p. let o = ap placeOf p in omega arith in start-kept l f k n ∙ u k (omega arith))))
 
 -- ---- a file that is made of entries passes, and their contents are found
 module _ (s : List ℕ) (w : Written s) where
   whole : Reads s (w .entries) unseen (walked s)
   unfolding walked
-  whole = reads s (w .entries) 0 unseen (w .file) (w .writable) unseen-places (λ k b q. unseen-start k)
+  whole = reads s (w .entries) 0 0 unseen (w .file) (w .writable) unseen-places (λ k h. unseen-start k)
 
   pub written-passes : walked s .checked ≡ Checked.Passed
   written-passes = whole .passed
@@ -140,8 +152,8 @@ module _ (s : List ℕ) (w : Written s) where
   written-contents k = go (entryOf (w .entries) k) refl
     where
       go : (o : Option (List ℕ)) → entryOf (w .entries) k ≡ o → contentSeen s (walked s .layout) k ≡ o
-      go none q = rw (seen-no (walked s .layout) k refl (omega (arith, whole .kept k q .0, unseen-start k)), contentSeen)
-      go (some b) q = let f = whole .found k b q in rw (seen-yes (walked s .layout) k refl (f .0), contentSeen) (ap some (f .1))
+      go none q = rw (seen-is (walked s .layout) k (sym (whole .kept k q .0 ∙ unseen-start k)) refl, contentSeen)
+      go (some b) q = let f = whole .found k b q in rw (seen-is (walked s .layout) k refl (lt-ltb _ _ (f .0)), contentSeen) (ap some (f .1))
 
 -- ---- a file that passes is made of entries
 module _ (s : List ℕ) (v : AllBytes s) where
@@ -175,37 +187,57 @@ module _ (s : List ℕ) (v : AllBytes s) where
         ∙ rw (tag, ← add-one at, number-bytes 2 (at + 1) (omega arith), number, content-behind)
         (ap (λ (t : List ℕ). tagOf (f .kind) ∷ t) (sym (append-assoc (toLeBytes 2 (length (entryAt f .bytes))) (entryAt f .bytes) (drop (f .next) s))))
 
-  -- the entries from a place on, of kinds that the layout does not have
-  record Behind (at : ℕ) (l : Layout) : Type 0 where
+  -- the entries from a place on, behind the tag t
+  record Behind (at t : ℕ) : Type 0 where
     entries : List Entry
-    writable : Writable entries
+    writable : Writable t entries
     file : drop at s ≡ fileOf entries
-    fresh : (k : Kind) → 0 < startOf l k → entryOf entries k ≡ none
 
-  behind-end : (at : ℕ) (l : Layout) → fieldAt s at ≡ Found.End → Behind at l
-  unfolding Writable fileOf entryOf
-  behind-end at l e = record { entries = []; writable = tt; file = drop-of-length-le s (found-end s at e); fresh = λ k h. refl }
+  behind-end : (at t : ℕ) → fieldAt s at ≡ Found.End → Behind at t
+  unfolding Writable fileOf
+  behind-end at t e = record { entries = []; writable = tt; file = drop-of-length-le s (found-end s at e) }
 
-  behind-more : (at : ℕ) (l : Layout) (f : Field) → fieldAt s at ≡ Found.Here f → seen l (f .kind) ≡ false → HasPlaces l → Behind (f .next) (placed l f) → Behind at l
-  unfolding Writable fileOf seen
-  behind-more at l f e t z b =
-      let w = found-inside s at f e in
-      let u : startOf l (f .kind) ≤ 0 = ltb-false 0 (startOf l (f .kind)) t in
+  -- the walk has met the tag that it carries, where that is one
+  record Carries (t : ℕ) (l : Layout) : Type 0 where
+    places : HasPlaces l
+    met : (k : Kind) → tagOf k ≡ t → 0 < startOf l k
+
+  carries-none : Carries 0 unseen
+  carries-none = record { places = unseen-places; met = λ k e. absurd (omega arith) }
+
+  carries-placed : (at t : ℕ) (l : Layout) (f : Field) → Stands s at f → Carries t l → Carries (tagOf (f .kind)) (placed l f)
+  carries-placed at t l f w c =
+      record {
+        places = placed-places l f (c .places);
+        met = λ k e. let p = same-kind k (f .kind) (omega arith) in rw p (omega (arith, start-placed l f (c .places)));
+      }
+
+  -- so a field that is neither again nor below it has a tag above it
+  above : (t : ℕ) (l : Layout) (k : Kind) → Carries t l → seen l k ≡ false → t ≤ tagOf k → t < tagOf k
+  unfolding seen
+  above t l k c q h = go (ℕ-discrete (tagOf k) t)
+    where
+      go : Dec (tagOf k ≡ t) → t < tagOf k
+      go (yes e) = absurd (omega (arith, c .met k e, ltb-false 0 (startOf l k) q))
+      go (no n) = omega arith
+
+  behind-more : (at t : ℕ) (f : Field) → Stands s at f → t < tagOf (f .kind) → Behind (f .next) (tagOf (f .kind)) → Behind at t
+  unfolding Writable fileOf
+  behind-more at t f w h b =
       record {
         entries = entryAt f ∷ b .entries;
-        writable = (omega (arith, unsignedAt-below 2 s (at + 1) v, content-size at f w), b .fresh (f .kind) (omega (arith, start-placed l f z)), b .writable);
-        file = entry-stands at f w ∙ ap (λ (t : List ℕ). entryBytes (entryAt f) ++ t) (b .file);
-        fresh = λ k h.
-            let n : k ≡ f .kind → ⊥ = λ p. let q = ap (startOf l) p in omega arith in
-            entry-next (entryAt f) (b .entries) k n ∙ b .fresh k (rw (start-kept l f k n) h);
+        writable = (omega (arith, unsignedAt-below 2 s (at + 1) v, content-size at f w), h, b .writable);
+        file = entry-stands at f w ∙ ap (λ (r : List ℕ). entryBytes (entryAt f) ++ r) (b .file);
       }
 
   pub passed-written : walked s .checked ≡ Checked.Passed → Written s
   unfolding walked
   passed-written p =
       let b =
-      walk-ind s (λ at l w. HasPlaces l → w .checked ≡ Checked.Passed → Behind at l)
-      (λ at l f w e t r z p. behind-more at l f e t z (r (placed-places l f z) p))
-      (λ at l e z p. behind-end at l e) (λ at l r z p. absurd (false≢true (cc))) 0 unseen unseen-places p
+      walk-ind s (λ at t l w. Carries t l → w .checked ≡ Checked.Passed → Behind at t)
+      (λ at t l f w e q h r c p.
+      let i = found-inside s at f e in
+      behind-more at t f i (above t l (f .kind) c q h) (r (carries-placed at t l f i c) p))
+      (λ at t l e c p. behind-end at t e) (λ at t l r c p. absurd (false≢true (cc))) 0 0 unseen carries-none p
       in
       record { entries = b .entries; writable = b .writable; file = b .file }

@@ -4,7 +4,7 @@ use mathlib.Core.List.{List, [], _∷_, map}
 use Prim.Native.Nat.{ℕ, _-_}
 use lib.ListN.{replicate}
 use Rattle.words.specs.Numbers.{fromLeBytes, unsignedAt}
-use Rattle.tables.specs.declared.Refusal.the-variants.{Cut, Tag, Again}
+use Rattle.tables.specs.declared.Refusal.the-variants.{Cut, Tag, Again, Falling}
 use Rattle.tables.specs.declared.Checked.the-variants.{Passed, Refused}
 use Rattle.fields.specs.declared.field.Kind.{Kind}
 use Rattle.fields.specs.declared.field.Kind.the-variants as Kind
@@ -50,6 +50,14 @@ lines =
     ∷ record { file = 1 ∷ 1 ∷ 0 ∷ 8 ∷ 1 ∷ 1 ∷ 0 ∷ 8 ∷ []; expected = record { checked = Refused Again; layout = unseen } }
     -- 11 comes before 12 of a later field
     ∷ record { file = 1 ∷ 1 ∷ 0 ∷ 8 ∷ 0 ∷ 0 ∷ 0 ∷ 1 ∷ 0 ∷ 0 ∷ []; expected = record { checked = Refused Tag; layout = unseen } }
+    -- 19 in the field that falls: not of equal tags, after 12, and before 10 of the next field
+    ∷ record { file = 2 ∷ 0 ∷ 0 ∷ 1 ∷ 0 ∷ 0 ∷ []; expected = record { checked = Refused Falling; layout = unseen } }
+    ∷ record { file = 2 ∷ 0 ∷ 0 ∷ 2 ∷ 0 ∷ 0 ∷ []; expected = record { checked = Refused Again; layout = unseen } }
+    ∷ record { file = 1 ∷ 0 ∷ 0 ∷ 2 ∷ 0 ∷ 0 ∷ 1 ∷ 0 ∷ 0 ∷ []; expected = record { checked = Refused Again; layout = unseen } }
+    ∷ record { file = 1 ∷ 0 ∷ 0 ∷ 3 ∷ 0 ∷ 0 ∷ 2 ∷ 0 ∷ 0 ∷ []; expected = record { checked = Refused Falling; layout = unseen } }
+    ∷ record { file = 3 ∷ 0 ∷ 0 ∷ 2 ∷ 0 ∷ 0 ∷ 4 ∷ []; expected = record { checked = Refused Falling; layout = unseen } }
+    ∷ record { file = 3 ∷ 0 ∷ 0 ∷ 2 ∷ 1 ∷ 0 ∷ []; expected = record { checked = Refused Cut; layout = unseen } }
+    ∷ record { file = 3 ∷ 0 ∷ 0 ∷ 0 ∷ 0 ∷ 0 ∷ []; expected = record { checked = Refused Tag; layout = unseen } }
     ∷ record { file = caseP; expected = record { checked = Passed; layout = layoutP } }
     ∷ []
 

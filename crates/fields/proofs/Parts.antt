@@ -86,10 +86,10 @@ module _ (s : List ℕ) where
   unfolding walked
   laid =
       let none : Laid unseen = record { places = unseen-places; inside = unseen-inside } in
-      walk-ind s (λ at l w. Laid l → Laid (w .layout))
-      (λ at l f w e t r p.
+      walk-ind s (λ at t l w. Laid l → Laid (w .layout))
+      (λ at t l f w e q h r p.
       r (record { places = placed-places l f (p .places); inside = placed-inside at l f (found-inside s at f e) (p .places) (p .inside) }))
-      (λ at l e p. p) (λ at l r p. none) 0 unseen none
+      (λ at t l e p. p) (λ at t l r p. none) 0 0 unseen none
 
   pub walked-inside : Inside s (walked s .layout)
   walked-inside = laid .inside

@@ -6,9 +6,10 @@ use Prim.Native.Nat.{ℕ, zero, suc, _+_, _≤_, _<_}
 use native.Mathlib.Numerals.{add-one}
 use native.Mathlib.Omega.{arith}
 use lib.ListN.{length}
-use borrow.Author.Tests.{lt-ltb, le-ltb}
+use lib.Dec.{ltb}
+use borrow.Author.Tests.{ltb-false}
 use Rattle.tables.specs.declared.Refusal.{Refusal}
-use Rattle.tables.specs.declared.Refusal.the-variants.{Again}
+use Rattle.tables.specs.declared.Refusal.the-variants.{Again, Falling}
 use Rattle.tables.specs.declared.Checked.the-variants as Checked
 use Rattle.fields.specs.declared.field.Kind.{Kind}
 use Rattle.fields.specs.declared.field.Field.{Field}
@@ -16,40 +17,46 @@ use Rattle.fields.specs.declared.field.Found.{Found}
 use Rattle.fields.specs.declared.field.Found.the-variants as Found
 use Rattle.fields.specs.declared.layout.Layout.{Layout}
 use Rattle.fields.specs.declared.layout.Walked.{Walked}
-use Rattle.fields.specs.Fields.{head, fieldAt}
+use Rattle.fields.specs.Fields.{tagOf, head, fieldAt}
 use Rattle.fields.specs.Layouts.{startOf, seen, placed, stopped, walkOn, walkFields, walk}
 use Rattle.fields.proofs.Finding.{field-end, found-inside}
 
 -- ---- one turn
--- the code's test of a kind that was seen
-module _ (l : Layout) (k : Kind) {start : ℕ} where
-  pub seen-yes : start ≡ startOf l k → 0 < start → seen l k ≡ true
-  unfolding seen
-  seen-yes e h = lt-ltb 0 (startOf l k) (omega arith)
+-- the code's tests: of a kind that was seen, and of a tag below the one before it
+pub seen-is : (l : Layout) (k : Kind) {start : ℕ} {b : Bool} → start ≡ startOf l k → ltb 0 start ≡ b → seen l k ≡ b
+unfolding seen
+seen-is l k e h = ap (ltb 0) (sym e) ∙ h
 
-  pub seen-no : start ≡ startOf l k → start ≤ 0 → seen l k ≡ false
-  unfolding seen
-  seen-no e h = le-ltb 0 (startOf l k) (omega arith)
+pub falls-is : (k : Kind) (t : ℕ) {tag : ℕ} {b : Bool} → tag ≡ tagOf k → ltb tag t ≡ b → ltb (tagOf k) t ≡ b
+falls-is k t e h = ap (λ (n : ℕ). ltb n t) (sym e) ∙ h
 
-module _ (l : Layout) (next : ℕ → Layout → Walked) where
-  after : Field → Bool → Walked
-  after f b = elim b [ true ↦ stopped Again | false ↦ next (f .next) (placed l f) ]
+module _ (t : ℕ) (l : Layout) (next : ℕ → ℕ → Layout → Walked) (f : Field) where
+  rising : Bool → Walked
+  rising b = elim b [ true ↦ stopped Falling | false ↦ next (f .next) (tagOf (f .kind)) (placed l f) ]
 
-  on-again : (f : Field) → seen l (f .kind) ≡ true → walkOn (Found.Here f) l next ≡ stopped Again
-  unfolding walkOn after
-  on-again f e = ap (after f) e
+  after : Bool → Walked
+  after b = elim b [ true ↦ stopped Again | false ↦ rising (ltb (tagOf (f .kind)) t) ]
 
-  on-more : (f : Field) → seen l (f .kind) ≡ false → walkOn (Found.Here f) l next ≡ next (f .next) (placed l f)
-  unfolding walkOn after
-  on-more f e = ap (after f) e
+  on-again : seen l (f .kind) ≡ true → walkOn (Found.Here f) t l next ≡ stopped Again
+  unfolding walkOn after rising
+  on-again e = ap after e
+
+  on-falling : seen l (f .kind) ≡ false → ltb (tagOf (f .kind)) t ≡ true → walkOn (Found.Here f) t l next ≡ stopped Falling
+  unfolding walkOn after rising
+  on-falling e h = ap after e ∙ ap rising h
+
+  on-more : seen l (f .kind) ≡ false → ltb (tagOf (f .kind)) t ≡ false → walkOn (Found.Here f) t l next ≡ next (f .next) (tagOf (f .kind)) (placed l f)
+  unfolding walkOn after rising
+  on-more e h = ap after e ∙ ap rising h
 
 -- the rest of the walk counts only where the field at hand ends
-on-ext : (r : Found) (l : Layout) (g h : ℕ → Layout → Walked) → ((f : Field) → r ≡ Found.Here f → g (f .next) (placed l f) ≡ h (f .next) (placed l f)) → walkOn r l g ≡ walkOn r l h
+on-ext : (r : Found) (t : ℕ) (l : Layout) (g h : ℕ → ℕ → Layout → Walked) →
+    ((f : Field) → r ≡ Found.Here f → g (f .next) (tagOf (f .kind)) (placed l f) ≡ h (f .next) (tagOf (f .kind)) (placed l f)) → walkOn r t l g ≡ walkOn r t l h
 unfolding walkOn
-on-ext (Found.Here f) l g h e =
-    ap (λ (w : Walked). elim (seen l (f .kind)) [ true ↦ stopped Again | false ↦ w ]) (e f refl)
-on-ext Found.End l g h e = refl
-on-ext (Found.Refused r) l g h e = refl
+on-ext (Found.Here f) t l g h e =
+    ap (λ (w : Walked). elim (seen l (f .kind)) [ true ↦ stopped Again | false ↦ elim (ltb (tagOf (f .kind)) t) [ true ↦ stopped Falling | false ↦ w ] ]) (e f refl)
+on-ext Found.End t l g h e = refl
+on-ext (Found.Refused r) t l g h e = refl
 
 -- ---- turns enough
 module _ (s : List ℕ) where
@@ -58,61 +65,68 @@ module _ (s : List ℕ) where
   next-behind at f e = let w = found-inside s at f e in omega arith
 
   -- past the end there is no field, so no turn is missed there
-  none-missed : (n at : ℕ) (l : Layout) → length s ≤ at → walkFields n s at l ≡ record { checked = Checked.Passed; layout = l }
+  none-missed : (n at t : ℕ) (l : Layout) → length s ≤ at → walkFields n s at t l ≡ record { checked = Checked.Passed; layout = l }
   unfolding walkFields walkOn
-  none-missed zero at l h = refl
-  none-missed (suc n) at l h = rw (field-end s at h)
+  none-missed zero at t l h = refl
+  none-missed (suc n) at t l h = rw (field-end s at h)
 
   -- two numbers of turns that reach past the end give the same walk
-  pub turns-enough : (n m at : ℕ) (l : Layout) → length s < at + n → length s < at + m → walkFields n s at l ≡ walkFields m s at l
+  pub turns-enough : (n m at t : ℕ) (l : Layout) → length s < at + n → length s < at + m → walkFields n s at t l ≡ walkFields m s at t l
   unfolding walkFields
-  turns-enough zero m at l h k = sym (none-missed m at l (omega arith))
-  turns-enough (suc n) zero at l h k = none-missed (suc n) at l (omega arith)
-  turns-enough (suc n) (suc m) at l h k =
-      on-ext (fieldAt s at) l (walkFields n s) (walkFields m s)
-      (λ f e. turns-enough n m (f .next) (placed l f) (omega (arith, next-behind at f e)) (omega (arith, next-behind at f e)))
+  turns-enough zero m at t l h k = sym (none-missed m at t l (omega arith))
+  turns-enough (suc n) zero at t l h k = none-missed (suc n) at t l (omega arith)
+  turns-enough (suc n) (suc m) at t l h k =
+      on-ext (fieldAt s at) t l (walkFields n s) (walkFields m s)
+      (λ f e. turns-enough n m (f .next) (tagOf (f .kind)) (placed l f) (omega (arith, next-behind at f e)) (omega (arith, next-behind at f e)))
 
   -- the walk goes on as if its turns were not counted
-  pub walk-unfolds : (at : ℕ) (l : Layout) → walk s at l ≡ walkOn (fieldAt s at) l (walk s)
+  pub walk-unfolds : (at t : ℕ) (l : Layout) → walk s at t l ≡ walkOn (fieldAt s at) t l (walk s)
   unfolding walk walkFields
-  walk-unfolds at l =
-      ap (λ (n : ℕ). walkFields n s at l) (add-one (length s))
-      ∙ on-ext (fieldAt s at) l (walkFields (length s) s) (walk s)
-      (λ f e. turns-enough (length s) (length s + 1) (f .next) (placed l f) (omega (arith, next-behind at f e)) (omega (arith, next-behind at f e)))
+  walk-unfolds at t l =
+      ap (λ (n : ℕ). walkFields n s at t l) (add-one (length s))
+      ∙ on-ext (fieldAt s at) t l (walkFields (length s) s) (walk s)
+      (λ f e. turns-enough (length s) (length s + 1) (f .next) (tagOf (f .kind)) (placed l f) (omega (arith, next-behind at f e)) (omega (arith, next-behind at f e)))
 
-  module _ (at : ℕ) (l : Layout) where
-    pub walk-end : fieldAt s at ≡ Found.End → walk s at l ≡ record { checked = Checked.Passed; layout = l }
+  module _ (at t : ℕ) (l : Layout) where
+    pub walk-end : fieldAt s at ≡ Found.End → walk s at t l ≡ record { checked = Checked.Passed; layout = l }
     unfolding walkOn
-    walk-end e = walk-unfolds at l ∙ rw e
+    walk-end e = walk-unfolds at t l ∙ rw e
 
-    pub walk-refused : (r : Refusal) → fieldAt s at ≡ Found.Refused r → walk s at l ≡ stopped r
+    pub walk-refused : (r : Refusal) → fieldAt s at ≡ Found.Refused r → walk s at t l ≡ stopped r
     unfolding walkOn
-    walk-refused r e = walk-unfolds at l ∙ rw e
+    walk-refused r e = walk-unfolds at t l ∙ rw e
 
-    pub walk-again : (f : Field) → fieldAt s at ≡ Found.Here f → seen l (f .kind) ≡ true → walk s at l ≡ stopped Again
-    walk-again f e t = walk-unfolds at l ∙ rw e (on-again l (walk s) f t)
+    module _ (f : Field) (e : fieldAt s at ≡ Found.Here f) where
+      pub walk-again : seen l (f .kind) ≡ true → walk s at t l ≡ stopped Again
+      walk-again b = walk-unfolds at t l ∙ rw e (on-again t l (walk s) f b)
 
-    pub walk-more : (f : Field) → fieldAt s at ≡ Found.Here f → seen l (f .kind) ≡ false → walk s at l ≡ walk s (f .next) (placed l f)
-    walk-more f e t = walk-unfolds at l ∙ rw e (on-more l (walk s) f t)
+      pub walk-falling : seen l (f .kind) ≡ false → ltb (tagOf (f .kind)) t ≡ true → walk s at t l ≡ stopped Falling
+      walk-falling b h = walk-unfolds at t l ∙ rw e (on-falling t l (walk s) f b h)
+
+      pub walk-more : seen l (f .kind) ≡ false → ltb (tagOf (f .kind)) t ≡ false → walk s at t l ≡ walk s (f .next) (tagOf (f .kind)) (placed l f)
+      walk-more b h = walk-unfolds at t l ∙ rw e (on-more t l (walk s) f b h)
 
 -- ---- an induction over the turns, for any claim on where the walk stands and what comes of it
-module _ (s : List ℕ) (R : ℕ → Layout → Walked → Type 0)
-    (more : (at : ℕ) (l : Layout) (f : Field) (w : Walked) → fieldAt s at ≡ Found.Here f → seen l (f .kind) ≡ false → R (f .next) (placed l f) w → R at l w)
-    (end : (at : ℕ) (l : Layout) → fieldAt s at ≡ Found.End → R at l (record { checked = Checked.Passed; layout = l }))
-    (stop : (at : ℕ) (l : Layout) (r : Refusal) → R at l (stopped r)) where
-  module _ (at : ℕ) (l : Layout) (rest : (f : Field) → fieldAt s at ≡ Found.Here f → R (f .next) (placed l f) (walk s (f .next) (placed l f))) where
-    field-turn : (f : Field) → fieldAt s at ≡ Found.Here f → (b : Bool) → seen l (f .kind) ≡ b → R at l (walk s at l)
-    field-turn f e true t = rw (walk-again s at l f e t) (stop at l Again)
-    field-turn f e false t = rw (walk-more s at l f e t) (more at l f _ e t (rest f e))
+module _ (s : List ℕ) (R : ℕ → ℕ → Layout → Walked → Type 0)
+    (more : (at t : ℕ) (l : Layout) (f : Field) (w : Walked) → fieldAt s at ≡ Found.Here f → seen l (f .kind) ≡ false → t ≤ tagOf (f .kind) →
+        R (f .next) (tagOf (f .kind)) (placed l f) w → R at t l w)
+    (end : (at t : ℕ) (l : Layout) → fieldAt s at ≡ Found.End → R at t l (record { checked = Checked.Passed; layout = l }))
+    (stop : (at t : ℕ) (l : Layout) (r : Refusal) → R at t l (stopped r)) where
+  module _ (at t : ℕ) (l : Layout)
+      (rest : (f : Field) → fieldAt s at ≡ Found.Here f → R (f .next) (tagOf (f .kind)) (placed l f) (walk s (f .next) (tagOf (f .kind)) (placed l f))) where
+    field-turn : (f : Field) → fieldAt s at ≡ Found.Here f → (b c : Bool) → seen l (f .kind) ≡ b → ltb (tagOf (f .kind)) t ≡ c → R at t l (walk s at t l)
+    field-turn f e true c q h = rw (walk-again s at t l f e q) (stop at t l Again)
+    field-turn f e false true q h = rw (walk-falling s at t l f e q h) (stop at t l Falling)
+    field-turn f e false false q h = rw (walk-more s at t l f e q h) (more at t l f _ e q (ltb-false (tagOf (f .kind)) t h) (rest f e))
 
-    turn : (r : Found) → fieldAt s at ≡ r → R at l (walk s at l)
-    turn (Found.Here f) e = field-turn f e (seen l (f .kind)) refl
-    turn Found.End e = rw (walk-end s at l e) (end at l e)
-    turn (Found.Refused r) e = rw (walk-refused s at l r e) (stop at l r)
+    turn : (r : Found) → fieldAt s at ≡ r → R at t l (walk s at t l)
+    turn (Found.Here f) e = field-turn f e (seen l (f .kind)) (ltb (tagOf (f .kind)) t) refl refl
+    turn Found.End e = rw (walk-end s at t l e) (end at t l e)
+    turn (Found.Refused r) e = rw (walk-refused s at t l r e) (stop at t l r)
 
-  turns : (n at : ℕ) (l : Layout) → length s < at + n → R at l (walk s at l)
-  turns zero at l h = turn at l (λ f e. absurd (omega (arith, found-inside s at f e))) (fieldAt s at) refl
-  turns (suc n) at l h = turn at l (λ f e. turns n (f .next) (placed l f) (omega (arith, next-behind s at f e))) (fieldAt s at) refl
+  turns : (n at t : ℕ) (l : Layout) → length s < at + n → R at t l (walk s at t l)
+  turns zero at t l h = turn at t l (λ f e. absurd (omega (arith, found-inside s at f e))) (fieldAt s at) refl
+  turns (suc n) at t l h = turn at t l (λ f e. turns n (f .next) (tagOf (f .kind)) (placed l f) (omega (arith, next-behind s at f e))) (fieldAt s at) refl
 
-  pub walk-ind : (at : ℕ) (l : Layout) → R at l (walk s at l)
-  walk-ind at l = turns (length s + 1) at l (omega arith)
+  pub walk-ind : (at t : ℕ) (l : Layout) → R at t l (walk s at t l)
+  walk-ind at t l = turns (length s + 1) at t l (omega arith)

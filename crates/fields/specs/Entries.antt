@@ -1,8 +1,8 @@
--- A file as it is written: fields of different kinds, one after the other. The walk passes exactly these files, and finds these contents
--- (proofs/Entries).
+-- A file as it is written: fields with rising tags, one after the other. The walk passes exactly these files, and finds these contents
+-- (proofs/Entries). With all kinds there is one such file of given contents (proofs/Whole).
 use mathlib.Core.Path.{_≡_}
 use mathlib.Core.Bool.{true, false}
-use mathlib.Core.List.{List, [], _∷_, _++_}
+use mathlib.Core.List.{List, [], _∷_, _++_, map}
 use mathlib.Core.Option.{Option, none, some}
 use Prim.Native.Nat.{ℕ, _+_, _^_, _<_}
 use lib.Dec.{eqb}
@@ -10,7 +10,7 @@ use lib.ListN.{length}
 use Rattle.words.specs.Numbers.{toLeBytes}
 use Rattle.fields.specs.declared.field.Kind.{Kind}
 use Rattle.fields.specs.declared.layout.Layout.{Layout}
-use Rattle.fields.specs.Fields.{placeOf, tagOf}
+use Rattle.fields.specs.Fields.{kinds, placeOf, tagOf}
 use Rattle.fields.specs.Layouts.{seen, content}
 
 -- a field's kind and its content
@@ -35,10 +35,10 @@ unfoldable pub entryOf : List Entry → Kind → Option (List ℕ)
 entryOf [] k = none
 entryOf (e ∷ es) k = elim (eqb (placeOf k) (placeOf (e .kind))) [ true ↦ some (e .bytes) | false ↦ entryOf es k ]
 
--- two bytes hold each length, and no two entries are of the same kind
-unfoldable pub Writable : List Entry → Type 0
-Writable [] = Unit
-Writable (e ∷ es) = (length (e .bytes) < 256 ^ 2) × (entryOf es (e .kind) ≡ none) × Writable es
+-- two bytes hold each length, and the tags rise from above t on
+unfoldable pub Writable : ℕ → List Entry → Type 0
+Writable t [] = Unit
+Writable t (e ∷ es) = (length (e .bytes) < 256 ^ 2) × (t < tagOf (e .kind)) × Writable (tagOf (e .kind)) es
 
 -- the content of a kind in a file with this layout
 unfoldable pub contentSeen : List ℕ → Layout → Kind → Option (List ℕ)
@@ -47,5 +47,15 @@ contentSeen s l k = elim (seen l k) [ true ↦ some (content s l k) | false ↦ 
 -- s is a file of entries
 pub record Written (s : List ℕ) : Type 0 where
   pub entries : List Entry
-  pub writable : Writable entries
+  pub writable : Writable 0 entries
   pub file : s ≡ fileOf entries
+
+-- R16.3: an entry of each kind, in the order of their tags, with the content that c gives it; and the file of them
+abbrev pub entryWith : (Kind → List ℕ) → Kind → Entry
+entryWith c k = record { kind = k; bytes = c k }
+
+abbrev pub allEntries : (Kind → List ℕ) → List Entry
+allEntries c = map (entryWith c) kinds
+
+unfoldable pub wholeFile : (Kind → List ℕ) → List ℕ
+wholeFile c = fileOf (allEntries c)

@@ -3,7 +3,7 @@ ghost use mathlib.Core.Path.{_≡_};
 ghost use Prim.Native.Nat.{_+_, _≤_};
 ghost use lib.ListN.{length};
 ghost use Rattle.words.specs.Numbers.{unsignedAt};
-ghost use Rattle.fields.specs.Fields.{placeOf, kindOf, head, fieldAt};
+ghost use Rattle.fields.specs.Fields.{placeOf, tagOf, kindOf, head, fieldAt};
 use tables::Refusal;
 
 // A field's head: one byte of tag, two of length.
@@ -73,6 +73,13 @@ pub fn place_of(kind: Kind) -> usize
         Kind::Centre => 5,
         Kind::LinearHigh => 6,
     }
+}
+
+// A kind's tag.
+pub fn tag_of(kind: Kind) -> usize
+    ensures { λ r. ⌜ r ≡ tagOf kind ⌝ }
+{
+    place_of(kind) + 1
 }
 
 // The length in a field's head: two bytes, low byte first.

@@ -9,6 +9,7 @@ use crate::field::KINDS;
 use crate::field::Kind;
 use crate::field::field_at;
 use crate::field::place_of;
+use crate::field::tag_of;
 use tables::Checked;
 use tables::Refusal;
 
@@ -72,22 +73,30 @@ fn placed(layout: Layout, field: Field) -> Layout
     next
 }
 
-// The layout of the file's fields, one after the other, or the first refusal of 10, 11 and 12, with no field.
+// The layout of the file's fields, one after the other, or the first refusal of 10, 11, 12 and 19, with no field.
 pub fn walk(file: &[u8]) -> Walked
     ensures { λ r. ⌜ r ≡ walked (now (file .entry)) ⌝ }
 {
     let mut layout = unseen();
     let mut at = 0;
+    let mut last = 0;
     loop {
         let found = field_at(file, at);
         match found {
             Found::Here(field) => {
                 let kind = field.kind;
-                if 0 < start_of(layout, kind) {
+                let tag = tag_of(kind);
+                let again = 0 < start_of(layout, kind);
+                let falls = tag < last;
+                if again {
                     return stopped(Refusal::Again);
+                }
+                if falls {
+                    return stopped(Refusal::Falling);
                 }
                 layout = placed(layout, field);
                 at = field.next;
+                last = tag;
             }
             Found::End => {
                 return Walked {

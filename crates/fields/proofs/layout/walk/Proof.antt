@@ -8,15 +8,15 @@ use Rattle.fields.specs.declared.field.Found.the-variants as Found
 use Rattle.fields.specs.Fields.{fieldAt}
 use Rattle.fields.specs.Layouts.{walk, walked}
 use Rattle.fields.proofs.Finding.{found-inside}
-use Rattle.fields.proofs.Walking.{seen-yes, seen-no, walk-end, walk-refused, walk-again, walk-more}
+use Rattle.fields.proofs.Walking.{seen-is, falls-is, walk-end, walk-refused, walk-again, walk-falling, walk-more}
 use Rattle.fields.proofs.layout.walk.Statement.{statement}
 use Rattle.fields.proofs.layout.walk.Tie as tie
 
 abbrev Inv-loop : tie.InvT-loop
-Inv-loop file layout₀ at₀ layout at = (at ≤ length file) × (walked file ≡ walk file at layout)
+Inv-loop file layout₀ at₀ last₀ layout at last = (at ≤ length file) × (walked file ≡ walk file at last layout)
 
 abbrev μ-loop : tie.MeasureT-loop
-μ-loop file layout₀ at₀ layout at = length file - at
+μ-loop file layout₀ at₀ last₀ layout at last = length file - at
 
 -- the field at hand
 here : (c : tie.After-known-told Inv-loop μ-loop) → let l = c .before .before .before .before in fieldAt (l .before .before .before .args .file .now) (l .loop .at) ≡ Found.Here (c .before .found .given .0 .0)
@@ -33,28 +33,39 @@ walk-spec =
     (λ c κs. search needs)
     (λ c. search needs)
     (λ c κs. search needs)
+    (λ c κs. search needs)
     -- again
     (λ c κs. search needs)
     (λ c.
-    let t = c .before in
+    let t = c .before .before in
     let d = t .before .before in
-    c .stopped .ensures ∙ sym (d .before .before .before .before .loop .inv .1 ∙ walk-again _ _ _ _ (here d) (seen-yes _ _ (t .before .start-of .ensures) (omega arith))))
+    c .stopped .ensures ∙ sym (d .before .before .before .before .loop .inv .1 ∙ walk-again _ _ _ _ _ (here d) (seen-is _ _ (t .start-of .ensures) (c .before .if1 .taken))))
+    -- falling
+    (λ c κs. search needs)
+    (λ c.
+    let t = c .before .before .before in
+    let d = t .before .before in
+    c .stopped2 .ensures
+    ∙ sym (d .before .before .before .before .loop .inv .1
+    ∙ walk-falling _ _ _ _ _ (here d) (seen-is _ _ (t .start-of .ensures) (c .before .before .if1 .left)) (falls-is (d .before .found .given .0 .0 .kind) _ (t .before .tag-of .ensures) (c .before .if2 .taken))))
     (λ c κs. search needs)
     -- the measure, the invariant again
-    (λ c. let d = c .before .before .before in omega (arith, found-inside _ _ _ (here d)))
+    (λ c. let d = c .before .before .before .before .before in omega (arith, found-inside _ _ _ (here d)))
     (λ c.
-    let d = c .before .before .before in (
+    let t = c .before .before .before in
+    let d = t .before .before in (
       omega (arith, found-inside _ _ _ (here d)),
       d .before .before .before .before .loop .inv .1
-          ∙ walk-more _ _ _ _ (here d) (seen-no _ _ (c .before .before .start-of .ensures) (omega arith)) ∙ rw (c .placed .ensures),
+          ∙ walk-more _ _ _ _ _ (here d) (seen-is _ _ (t .start-of .ensures) (c .before .before .if1 .left)) (falls-is (d .before .found .given .0 .0 .kind) _ (t .before .tag-of .ensures) (c .before .if2 .left))
+          ∙ rw (c .placed .ensures, t .before .tag-of .ensures),
     ))
     -- the end
     (λ c. search needs)
-    (λ c. sym (c .before .before .before .loop .inv .1 ∙ walk-end _ _ _ (sym (c .before .before .field-at .ensures) ∙ c .enum-told .given .1)))
+    (λ c. sym (c .before .before .before .loop .inv .1 ∙ walk-end _ _ _ _ (sym (c .before .before .field-at .ensures) ∙ c .enum-told .given .1)))
     -- a refusal
     (λ c. search needs)
     (λ c κs. search needs)
     (λ c.
     let t = c .before .before in
     let d = t .before .before in
-    c .stopped2 .ensures ∙ sym (d .before .loop .inv .1 ∙ walk-refused _ _ _ _ (sym (d .field-at .ensures) ∙ t .found2 .given .1))))
+    c .stopped3 .ensures ∙ sym (d .before .loop .inv .1 ∙ walk-refused _ _ _ _ _ (sym (d .field-at .ensures) ∙ t .found2 .given .1))))
