@@ -2,7 +2,7 @@
 use mathlib.Core.Path.{_≡_, refl, sym, ap, _∙_}
 use mathlib.Core.Bool.{false≢true}
 use mathlib.Core.List.{List, [], _∷_}
-use Prim.Native.Nat.{ℕ, _+_, _≤_, _<_}
+use Prim.Native.Nat.{ℕ, zero, suc, _+_, _≤_, _<_}
 use native.Mathlib.Decide.{decLe, ℕ-discrete}
 use native.Mathlib.Omega.{arith}
 use lib.ListN.{length, getD}
@@ -62,6 +62,17 @@ place-below k = kind-place k .1
 -- kinds at one place are the same
 pub same-kind : (a b : Kind) → placeOf a ≡ placeOf b → a ≡ b
 same-kind a b e = cc (kind-place a .0, kind-place b .0)
+
+-- what holds at the place of each kind holds at each place
+pub each-place : (P : ℕ → Type 0) → ((k : Kind) → P (placeOf k)) → (i : ℕ) → i < kindCount → P i
+each-place P f zero h = f Kind.Order
+each-place P f (suc zero) h = f Kind.Low
+each-place P f (suc (suc zero)) h = f Kind.High
+each-place P f (suc (suc (suc zero))) h = f Kind.LinearLow
+each-place P f (suc (suc (suc (suc zero)))) h = f Kind.Limit
+each-place P f (suc (suc (suc (suc (suc zero))))) h = f Kind.Centre
+each-place P f (suc (suc (suc (suc (suc (suc zero)))))) h = f Kind.LinearHigh
+each-place P f (suc (suc (suc (suc (suc (suc (suc n))))))) h = absurd (omega arith)
 
 -- the field f stands at `at`: what its head says, and where its content lies
 pub record Stands (s : List ℕ) (at : ℕ) (f : Field) : Type 0 where

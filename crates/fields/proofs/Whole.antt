@@ -103,6 +103,15 @@ module _ (c : Kind → List ℕ) (b : (k : Kind) → length (c k) < 256 ^ 2) whe
   unfolding whole-written
   whole-found k = content-seen _ _ k (c k) (written-contents (wholeFile c) whole-written k ∙ all-have k)
 
+-- no more than the contents counts
+entries-ext : (c d : Kind → List ℕ) → ((k : Kind) → c k ≡ d k) → (ks : List Kind) → map (entryWith c) ks ≡ map (entryWith d) ks
+entries-ext c d e [] = refl
+entries-ext c d e (k ∷ ks) = rw (e k, entries-ext c d e ks)
+
+pub whole-ext : (c d : Kind → List ℕ) → ((k : Kind) → c k ≡ d k) → wholeFile c ≡ wholeFile d
+unfolding wholeFile
+whole-ext c d e = ap fileOf (entries-ext c d e kinds)
+
 -- a file that passes and has all kinds is the file of its contents
 pub passed-whole : (s : List ℕ) → AllBytes s → walked s .checked ≡ Checked.Passed → ((k : Kind) → seen (walked s .layout) k ≡ true) → s ≡ wholeFile (content s (walked s .layout))
 unfolding wholeFile

@@ -1,4 +1,4 @@
--- The starred cases of docs/RULES.md, W1 to W12 and W24 to W30: what the definitions give, beside what is expected. One list with one proof.
+-- The starred cases of docs/RULES.md, W1 to W12 and W24 to W33: what the definitions give, beside what is expected. One list with one proof.
 use mathlib.Core.Path.{_≡_, refl}
 use mathlib.Core.Bool.{true}
 use mathlib.Core.List.{List, [], _∷_, map}
@@ -14,7 +14,10 @@ use Rattle.tables.specs.Entering.{entered}
 use Rattle.tables.specs.Problem.{problemOf, constraintEntered}
 use Rattle.tables.specs.Answers.{after}
 use Rattle.tables.specs.Members.{PositiveDefinite}
-use Rattle.tables.specs.declared.Refusal.the-variants.{Lopsided, Reversed}
+use Rattle.tables.specs.declared.Refusal.the-variants.{Lopsided, Again, Reversed, Falling}
+use Rattle.tables.specs.declared.Refusal.{Refusal}
+use Rattle.tables.specs.declared.Checked.{Checked}
+use Rattle.tables.specs.declared.Checked.the-variants as Checked
 use Rattle.tables.specs.declared.Answer.{Answer as TestAnswer}
 use Rattle.tables.specs.declared.Answer.the-variants.{Yes}
 use Rattle.cholesky.specs.Scale.{takeOff, scaledBy}
@@ -30,12 +33,17 @@ use Rattle.steps.specs.Steps.{lowered, trial, bits, step, stepAt}
 use Rattle.centre.specs.Centre.{lowGradient, highGradient, gradient, atCentre}
 use Rattle.sides.specs.Sides.{bound, firstHalf, secondBound, smallerHalf, halfSide, sidesFrom, boxOf}
 use Rattle.enclosure.specs.Box.{Box, sides, empty, refused, boxed, problemBox, boxing}
+use Rattle.words.specs.Numbers.{fromLeBytes, unsignedAt}
+use Rattle.fields.specs.Fields.{kindIn, kindOf, tagged, fieldAt}
+use Rattle.fields.specs.Layouts.{startOf, seen, unseen, placed, walkOn, walkFields, walk, walked}
+use Rattle.summary.specs.Problems.{readAs, readWalked, reading}
 
 data Answer : Type 0 where
   verdict : Judgement → Answer
   test : TestAnswer → Answer
   value : ℤ → Answer
   box : Box → Answer
+  file : Checked → Answer
 
 record Line : Type 0 where
   rules : Answer
@@ -65,6 +73,14 @@ boxed-between m a b α c x = boxed-thin 1 (m ∷ []) (a ∷ []) (b ∷ []) α (c
 
 abbrev boxed-one : ℤ → ℤ → ℤ → ℤ → Box → Line
 boxed-one m a α c x = boxed-between m a a α c x
+
+-- a file of fields with no content, and of bytes behind them
+abbrev fieldsOf : List ℕ → List ℕ → List ℕ
+fieldsOf [] s = s
+fieldsOf (t ∷ ts) s = t ∷ 0 ∷ 0 ∷ fieldsOf ts s
+
+abbrev refusedFile : List ℕ → Refusal → Line
+refusedFile s r = record { rules = file (reading s .checked); expected = file (Checked.Refused r) }
 
 -- [1 3; 3 10], and 2^16 times its exact Cholesky factor
 abbrev narrow : List ℤ
@@ -102,10 +118,14 @@ lines =
     ∷ boxed-between (pos 4) (pos 1) (pos 0) (pos 0) (pos 0) (refused Reversed)
     ∷ boxed-between (pos 1) (pos 1) (pos 0) (pos 0) (pos 0) (refused Reversed)
     ∷ boxed-thin 2 (pos 1 ∷ pos 2 ∷ pos 3 ∷ pos 4 ∷ []) (pos 1 ∷ pos 0 ∷ []) (pos 0 ∷ pos 0 ∷ []) (pos 0) (pos 0 ∷ pos 0 ∷ []) (refused Lopsided)
+    -- 19 behind 12 of its field, and before 10 of the next, W31 to W33
+    ∷ refusedFile (fieldsOf (1 ∷ 2 ∷ 1 ∷ []) []) Again
+    ∷ refusedFile (fieldsOf (1 ∷ 3 ∷ 2 ∷ []) []) Falling
+    ∷ refusedFile (fieldsOf (2 ∷ 1 ∷ []) (3 ∷ [])) Falling
     ∷ []
 
 as-printed : map (λ (l : Line). l .rules) lines ≡ map (λ (l : Line). l .expected) lines
-unfolding judging judged listed factorTested factorAnswer factorShape factorEntry accepts rowsPass rowPasses radius residual gram except after entered firstRefusal entryChecks orderOk orderOf boundsChecks endsChecks constraintEntered tablesWithin allWithin nowhereCrossed symmetric same all within factoring columnsFrom nextColumn rows goesOn nextEntry entries takeOff scaledBy at table tabulate form rowWidth leastMember leastValue nonzero shows tried first stoppedFactor solvedEntry solvedRows solved sum only floorDiv wholeRoot rootWithin boxing problemBox linearWithin termsWithin boxed boxOf sidesFrom halfSide smallerHalf secondBound firstHalf bound atCentre gradient highGradient lowGradient step stepAt bits trial lowered absℤ minℤ maxℤ ceilDiv rootAbove leastRoot
+unfolding judging judged listed factorTested factorAnswer factorShape factorEntry accepts rowsPass rowPasses radius residual gram except after entered firstRefusal entryChecks orderOk orderOf boundsChecks endsChecks constraintEntered tablesWithin allWithin nowhereCrossed symmetric same all within factoring columnsFrom nextColumn rows goesOn nextEntry entries takeOff scaledBy at table tabulate form rowWidth leastMember leastValue nonzero shows tried first stoppedFactor solvedEntry solvedRows solved sum only floorDiv wholeRoot rootWithin boxing problemBox linearWithin termsWithin boxed boxOf sidesFrom halfSide smallerHalf secondBound firstHalf bound atCentre gradient highGradient lowGradient step stepAt bits trial lowered absℤ minℤ maxℤ ceilDiv rootAbove leastRoot reading readWalked readAs walked walk walkFields walkOn seen startOf unseen placed fieldAt tagged kindOf kindIn unsignedAt fromLeBytes
 as-printed = refl
 
 -- so every member of [1 3; 3 10], on which the judge is undecided, is positive definite

@@ -1,3 +1,3 @@
 pub mod Spelled
-pub mod AnyOrder
+pub mod OneFile
 pub mod ReadingExamples

@@ -10,7 +10,7 @@ use Rattle.tables.specs.Problem.{problemOf}
 use Rattle.tables.specs.Ranges.{greatestOrder, tableRoom}
 use Rattle.tables.specs.Checks.{all, firstRefusal, orderOk, within, allWithin, nowhereCrossed, same, symmetric, tablesWithin, linearWithin, termsWithin, boundsChecks, endsChecks}
 use Rattle.tables.specs.declared.Refusal.{Refusal}
-use Rattle.tables.specs.declared.Refusal.the-variants.{Order, Range, Crossed, Tag, Absent, Size, Long, Reversed}
+use Rattle.tables.specs.declared.Refusal.the-variants.{Order, Range, Crossed, Tag, Absent, Size, Long, Reversed, Falling}
 use Rattle.tables.specs.declared.Checked.the-variants.{Passed, Refused}
 use Rattle.fields.specs.Fields.{kindIn, kindOf, tagged, fieldAt}
 use Rattle.fields.specs.Layouts.{startOf, lengthOf, seen, unseen, placed, walkOn, walkFields, walk, walked, content}
@@ -65,8 +65,10 @@ record Line : Type 0 where
 abbrev lines : List Line
 lines =
     record { bytes = file (1 ∷ []) 4 (long 2); expected = readingP }
-    -- fields in another order
-    ∷ record { bytes = field 6 (long 2) ++ field 5 (long 0) ++ field 3 (short 4) ++ field 1 (1 ∷ []) ++ field 7 minusEight ++ field 4 minusEight ++ field 2 (short 4); expected = readingP }
+    -- fields in another order: 19, before 13 and before the lengths are looked at
+    ∷ record { bytes = field 1 (1 ∷ []) ++ field 3 (short 4) ++ field 2 (short 4) ++ field 4 minusEight ++ field 5 (long 0) ++ field 6 (long 2) ++ field 7 minusEight; expected = refused Falling }
+    ∷ record { bytes = field 7 minusEight ++ six (1 ∷ []) 4 (long 2); expected = refused Falling }
+    ∷ record { bytes = field 2 (short 4) ++ field 1 (1 ∷ 1 ∷ []); expected = refused Falling }
     -- a high end of its own
     ∷ record { bytes = seven (1 ∷ []) 4 (long 2) (long 3); expected = upTo (pos 3) }
     -- 13, also where a field that is there has another length

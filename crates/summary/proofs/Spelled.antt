@@ -30,7 +30,7 @@ use Rattle.summary.specs.declared.problem.Reading.{Reading}
 use Rattle.summary.specs.Problems.{longest, orderIn, lengthFor, lengthsFor, lengthsOk, fieldChecks, problemIn, noProblem, readAs, readingOf, readIn, readWalked, reading, ProblemRooms, FieldsFit, LetThrough}
 
 -- ---- the lengths of the fields
-called-for : (n : ℕ) (k : Kind) → getD (lengthsFor n) (placeOf k) 0 ≡ lengthFor n k
+pub called-for : (n : ℕ) (k : Kind) → getD (lengthsFor n) (placeOf k) 0 ≡ lengthFor n k
 called-for n Kind.Order = refl
 called-for n Kind.Low = refl
 called-for n Kind.High = refl
@@ -104,6 +104,11 @@ module _ (s : List ℕ) where
     pub reading-stopped : (r : Refusal) → walked s .checked ≡ Checked.Refused r → reading s ≡ readAs (Checked.Refused r) noProblem
     unfolding reading readWalked
     reading-stopped r e = rw (le-leb _ _ h, e, reading, readWalked)
+
+-- a refusal is no problem
+pub refused-not : (r : Refusal) {q : Reading} → q ≡ readAs (Checked.Refused r) noProblem → q .checked ≡ Checked.Passed → ⊥
+unfolding readAs
+refused-not r {q} e p = let o : q .checked ≡ Checked.Refused r = ap (λ (x : Reading). x .checked) e in false≢true (cc)
 
 -- ---- what a problem that is handed out is
 abbrev pub Through : Reading → Type 0

@@ -2,7 +2,7 @@
 use mathlib.Core.Path.{_≡_}
 use mathlib.Core.Bool.{Bool, true, false}
 use mathlib.Core.List.{List, [], _∷_, map}
-use Prim.Native.Nat.{ℕ, _*_, _≤_}
+use Prim.Native.Nat.{ℕ, _+_, _*_, _≤_}
 use lib.Dec.{leb, ltb, eqb}
 use lib.IntN.{pos}
 use lib.ListN.{length, getD, replicate}
@@ -49,6 +49,10 @@ lengthFor n Kind.LinearHigh = n * bytes w64
 abbrev pub lengthsFor : ℕ → List ℕ
 lengthsFor n = map (lengthFor n) kinds
 
+-- R17.6: the length of an accepted file of order n
+abbrev pub fileSize : ℕ → ℕ
+fileSize n = 8 * (n * n) + 24 * n + 30
+
 -- 14: each field has the length that n calls for
 unfoldable pub lengthsOk : Layout → ℕ → Bool
 lengthsOk l n = all kindCount (λ k. eqb (getD (l .lengths) k 0) (getD (lengthsFor n) k 0))
@@ -62,18 +66,21 @@ fieldChecks s l =
     ∷ record { passes = lengthsOk l (orderIn s l); otherwise = Size }
     ∷ []
 
--- R16.2: the problem in the fields, of signed numbers (R1.6)
-unfoldable pub problemIn : List ℕ → Layout → Problem
-problemIn s l =
-    let n : ℕ = orderIn s l in
+-- R16.2: the problem of order n in these contents, of signed numbers (R1.6)
+abbrev pub problemFrom : ℕ → (Kind → List ℕ) → Problem
+problemFrom n c =
     problemOf
     n
-    (paddedNumbersOf w32 tableRoom (content s l Kind.Low) (n * n))
-    (paddedNumbersOf w32 tableRoom (content s l Kind.High) (n * n))
-    (paddedNumbersOf w64 greatestOrder (content s l Kind.LinearLow) n)
-    (paddedNumbersOf w64 greatestOrder (content s l Kind.LinearHigh) n)
-    (signedAt w64 (content s l Kind.Limit) 0)
-    (paddedNumbersOf w64 greatestOrder (content s l Kind.Centre) n)
+    (paddedNumbersOf w32 tableRoom (c Kind.Low) (n * n))
+    (paddedNumbersOf w32 tableRoom (c Kind.High) (n * n))
+    (paddedNumbersOf w64 greatestOrder (c Kind.LinearLow) n)
+    (paddedNumbersOf w64 greatestOrder (c Kind.LinearHigh) n)
+    (signedAt w64 (c Kind.Limit) 0)
+    (paddedNumbersOf w64 greatestOrder (c Kind.Centre) n)
+
+-- the problem in the fields
+unfoldable pub problemIn : List ℕ → Layout → Problem
+problemIn s l = problemFrom (orderIn s l) (content s l)
 
 -- R5.10: a refusal, with zeros for a problem
 unfoldable pub noProblem : Problem

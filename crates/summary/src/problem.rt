@@ -244,7 +244,7 @@ fn read_in(file: &[u8], layout: Layout) -> Reading
     }
 }
 
-// The problem of a summary file, of any bytes at all: 15; then field by field 10, 11, 12; then 13; 14 for tag 01; 1; 14 for the other
+// The problem of a summary file, of any bytes at all: 15; then field by field 10, 11, 12, 19; then 13; 14 for tag 01; 1; 14 for the other
 // tags; 3, 4, 5, 16.
 pub fn read(file: &[u8]) -> Reading
     ensures exact { λ r. ⌜ r ≡ reading (now (file .entry)) ⌝ }
