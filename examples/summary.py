@@ -66,6 +66,7 @@ REFUSALS = {
     14: "size",
     15: "long",
     16: "reversed",
+    19: "falling",
 }
 
 
@@ -180,10 +181,10 @@ def write(problem):
 
 
 def walk(file):
-    """The fields of a file: where each starts, its tag and its content. Refused by 15, then field by field by 10, 11 and 12."""
+    """The fields of a file: where each starts, its tag and its content. Refused by 15, then field by field by 10, 11, 12 and 19."""
     if len(file) > MAX_FILE:
         raise Refused(15, f"the file has more than {MAX_FILE} bytes")
-    at, seen = 0, set()
+    at, seen, last = 0, set(), 0
     while at < len(file):
         rest = len(file) - at
         if rest < HEAD:
@@ -195,7 +196,10 @@ def walk(file):
             raise Refused(11, f"the field at byte {at} has the tag {tag:02X}, which is not one of 01 to 07")
         if tag in seen:
             raise Refused(12, f"the field at byte {at} is a second one with the tag {tag:02X}, {WORD[tag]}")
+        if tag < last:
+            raise Refused(19, f"the field at byte {at} has the tag {tag:02X}, {WORD[tag]}, below {last:02X} before it")
         seen.add(tag)
+        last = tag
         yield at, tag, file[at + HEAD : at + HEAD + length]
         at += HEAD + length
 

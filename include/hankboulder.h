@@ -59,7 +59,7 @@ extern "C" {
 /*
  * The version of this header and of the archive that it is installed with, as numbers and as a string. It is said here alone: the file for
  * pkg-config has it from here. Since 0.2 hb_box has two parameters more, which a linker does not see: header and archive have to be of one
- * version. Since 0.3 there are hb_gather and hb_read_sums.
+ * version. Since 0.3 there are hb_gather and hb_read_sums, and a summary file has its tags rising (19).
  */
 #define HB_VERSION_MAJOR 0
 #define HB_VERSION_MINOR 3
@@ -107,7 +107,8 @@ extern "C" {
 /*
  * What a function returns: an answer, which is 0 or less, or a refusal, which is 1 or more. The checks are made in the order in which the
  * function lists its refusals, each over the whole input before the next, and the number of the first that fails is returned. That order is
- * rising, but 16 stands between 5 and 8, and 17 before all others. 10 to 15 refuse a summary file, and are returned by no function of this header.
+ * rising, but 16 stands between 5 and 8, and 17 before all others. 10 to 15 and 19 refuse a summary file, and are returned by no function of this
+ * header.
  */
 enum {
     HB_UNDECIDED = -2,
@@ -144,7 +145,8 @@ enum {
     HB_REFUSED_LONG = 15,     /* "long": of a file, more than 4096 bytes */
     HB_REFUSED_REVERSED = 16, /* "reversed": of a box, a file or sums, a low linear term is above its high one */
     HB_REFUSED_SAMPLE = 17,   /* "sample": a number of a sample is infinite, not a number, or beyond +-8 */
-    HB_REFUSED_FULL = 18      /* "full": with the sample in it a sum would be beyond its range */
+    HB_REFUSED_FULL = 18,     /* "full": with the sample in it a sum would be beyond its range */
+    HB_REFUSED_FALLING = 19   /* "falling": of a file, a tag below the one before it */
 };
 
 /*
@@ -152,11 +154,11 @@ enum {
  *
  *     static const char *const words[] = HB_REFUSAL_WORDS;
  *
- * words[HB_REFUSED_ORDER] is "order", and so on to words[HB_REFUSED_FULL], "full". words[0] is empty.
+ * words[HB_REFUSED_ORDER] is "order", and so on to words[HB_REFUSED_FALLING], "falling". words[0] is empty.
  */
 #define HB_REFUSAL_WORDS \
     {"", "order", "length", "range", "crossed", "lopsided", "factor", "vector", "flat", "far", "cut", "tag", "again", "absent", "size", \
-     "long", "reversed", "sample", "full"}
+     "long", "reversed", "sample", "full", "falling"}
 
 /*
  * hb_load_number: the number in 8 bytes, signed, low byte first. hb_store_number: puts a number there. On any processor, at any address. They are

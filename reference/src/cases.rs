@@ -1,4 +1,4 @@
-//! The worked cases W1 to W30, and cases for the mistakes that docs/RULES.md
+//! The worked cases W1 to W33, and cases for the mistakes that docs/RULES.md
 //! remarks on. Expected answers are literals.
 
 use std::fmt;
@@ -44,7 +44,7 @@ impl fmt::Display for Case {
     }
 }
 
-/// Every case: W1 to W20, W21 (case P), W24 to W30, then those for the mistakes,
+/// Every case: W1 to W20, W21 (case P), W24 to W33, then those for the mistakes,
 /// W22 and W23 among them.
 pub fn listed_cases() -> Vec<Case> {
     [
@@ -53,6 +53,7 @@ pub fn listed_cases() -> Vec<Case> {
         judged_refusals(),
         vec![case_p()],
         two_ends(),
+        falling_tags(),
         wrong_turns(),
     ]
     .concat()
@@ -121,6 +122,19 @@ fn two_ends() -> Vec<Case> {
             enclosed("[1]", (&[1], &[0]), 0, &[0]),
         ),
         Case::new("box, lopsided, a reversed", "refused 5", lopsided),
+    ]
+}
+
+/// Files whose tags fall.
+fn falling_tags() -> Vec<Case> {
+    let file = |fields: &str, expected: &str| {
+        let subject = format!("file {fields}");
+        Case::new(&subject, expected, output(&bytes(fields)))
+    };
+    vec![
+        file("01 0000, 02 0000, 01 0000", "refused 12"),
+        file("01 0000, 03 0000, 02 0000", "refused 19"),
+        file("02 0000, 01 0000, 03", "refused 19"),
     ]
 }
 

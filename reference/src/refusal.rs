@@ -1,4 +1,4 @@
-//! Refusals 1 to 18: R4.1 to R4.18. Refusal k is rule R4.k.
+//! Refusals 1 to 19: R4.1 to R4.19. Refusal k is rule R4.k.
 
 /// Why a call or a file is refused.
 #[derive(Clone, Copy, Debug, PartialEq, Eq)]
@@ -39,10 +39,12 @@ pub enum Refusal {
     Sample,
     /// 18: a sum that would leave its range
     Full,
+    /// 19, file: a tag below the one before it
+    Falling,
 }
 
 /// Each refusal with its number and its word.
-pub const REFUSALS: [(Refusal, i64, &str); 18] = [
+pub const REFUSALS: [(Refusal, i64, &str); 19] = [
     (Refusal::Order, 1, "order"),
     (Refusal::Length, 2, "length"),
     (Refusal::Range, 3, "range"),
@@ -61,6 +63,7 @@ pub const REFUSALS: [(Refusal, i64, &str); 18] = [
     (Refusal::Reversed, 16, "reversed"),
     (Refusal::Sample, 17, "sample"),
     (Refusal::Full, 18, "full"),
+    (Refusal::Falling, 19, "falling"),
 ];
 
 impl Refusal {

@@ -37,7 +37,7 @@ pub struct Field<'a> {
     pub content: &'a [u8],
 }
 
-/// The fields of a file in the order they stand, each asked 10, 11 and 12
+/// The fields of a file in the order they stand, each asked 10, 11, 12 and 19
 /// (R16.4).
 pub fn fields(file: &[u8]) -> Result<Vec<Field<'_>>, Refusal> {
     let mut found: Vec<Field> = vec![];
@@ -48,6 +48,8 @@ pub fn fields(file: &[u8]) -> Result<Vec<Field<'_>>, Refusal> {
         require(known, Refusal::Tag)?;
         let seen = found.iter().any(|earlier| earlier.tag == field.tag);
         require(!seen, Refusal::Again)?;
+        let falls = found.last().is_some_and(|last| field.tag < last.tag);
+        require(!falls, Refusal::Falling)?;
         found.push(field);
         rest = after;
     }

@@ -297,7 +297,7 @@ static void run_box_of_order_1(void)
 static void run_words(void)
 {
     static const char *const words[] = HB_REFUSAL_WORDS;
-    expect("one word for each number", (int64_t)(sizeof words / sizeof words[0]), HB_REFUSED_FULL + 1);
+    expect("one word for each number", (int64_t)(sizeof words / sizeof words[0]), HB_REFUSED_FALLING + 1);
     expect("no word for 0", strcmp(words[0], ""), 0);
     expect("order", strcmp(words[HB_REFUSED_ORDER], "order"), 0);
     expect("length", strcmp(words[HB_REFUSED_LENGTH], "length"), 0);
@@ -320,6 +320,8 @@ static void run_words(void)
     expect("its number", HB_REFUSED_SAMPLE, 17);
     expect("full", strcmp(words[HB_REFUSED_FULL], "full"), 0);
     expect("its number", HB_REFUSED_FULL, 18);
+    expect("falling", strcmp(words[HB_REFUSED_FALLING], "falling"), 0);
+    expect("its number", HB_REFUSED_FALLING, 19);
 }
 
 /* Numbers and their bytes */

@@ -32,7 +32,6 @@ impl Generator {
             self.damage_terms(&mut problem);
         }
         let mut fields = file_fields(&problem);
-        self.random.shuffle(&mut fields);
         let whole = write_summary(&fields);
         if (1..=4).contains(&choice) {
             self.damage_fields(&mut fields);
@@ -45,11 +44,12 @@ impl Generator {
         DrawnFile { bytes, damaged }
     }
 
-    /// Damages one field, so that one of 1, 10 to 14 refuses.
+    /// Damages one field, or the order of two or of all, so that one of 1, 10 to
+    /// 14 and 19 refuses.
     fn damage_fields(&mut self, fields: &mut Vec<Field>) {
         let place = self.random.index(fields.len());
         let other = self.random.index(fields.len());
-        match self.random.index(8) {
+        match self.random.index(10) {
             0 => fields[place].0 = self.random.pick(&[0, 8, 9, 0x10, 0x81, 0xFF]),
             1 => fields[place].0 = fields[other].0,
             2 => fields.insert(place, fields[other].clone()),
@@ -60,6 +60,8 @@ impl Generator {
             }
             5 => set_content(fields, vec![self.random.pick(&[0, 9, 16, 0x81, 0xFF])]),
             6 => set_content(fields, vec![self.random.between(1, 8) as u8]),
+            7 => fields.swap(place, other),
+            8 => self.random.shuffle(fields),
             _ => {
                 // One field is lengthened until the file has about the greatest
                 // size.

@@ -1,4 +1,4 @@
-//! The summary file: refusals 10 to 15, and 1, 3, 4, 5, 16 of a file.
+//! The summary file: refusals 10 to 15 and 19, and 1, 3, 4, 5, 16 of a file.
 
 use hankboulder_reference::cases::bytes;
 use hankboulder_reference::refusal::Refusal;
@@ -43,15 +43,44 @@ fn case_p_is_read() {
 }
 
 #[test]
-fn fields_may_stand_in_any_order() {
-    let expected = read_problem(&bytes(&CASE_P.concat())).unwrap();
+fn refusal_19_of_every_other_order_of_the_fields() {
     for turn in 0..7 {
         let mut parts = CASE_P.to_vec();
         parts.rotate_left(turn);
-        assert_eq!(read_problem(&bytes(&parts.concat())).unwrap(), expected);
+        assert_eq!(refusal_of(&parts), if turn == 0 { 0 } else { 19 });
         parts.reverse();
-        assert_eq!(read_problem(&bytes(&parts.concat())).unwrap(), expected);
+        assert_eq!(refusal_of(&parts), 19);
     }
+    for (first, second) in (1..7).flat_map(|second| (0..second).map(move |f| (f, second))) {
+        let mut parts = CASE_P.to_vec();
+        parts.swap(first, second);
+        assert_eq!(refusal_of(&parts), 19, "{first} and {second} exchanged");
+        // Nothing else in the file: 19 comes before 13.
+        assert_eq!(refusal_of(&[CASE_P[second], CASE_P[first]]), 19);
+        assert_eq!(refusal_of(&[CASE_P[first], CASE_P[second]]), 13);
+    }
+}
+
+#[test]
+fn refusal_19_comes_after_12_in_the_same_field() {
+    assert_eq!(refusal_of(&[N, L, N]), 12);
+    assert_eq!(refusal_of(&[N, U, L]), 19);
+    assert_eq!(refusal_of(&[L, L]), 12);
+    assert_eq!(refusal_of(&[L, N, N]), 19);
+    assert_eq!(refusal_of(&[L, N, L]), 19);
+    // 10 and 11 of the same field come before it.
+    assert_eq!(refusal_of(&[L, "01 0200 00"]), 10);
+    assert_eq!(refusal_of(&[L, "01 00"]), 10);
+    assert_eq!(refusal_of(&[L, "00 0000"]), 11);
+    // It comes before 10, 11 and 12 of the next field.
+    assert_eq!(refusal_of(&[L, N, "03"]), 19);
+    assert_eq!(refusal_of(&[L, N, "03 FFFF"]), 19);
+    assert_eq!(refusal_of(&[L, N, "08 0000"]), 19);
+    // And before 14, 1 and 3, whatever the contents are.
+    assert_eq!(refusal_of(&["02 0000", "01 0200 0900"]), 19);
+    let mut parts = with(1, "02 0400 00000080");
+    parts.swap(5, 6);
+    assert_eq!(refusal_of(&parts), 19);
 }
 
 #[test]
@@ -294,11 +323,11 @@ fn refusal_15_comes_first_and_4096_bytes_pass_it() {
 }
 
 #[test]
-fn the_field_walk_asks_10_11_12_alone_and_hands_out_parts_of_the_file() {
-    let file = bytes("06 0000 01 0300 AABBCC 03 0100 07");
+fn the_field_walk_asks_10_11_12_19_alone_and_hands_out_parts_of_the_file() {
+    let file = bytes("01 0000 03 0300 AABBCC 06 0100 07");
     let found = fields(&file).unwrap();
     let parts: Vec<(u8, &[u8])> = found.iter().map(|f| (f.tag, f.content)).collect();
-    let expected: [(u8, &[u8]); 3] = [(6, &[]), (1, &[0xAA, 0xBB, 0xCC]), (3, &[7])];
+    let expected: [(u8, &[u8]); 3] = [(1, &[]), (3, &[0xAA, 0xBB, 0xCC]), (6, &[7])];
     assert_eq!(parts, expected);
     assert!(std::ptr::eq(found[1].content, &file[6..9]));
     // More than 4096 bytes: 15 is not asked.

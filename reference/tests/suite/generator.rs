@@ -122,7 +122,7 @@ fn summary_files_meet_every_answer() {
         let number = text.strip_prefix("refused ");
         number.map_or(0, |number| number.trim_end().parse().unwrap())
     });
-    assert_met(&counts, &[0, 1, 3, 4, 5, 10, 11, 12, 13, 14, 15, 16]);
+    assert_met(&counts, &[0, 1, 3, 4, 5, 10, 11, 12, 13, 14, 15, 16, 19]);
     let words: Vec<&str> = texts.keys().map(String::as_str).collect();
     let expected = [
         "box",

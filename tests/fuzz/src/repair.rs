@@ -9,12 +9,13 @@ use hankboulder_reference::summary::{
 };
 
 /// A whole file, with nothing that is refused, from the bytes of any other. The
-/// fields that can be told keep their content, as far as it is good, and their
-/// order.
+/// fields that can be told keep their content, as far as it is good.
 pub fn repaired(file: &[u8]) -> Vec<u8> {
     let found = told(file);
-    let place = |tag: u8| found.iter().position(|(other, _)| *other == tag);
-    let content = |tag: u8| place(tag).map_or(&[][..], |place| found[place].1);
+    let content = |tag: u8| {
+        let field = found.iter().find(|(other, _)| *other == tag);
+        field.map_or(&[][..], |(_, content)| *content)
+    };
     let byte = content(TAG_ORDER).first().copied().unwrap_or(1);
     let order = 1 + (byte.wrapping_sub(1) % MAX_ORDER as u8) as usize;
 
@@ -25,7 +26,7 @@ pub fn repaired(file: &[u8]) -> Vec<u8> {
         &list(TAG_LINEAR_LOW, order, LINEAR_RANGE),
         &list(TAG_LINEAR_HIGH, order, LINEAR_RANGE),
     );
-    let mut fields = problem_fields(
+    let fields = problem_fields(
         order as u8,
         &low,
         &high,
@@ -34,7 +35,6 @@ pub fn repaired(file: &[u8]) -> Vec<u8> {
         list(TAG_LIMIT, 1, LIMIT_RANGE)[0],
         &list(TAG_CENTRE, order, CENTRE_RANGE),
     );
-    fields.sort_by_key(|(tag, _)| place(*tag).unwrap_or(found.len()));
     write_summary(&fields)
 }
 

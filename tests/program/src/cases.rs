@@ -90,7 +90,7 @@ fn led_by(head: &str) -> Vec<u8> {
     [bytes(head), write_summary(&good())].concat()
 }
 
-/// 10, 11, 12 and 13
+/// 10, 11, 12, 13 and 19
 fn cut_and_tag_refusals() -> Vec<Case> {
     let mut no_limit = good();
     no_limit.retain(|field| field.0 != TAG_LIMIT);
@@ -111,7 +111,7 @@ fn cut_and_tag_refusals() -> Vec<Case> {
         Case::new("refused-11-tag-08", led_by("08 0100 02")),
         Case::new("refused-12-order-again", followed_by("01 0100 02")),
         Case::new("refused-12-then-cut", led_by("06 0000 06 0000 01 FFFF")),
-        Case::new("refused-12-linear-high-again", led_by("07 0000")),
+        Case::new("refused-12-linear-high-again", followed_by("07 0000")),
         Case::new("refused-13-empty-file", vec![]),
         Case::new("refused-13-no-limit", write_summary(&no_limit)),
         Case::new(
@@ -293,13 +293,26 @@ fn boxes() -> Vec<Case> {
     boxes
 }
 
-/// Case P (W21), and its fields in falling order
+/// Case P (W21), its fields in falling order and two of them exchanged, and tags
+/// that fall (W31 to W33)
 fn listed() -> Vec<Case> {
     let case_p = thin("[4]", &[-8], 0, &[2]);
     let mut falling = fields(&case_p);
     falling.reverse();
+    let mut exchanged = fields(&case_p);
+    exchanged.swap(1, 2);
+    let tags = |name: &str, fields: &str| Case::new(name, bytes(fields));
     vec![
         Case::of("case-p", &case_p),
-        Case::new("case-p-fields-falling", write_summary(&falling)),
+        Case::new("refused-19-case-p-falling", write_summary(&falling)),
+        Case::new(
+            "refused-19-case-p-low-and-high-exchanged",
+            write_summary(&exchanged),
+        ),
+        tags("refused-12-comes-before-19", "01 0000 02 0000 01 0000"),
+        tags("refused-19-comes-before-13", "01 0000 03 0000 02 0000"),
+        tags("refused-19-then-cut", "02 0000 01 0000 03"),
+        tags("refused-10-comes-before-19", "02 0000 01 0100"),
+        tags("refused-11-comes-before-19", "02 0000 00 0000"),
     ]
 }

@@ -4,7 +4,7 @@ use std::collections::{BTreeMap, BTreeSet};
 use std::fmt;
 
 /// Every kind of output.
-pub const KINDS: [&str; 17] = [
+pub const KINDS: [&str; 18] = [
     "refused 1",
     "refused 3",
     "refused 4",
@@ -16,6 +16,7 @@ pub const KINDS: [&str; 17] = [
     "refused 14",
     "refused 15",
     "refused 16",
+    "refused 19",
     "definite; row; side",
     "definite; row; empty",
     "definite; row; box refused 8",

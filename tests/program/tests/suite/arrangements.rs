@@ -1,9 +1,12 @@
-//! The order of the fields is free (R16.3).
+//! Tags rise through a file, and every other order of its fields is refused by 19
+//! (R16.3).
 
 use hankboulder_program::problem_file::{definite, fields, file, Fields};
-use hankboulder_program::{on_threads, Program};
+use hankboulder_program::Program;
 use hankboulder_reference::program::output;
 use hankboulder_reference::summary::write_summary;
+
+use crate::support::expect_all_refused;
 
 /// Every order of the fields.
 fn arrangements(fields: &Fields) -> Vec<Fields> {
@@ -21,7 +24,6 @@ fn arrangements(fields: &Fields) -> Vec<Fields> {
 
 #[test]
 fn one_problem_with_its_fields_in_every_order() {
-    let program = Program::under_test();
     let problem = definite(3);
     let text = output(&file(&problem));
     let sides = "side -14 12\nside -13 13\nside -12 14\n";
@@ -29,7 +31,32 @@ fn one_problem_with_its_fields_in_every_order() {
         text.starts_with("definite\n") && text.ends_with(sides),
         "{text}"
     );
-    let all = arrangements(&fields(&problem));
-    assert_eq!(all.len(), 5040);
-    on_threads(&all, |fields| program.expect(&write_summary(fields), &text));
+    let rising = fields(&problem);
+    Program::under_test().expect(&write_summary(&rising), &text);
+    let all = arrangements(&rising).into_iter();
+    let others: Vec<Fields> = all.filter(|fields| *fields != rising).collect();
+    assert_eq!(others.len(), 5039);
+    expect_all_refused(others.iter().map(|fields| write_summary(fields)), 19);
+}
+
+#[test]
+fn each_pair_of_fields_exchanged_at_every_order() {
+    let mut files = vec![];
+    for order in 1..=8 {
+        let rising = fields(&definite(order));
+        for (first, second) in (1..7).flat_map(|second| (0..second).map(move |f| (f, second))) {
+            let mut fields = rising.clone();
+            fields.swap(first, second);
+            files.push(write_summary(&fields));
+            // Just the two of them, and the tags alone exchanged
+            files.push(write_summary(&[
+                fields[first].clone(),
+                fields[second].clone(),
+            ]));
+            let mut fields = rising.clone();
+            (fields[first].0, fields[second].0) = (rising[second].0, rising[first].0);
+            files.push(write_summary(&fields));
+        }
+    }
+    expect_all_refused(files, 19);
 }

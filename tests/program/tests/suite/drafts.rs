@@ -205,13 +205,32 @@ pub fn arranged(order: usize, placed: &[(u8, usize)]) -> Vec<Draft> {
     rest.into_iter().map(draft).collect()
 }
 
-/// Fields with faults, and the refusal of the one that is found first.
+/// When 19 is found, where tags fall: in the first field whose tag is below the
+/// one before it, fields that are left out passed over. In that field it comes
+/// after 10, 11 and 12; but where the field stands twice, its first copy falls and
+/// all faults are in the second.
+fn fall(drafts: &[Draft], faults: &[FieldFault]) -> Option<(usize, usize, i64)> {
+    let stand = (0..drafts.len()).filter(|place| !faults.contains(&(drafts[*place].of, Absent)));
+    let stand: Vec<usize> = stand.collect();
+    let falls = |pair: &&[usize]| drafts[pair[1]].of < drafts[pair[0]].of;
+    let place = stand.windows(2).find(falls)?[1];
+    let first = faults.contains(&(drafts[place].of, Twice));
+    Some((0, place, if first { 0 } else { 19 }))
+}
+
+/// Fields with faults, and the refusal of the one that is found first: of a fault,
+/// or of tags that fall.
 pub fn faulty(mut drafts: Vec<Draft>, faults: &[FieldFault]) -> Refused {
     let place = |tag: u8| drafts.iter().position(|draft| draft.of == tag);
     let turn = |(tag, fault): &FieldFault| fault.turn(*tag, place(*tag).expect("a place"));
     let mut turns: Vec<_> = faults.iter().map(|fault| (turn(fault), *fault)).collect();
     turns.sort_by_key(|(turn, _)| *turn);
-    let number = turns[0].1 .1.number();
+    let falls_first = fall(&drafts, faults).is_some_and(|fall| fall < turns[0].0);
+    let number = if falls_first {
+        19
+    } else {
+        turns[0].1 .1.number()
+    };
     // Those that are found first are put last: they leave the others standing.
     for (_, fault) in turns.into_iter().rev() {
         put(&mut drafts, fault);

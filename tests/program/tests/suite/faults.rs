@@ -1,6 +1,8 @@
 //! Faults in every field and every place of a file, alone and in pairs, so that
 //! the order of the file's checks shows.
 
+use std::cmp::Ordering;
+
 use hankboulder_program::problem_file::{definite, fields, file};
 use hankboulder_program::Program;
 use hankboulder_reference::program::output;
@@ -83,6 +85,7 @@ fn pairs() -> impl Iterator<Item = (FieldFault, FieldFault)> {
 fn two_faults_of_two_fields_in_both_orders() {
     let mut files = vec![];
     for (first, second) in pairs().filter(|(first, second)| first.0 != second.0) {
+        files.push(faulty(arranged(2, &[]), &[first, second]));
         for places in [(0, 1), (1, 4), (5, 6)] {
             let drafts = arranged(2, &[(first.0, places.0), (second.0, places.1)]);
             files.push(faulty(drafts, &[first, second]));
@@ -106,19 +109,23 @@ fn two_faults_of_one_field() {
 }
 
 #[test]
-fn a_field_with_the_tag_of_an_earlier_one_is_12() {
+fn a_field_with_the_tag_of_an_earlier_one_is_12_unless_a_tag_falls_before() {
     let good = fields(&definite(2));
     let mut files = vec![];
     for turn in 0..FIELDS {
         for (earlier, later) in (1..FIELDS).flat_map(|later| (0..later).map(move |e| (e, later))) {
             let mut fields = good.clone();
             fields.rotate_left(turn);
+            let first = (FIELDS - turn) % FIELDS;
+            let falls_before = |place: usize| (1..place).contains(&first);
             fields[later].0 = fields[earlier].0;
-            files.push((write_summary(&fields), 12));
+            let number = if falls_before(later) { 19 } else { 12 };
+            files.push((write_summary(&fields), number));
             // A bad tag that stands twice is 11.
             fields[earlier].0 = 0x47;
             fields[later].0 = 0x47;
-            files.push((write_summary(&fields), 11));
+            let number = if falls_before(earlier) { 19 } else { 11 };
+            files.push((write_summary(&fields), number));
         }
     }
     expect_refused(&files);
@@ -131,8 +138,13 @@ fn a_length_that_reaches_the_end_is_not_cut() {
     for (tag, place) in tags_and_places() {
         let mut drafts = arranged(2, &[(tag, place)]);
         put(&mut drafts, (tag, PastEnd(0)));
-        let last = place == FIELDS - 1;
-        let text = if last { &good } else { "refused 13\n" };
+        // The fields after it are taken for its content.
+        let own = usize::from(tag - TAG_ORDER);
+        let text = match own.cmp(&place) {
+            Ordering::Less => "refused 19\n",
+            Ordering::Equal if place == FIELDS - 1 => &good,
+            _ => "refused 13\n",
+        };
         program.expect(&written(&drafts), text);
     }
 }

@@ -11,7 +11,6 @@ use hankboulder_program::Program;
 use hankboulder_reference::cases::bytes;
 use hankboulder_reference::generate::{Generator, KINDS};
 use hankboulder_reference::program::output;
-use hankboulder_reference::summary::{fields, write_summary};
 
 fn example(name: &str) -> PathBuf {
     let folder = PathBuf::from(env!("CARGO_MANIFEST_DIR")).join("../../examples");
@@ -122,17 +121,6 @@ fn has_problem(file: &[u8]) -> bool {
     refusal(file).is_none_or(|number| [3, 4, 5, 16].contains(&number))
 }
 
-/// The file with its fields in rising order.
-fn rising(file: &[u8]) -> Vec<u8> {
-    let found = fields(file).expect("a file with a problem");
-    let found = found
-        .iter()
-        .map(|field| (field.tag, field.content.to_vec()));
-    let mut rising: Vec<(u8, Vec<u8>)> = found.collect();
-    rising.sort();
-    write_summary(&rising)
-}
-
 /// Fails where a file is not shown, or listed, as it should be: a damaged file is
 /// not shown, and the message has the judge's number. The listing has the bytes
 /// of every file.
@@ -169,7 +157,7 @@ fn expect_round_trips(files: &[Vec<u8>]) {
     for (file, (shown, made)) in problems.zip(shown.iter().zip(&made)) {
         assert!(made.passed);
         assert_eq!(made.message, shown.message);
-        assert_eq!(made.printed, rising(file));
+        assert_eq!(made.printed, **file);
     }
     println!("{} files, {} made again", files.len(), made.len());
 }
