@@ -31,23 +31,17 @@ pub falls-is : (k : Kind) (t : ℕ) {tag : ℕ} {b : Bool} → tag ≡ tagOf k �
 falls-is k t e h = ap (λ (n : ℕ). ltb n t) (sym e) ∙ h
 
 module _ (t : ℕ) (l : Layout) (next : ℕ → ℕ → Layout → Walked) (f : Field) where
-  rising : Bool → Walked
-  rising b = elim b [ true ↦ stopped Falling | false ↦ next (f .next) (tagOf (f .kind)) (placed l f) ]
-
-  after : Bool → Walked
-  after b = elim b [ true ↦ stopped Again | false ↦ rising (ltb (tagOf (f .kind)) t) ]
-
   on-again : seen l (f .kind) ≡ true → walkOn (Found.Here f) t l next ≡ stopped Again
-  unfolding walkOn after rising
-  on-again e = ap after e
+  unfolding walkOn
+  on-again e = rw (e, walkOn)
 
   on-falling : seen l (f .kind) ≡ false → ltb (tagOf (f .kind)) t ≡ true → walkOn (Found.Here f) t l next ≡ stopped Falling
-  unfolding walkOn after rising
-  on-falling e h = ap after e ∙ ap rising h
+  unfolding walkOn
+  on-falling e h = rw (e, h, walkOn)
 
   on-more : seen l (f .kind) ≡ false → ltb (tagOf (f .kind)) t ≡ false → walkOn (Found.Here f) t l next ≡ next (f .next) (tagOf (f .kind)) (placed l f)
-  unfolding walkOn after rising
-  on-more e h = ap after e ∙ ap rising h
+  unfolding walkOn
+  on-more e h = rw (e, h, walkOn)
 
 -- the rest of the walk counts only where the field at hand ends
 on-ext : (r : Found) (t : ℕ) (l : Layout) (g h : ℕ → ℕ → Layout → Walked) →
@@ -109,7 +103,7 @@ module _ (s : List ℕ) where
 -- ---- an induction over the turns, for any claim on where the walk stands and what comes of it
 module _ (s : List ℕ) (R : ℕ → ℕ → Layout → Walked → Type 0)
     (more : (at t : ℕ) (l : Layout) (f : Field) (w : Walked) → fieldAt s at ≡ Found.Here f → seen l (f .kind) ≡ false → t ≤ tagOf (f .kind) →
-        R (f .next) (tagOf (f .kind)) (placed l f) w → R at t l w)
+    R (f .next) (tagOf (f .kind)) (placed l f) w → R at t l w)
     (end : (at t : ℕ) (l : Layout) → fieldAt s at ≡ Found.End → R at t l (record { checked = Checked.Passed; layout = l }))
     (stop : (at t : ℕ) (l : Layout) (r : Refusal) → R at t l (stopped r)) where
   module _ (at t : ℕ) (l : Layout)

@@ -1,10 +1,12 @@
 -- The loop's invariant: the walk over the file is the walk from here. The measure is what is left of the file.
 use mathlib.Core.Path.{_≡_, sym, _∙_}
-use Prim.Native.Nat.{_-_, _≤_}
+use mathlib.Core.List.{List}
+use Prim.Native.Nat.{ℕ, _-_, _≤_}
 use native.Mathlib.Omega.{arith}
 use borrow.Author.Needs.{needs}
 use lib.ListN.{length}
 use Rattle.fields.specs.declared.field.Found.the-variants as Found
+use Rattle.fields.specs.declared.layout.Layout.{Layout}
 use Rattle.fields.specs.Fields.{fieldAt}
 use Rattle.fields.specs.Layouts.{walk, walked}
 use Rattle.fields.proofs.Finding.{found-inside}
@@ -21,6 +23,10 @@ abbrev μ-loop : tie.MeasureT-loop
 -- the field at hand
 here : (c : tie.After-known-told Inv-loop μ-loop) → let l = c .before .before .before .before in fieldAt (l .before .before .before .args .file .now) (l .loop .at) ≡ Found.Here (c .before .found .given .0 .0)
 here c = sym (c .before .before .before .field-at .ensures) ∙ c .before .found .given .1
+
+-- the walk goes on behind the field's tag, with the field in the layout
+onward : (s : List ℕ) (at : ℕ) {t u : ℕ} {l m : Layout} → u ≡ t → m ≡ l → walk s at t l ≡ walk s at u m
+onward s at e h = rw (e, h)
 
 pub walk-spec : {M : Type 1} → statement M
 unfolding walked
@@ -57,7 +63,7 @@ walk-spec =
       omega (arith, found-inside _ _ _ (here d)),
       d .before .before .before .before .loop .inv .1
           ∙ walk-more _ _ _ _ _ (here d) (seen-is _ _ (t .start-of .ensures) (c .before .before .if1 .left)) (falls-is (d .before .found .given .0 .0 .kind) _ (t .before .tag-of .ensures) (c .before .if2 .left))
-          ∙ rw (c .placed .ensures, t .before .tag-of .ensures),
+          ∙ onward _ _ (t .before .tag-of .ensures) (c .placed .ensures),
     ))
     -- the end
     (λ c. search needs)
