@@ -1,23 +1,28 @@
 -- R16.3 and R17.6 of docs/RULES.md: a file that is accepted is its seven fields in the order of their tags, one after the other and nothing else,
 -- so its order gives its length, and its contents give all of its bytes. And a file that is put together so is read as the problem of its contents.
 use mathlib.Core.Path.{_≡_, refl, sym, ap, _∙_}
-use mathlib.Core.Bool.{true, false≢true}
-use mathlib.Core.List.{List}
-use Prim.Native.Nat.{ℕ, _+_, _*_, _^_, _≤_, _<_}
+use mathlib.Core.Bool.{true}
+use mathlib.Core.List.{List, [], _∷_}
+use Prim.Native.Nat.{ℕ, _*_, _^_, _≤_, _<_}
 use native.Mathlib.Decide.{decLe}
 use native.Mathlib.Omega.{arith}
 use lib.Dec.{ltb, eqb}
 use lib.IntN.{pos}
 use lib.ListN.{length, getD}
+use lib.Seq.{take-all}
+use mir.Syntax.{Width, w64}
+use mir.Val.{bytes}
 use borrow.Author.Tests.{eq-eqb}
-use Rattle.words.proofs.Laws.{AllBytes}
-use Rattle.tables.specs.Ranges.{greatestOrder}
-use Rattle.tables.specs.Checks.{all, orderOk, firstRefusal}
-use Rattle.tables.specs.declared.Refusal.{Refusal}
+use Rattle.words.specs.Numbers.{signedAt, numbersOf, paddedNumbersOf, bytesOf}
+use Rattle.words.proofs.Laws.{AllBytes, part-bytes, bytesOf-numbersOf}
+use Rattle.words.proofs.Sign.{Narrow, narrow-of}
+use Rattle.tables.specs.Ranges.{greatestOrder, tableRoom}
+use Rattle.tables.specs.Checks.{orderOk, firstRefusal}
+use Rattle.tables.specs.declared.problem.Problem.{Problem}
 use Rattle.tables.specs.declared.Checked.{Checked}
 use Rattle.tables.specs.declared.Checked.the-variants as Checked
 use Rattle.tables.proofs.Matrix.{table-fits}
-use Rattle.tables.proofs.Checks.{all-of, all-at, first-none, first-passes, first-passed, rest-passed, order-of}
+use Rattle.tables.proofs.Checks.{all-of, all-at, first-none, first-passes, first-passed, order-of}
 use Rattle.fields.specs.declared.field.Kind.{Kind}
 use Rattle.fields.specs.declared.field.Kind.the-variants as Kind
 use Rattle.fields.specs.declared.layout.Layout.{Layout}
@@ -27,8 +32,9 @@ use Rattle.fields.specs.Entries.{wholeFile}
 use Rattle.fields.proofs.Finding.{place-below, each-place}
 use Rattle.fields.proofs.Parts.{walked-inside, length-content}
 use Rattle.fields.proofs.Whole.{whole-passes, whole-found, passed-whole, length-whole, whole-ext}
-use Rattle.summary.specs.Problems.{longest, allPresent, orderIn, lengthFor, lengthsFor, fileSize, lengthsOk, fieldChecks, problemFrom, problemIn, readingOf, readIn, reading}
-use Rattle.summary.proofs.Spelled.{length-is, called-for, fields-order, fields-fit, read-in-passed, read-in-refused, reading-long, reading-walked, reading-stopped, refused-not}
+use Rattle.summary.specs.declared.problem.Reading.{Reading}
+use Rattle.summary.specs.Problems.{longest, allPresent, orderIn, lengthFor, lengthsFor, fileSize, lengthsOk, fieldChecks, problemFrom, contentsOf, problemIn, readingOf, reading}
+use Rattle.summary.proofs.Spelled.{length-is, called-for, fields-fit, read-in-passed, read-in-refused, reading-long, reading-walked, reading-stopped, reading-handed, refused-not}
 
 -- ---- a file that is accepted
 pub record Accepted (s : List ℕ) : Type 0 where
@@ -62,17 +68,65 @@ whole-size : (c : Kind → List ℕ) (n : ℕ) → ((k : Kind) → length (c k) 
 whole-size c n z =
     length-whole c ∙ omega (arith, z Kind.Order, z Kind.Low, z Kind.High, z Kind.LinearLow, z Kind.Limit, z Kind.Centre, z Kind.LinearHigh)
 
-module _ (s : List ℕ) (v : AllBytes s) (e : reading s .checked ≡ Checked.Passed) where
-  pub accepted-whole : s ≡ wholeFile (content s (walked s .layout))
-  accepted-whole = let a = accepted s e in passed-whole s v (a .passed) (all-seen s (a .checked))
+-- ---- contents of these lengths, as numbers and back
+module _ {w : Width} (n : Narrow w) (room : ℕ) (t : List ℕ) (k : ℕ) (v : AllBytes t) (h : length t ≡ k * bytes w) where
+  numbers-back : bytesOf w (paddedNumbersOf w room t k) k ≡ t
+  unfolding paddedNumbersOf
+  numbers-back = bytesOf-numbersOf n t _ k v (omega arith) ∙ take-all (k * bytes w) t (omega arith)
 
-  pub accepted-size : length s ≡ fileSize (orderIn s (walked s .layout))
-  accepted-size = ap length accepted-whole ∙ whole-size (content s (walked s .layout)) (orderIn s (walked s .layout)) (field-length s (accepted s e .checked))
+one-byte : (t : List ℕ) → length t ≡ 1 → getD t 0 0 ∷ [] ≡ t
+one-byte [] h = absurd (omega arith)
+one-byte (b ∷ []) h = refl
+one-byte (b ∷ d ∷ t) h = absurd (omega arith)
 
--- ---- the contents give the bytes
-pub same-file : (s s′ : List ℕ) → AllBytes s → AllBytes s′ → reading s .checked ≡ Checked.Passed → reading s′ .checked ≡ Checked.Passed →
-    ((k : Kind) → content s (walked s .layout) k ≡ content s′ (walked s′ .layout) k) → s ≡ s′
-same-file s s′ v v′ e e′ h = accepted-whole s v e ∙ whole-ext _ _ h ∙ sym (accepted-whole s′ v′ e′)
+one-number : (t : List ℕ) → AllBytes t → length t ≡ bytes w64 → bytesOf w64 (signedAt w64 t 0 ∷ []) 1 ≡ t
+unfolding numbersOf
+one-number t v h = bytesOf-numbersOf (narrow-of 8) t [] 1 v (omega arith) ∙ take-all (1 * bytes w64) t (omega arith)
+
+contents-back : (c : Kind → List ℕ) → ((k : Kind) → AllBytes (c k)) → ((k : Kind) → length (c k) ≡ lengthFor (getD (c Kind.Order) 0 0) k) →
+    (k : Kind) → contentsOf (problemFrom (getD (c Kind.Order) 0 0) c) k ≡ c k
+contents-back c v z Kind.Order = one-byte (c Kind.Order) (z Kind.Order)
+contents-back c v z Kind.Low = numbers-back (narrow-of 4) tableRoom (c Kind.Low) _ (v Kind.Low) (z Kind.Low)
+contents-back c v z Kind.High = numbers-back (narrow-of 4) tableRoom (c Kind.High) _ (v Kind.High) (z Kind.High)
+contents-back c v z Kind.LinearLow = numbers-back (narrow-of 8) greatestOrder (c Kind.LinearLow) _ (v Kind.LinearLow) (z Kind.LinearLow)
+contents-back c v z Kind.Limit = one-number (c Kind.Limit) (v Kind.Limit) (z Kind.Limit)
+contents-back c v z Kind.Centre = numbers-back (narrow-of 8) greatestOrder (c Kind.Centre) _ (v Kind.Centre) (z Kind.Centre)
+contents-back c v z Kind.LinearHigh = numbers-back (narrow-of 8) greatestOrder (c Kind.LinearHigh) _ (v Kind.LinearHigh) (z Kind.LinearHigh)
+
+-- ---- a file that is accepted is the file of its contents, which are those of its problem
+module _ (s : List ℕ) (e : reading s .checked ≡ Checked.Passed) where
+  pub accepted-problem : reading s .problem ≡ problemIn s (walked s .layout)
+  accepted-problem =
+      let r = accepted s e .read in
+      ap (λ (x : Reading). x .problem) r ∙ reading-handed (problemIn s (walked s .layout)) (sym (ap (λ (x : Reading). x .checked) r) ∙ e)
+
+  module _ (v : AllBytes s) where
+    pub accepted-whole : s ≡ wholeFile (content s (walked s .layout))
+    accepted-whole = let a = accepted s e in passed-whole s v (a .passed) (all-seen s (a .checked))
+
+    pub accepted-size : length s ≡ fileSize (reading s .problem .constraint .order)
+    unfolding problemIn
+    accepted-size =
+        ap length accepted-whole ∙ whole-size (content s (walked s .layout)) (orderIn s (walked s .layout)) (field-length s (accepted s e .checked))
+        ∙ ap fileSize (sym (ap (λ (p : Problem). p .constraint .order) accepted-problem))
+
+    pub accepted-contents : (k : Kind) → contentsOf (reading s .problem) k ≡ content s (walked s .layout) k
+    unfolding problemIn orderIn content
+    accepted-contents k =
+        let l = walked s .layout in
+        ap (λ (p : Problem). contentsOf p k) accepted-problem
+        ∙ contents-back (content s l) (λ k. part-bytes (lengthOf l k) (startOf l k) s v) (field-length s (accepted s e .checked)) k
+
+    pub accepted-back : s ≡ wholeFile (contentsOf (reading s .problem))
+    accepted-back = accepted-whole ∙ sym (whole-ext _ _ accepted-contents)
+
+-- ---- so the same contents, or the same problem, have one file
+module _ (s s′ : List ℕ) (v : AllBytes s) (v′ : AllBytes s′) (e : reading s .checked ≡ Checked.Passed) (e′ : reading s′ .checked ≡ Checked.Passed) where
+  pub same-file : ((k : Kind) → content s (walked s .layout) k ≡ content s′ (walked s′ .layout) k) → s ≡ s′
+  same-file h = accepted-whole s e v ∙ whole-ext _ _ h ∙ sym (accepted-whole s′ e′ v′)
+
+  pub same-problem : reading s .problem ≡ reading s′ .problem → s ≡ s′
+  same-problem h = accepted-back s e v ∙ ap (λ (p : Problem). wholeFile (contentsOf p)) h ∙ sym (accepted-back s′ e′ v′)
 
 -- ---- a file that is put together of contents of the lengths that the order calls for
 module _ (c : Kind → List ℕ) (o : orderOk (pos (getD (c Kind.Order) 0 0)) ≡ true) (z : (k : Kind) → length (c k) ≡ lengthFor (getD (c Kind.Order) 0 0) k) where

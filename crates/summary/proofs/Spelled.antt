@@ -82,6 +82,15 @@ pub reading-as : (p : Problem) {k : Checked} → firstRefusal (problemChecks p) 
 unfolding readingOf
 reading-as p e = ap (λ (k : Checked). readAs k p) e
 
+-- a problem that is let through is handed out
+pub reading-handed : (p : Problem) → readingOf p .checked ≡ Checked.Passed → readingOf p .problem ≡ p
+unfolding readAs
+reading-handed p e = go (firstRefusal (problemChecks p)) refl
+  where
+    go : (k : Checked) → firstRefusal (problemChecks p) ≡ k → readingOf p .problem ≡ p
+    go Checked.Passed h = ap (λ (r : Reading). r .problem) (reading-as p h)
+    go (Checked.Refused r) h = absurd (false≢true (cc (reading-as p h)))
+
 module _ (s : List ℕ) (l : Layout) where
   pub read-in-passed : firstRefusal (fieldChecks s l) ≡ Checked.Passed → readIn s l ≡ readingOf (problemIn s l)
   unfolding readIn

@@ -8,7 +8,7 @@ use lib.IntN.{pos}
 use lib.ListN.{length, getD, replicate}
 use mir.Syntax.{w32, w64}
 use mir.Val.{bytes}
-use Rattle.words.specs.Numbers.{signedAt, paddedNumbersOf}
+use Rattle.words.specs.Numbers.{signedAt, paddedNumbersOf, bytesOf}
 use Rattle.tables.specs.Ranges.{greatestOrder, tableRoom}
 use Rattle.tables.specs.Checks.{Check, all, orderOk, firstRefusal}
 use Rattle.tables.specs.declared.problem.Problem.{Problem}
@@ -77,6 +77,16 @@ problemFrom n c =
     (paddedNumbersOf w64 greatestOrder (c Kind.LinearHigh) n)
     (signedAt w64 (c Kind.Limit) 0)
     (paddedNumbersOf w64 greatestOrder (c Kind.Centre) n)
+
+-- R17.6: the content of each kind in the file of a problem
+abbrev pub contentsOf : Problem → Kind → List ℕ
+contentsOf p Kind.Order = p .constraint .order ∷ []
+contentsOf p Kind.Low = bytesOf w32 (p .constraint .low) (p .constraint .order * p .constraint .order)
+contentsOf p Kind.High = bytesOf w32 (p .constraint .high) (p .constraint .order * p .constraint .order)
+contentsOf p Kind.LinearLow = bytesOf w64 (p .constraint .linear .low) (p .constraint .order)
+contentsOf p Kind.Limit = bytesOf w64 (p .constraint .limit ∷ []) 1
+contentsOf p Kind.Centre = bytesOf w64 (p .centre) (p .constraint .order)
+contentsOf p Kind.LinearHigh = bytesOf w64 (p .constraint .linear .high) (p .constraint .order)
 
 -- the problem in the fields
 unfoldable pub problemIn : List ℕ → Layout → Problem

@@ -35,6 +35,9 @@ take-bytes (suc k) [] h i = omega arith
 take-bytes (suc k) (b ∷ s) h zero = h .each 0
 take-bytes (suc k) (b ∷ s) h (suc i) = take-bytes k s (tail-bytes h) i
 
+pub part-bytes : (k at : ℕ) (s : List ℕ) → AllBytes s → AllBytes (take k (drop at s))
+part-bytes k at s h = record { each = take-bytes k (drop at s) (drop-bytes at s h) }
+
 length-part : (k : ℕ) (s : List ℕ) (at : ℕ) → at + k ≤ length s → length (take k (drop at s)) ≡ k
 length-part k s at h = length-take-le k (drop at s) (rw length-drop (omega arith))
 
