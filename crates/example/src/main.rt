@@ -166,7 +166,13 @@ fn gathered() {
         draw: 2.0,
     };
     let taken = rides::gather::gather(
-        sample, 4, &mut low, &mut high, &mut from, &mut to, &mut limit,
+        sample,
+        4,
+        &mut low,
+        &mut high,
+        &mut from,
+        &mut to,
+        &mut limit,
     );
     print_number(b"gather", rides::gather::gathered_code(taken));
     let beyond = Sample {
@@ -177,7 +183,13 @@ fn gathered() {
         draw: 8.5,
     };
     let refused = rides::gather::gather(
-        beyond, 4, &mut low, &mut high, &mut from, &mut to, &mut limit,
+        beyond,
+        4,
+        &mut low,
+        &mut high,
+        &mut from,
+        &mut to,
+        &mut limit,
     );
     print_number(b"gather", rides::gather::gathered_code(refused));
     print_four(b"from", &from);
