@@ -41,7 +41,8 @@ fn load_sums(
     b: &mut Factors,
 )
     requires { ⌜ SumsBytes (now low) (now high) (now from) (now to) × Rooms (now l) (now u) (now a) (now b) ⌝ }
-    ensures { λ _. ⌜ (now (l .exit) ≡ tableOf factorCount (now (low .entry))) × (now (u .exit) ≡ tableOf factorCount (now (high .entry)))
+    ensures { λ _. ⌜ (now (l .exit) ≡ tableOf factorCount (now (low .entry)))
+        × (now (u .exit) ≡ tableOf factorCount (now (high .entry)))
         × (now (a .exit) ≡ vectorOf factorCount (now (from .entry))) × (now (b .exit) ≡ vectorOf factorCount (now (to .entry))) ⌝ }
 {
     load_numbers(low, l, PRODUCT_COUNT, SIZE);
@@ -64,7 +65,8 @@ fn store_sums(
     requires { ⌜ Rooms (now l) (now u) (now a) (now b) × SumsBytes (now low) (now high) (now from) (now to) ⌝ }
     ensures { λ _. ⌜ (now (low .exit) ≡ bytesOf w64 (now (l .entry)) (factorCount * factorCount))
         × (now (high .exit) ≡ bytesOf w64 (now (u .entry)) (factorCount * factorCount))
-        × (now (from .exit) ≡ bytesOf w64 (now (a .entry)) factorCount) × (now (to .exit) ≡ bytesOf w64 (now (b .entry)) factorCount) ⌝ }
+        × (now (from .exit) ≡ bytesOf w64 (now (a .entry)) factorCount)
+        × (now (to .exit) ≡ bytesOf w64 (now (b .entry)) factorCount) ⌝ }
 {
     store_numbers(l, low, PRODUCT_COUNT, SIZE);
     store_numbers(u, high, PRODUCT_COUNT, SIZE);

@@ -65,7 +65,8 @@ module _ (n : ℤ) (l u : List ℕ) where
 
 -- of a sample gathered into the sums that b spells; d: the buffers as they are left
 pub record GatherMeaning (s : Sample) (n : ℤ) (b d : Lent (List ℕ)) (r : ℤ) : Type 0 where
-  -- 0, the sample is taken: what the sums explain they explain with the sample in them, and the square of 16·draw − 16·factors·x besides
+  -- 0, the sample is taken: what the sums explain they explain with the sample in them, and the square of 16·draw − 16·factors·x
+  -- besides
   pub explains : r ≡ pos 0 → Explaining s (spelledSums (orderOf n) b) (spelledSums (orderOf n) d)
 
 -- of sums with linear terms between a and b and a running limit α, read with the allowance K; s: the limit's buffer as it is left

@@ -55,8 +55,8 @@ unfoldable pub gatheredCode : Gathered → ℤ
 gatheredCode Gathered.Taken = pos 0
 gatheredCode (Gathered.Refused r) = pos (refusalNumber r)
 
--- R23.3: a point that sums c explain up to u over v is, with the sample in them, explained by them up to that and the square of 16·draw −
--- 16·factors·x
+-- R23.3: a point that sums c explain up to u over v is, with the sample in them, explained by them up to that and the square of
+-- 16·draw − 16·factors·x
 abbrev pub Explaining : Sample → Constraint → Constraint → Type 0
 Explaining s c d =
     (u v : ℤ) → pos 1 ≤ℤ v → (X : ℕ → ℤ) (p : ℤ) → Explained c u v X p →

@@ -45,5 +45,6 @@ readingCode (Reading.Refused r) = pos (refusalNumber r)
 
 -- what an answer means of the sums c: a point that they explain up to K is allowed by the constraint with the limit that is handed out
 pub record ReadingMeaning (r : Reading) (K : ℤ) (c : Constraint) : Type 0 where
-  pub allows : (α : ℤ) → r ≡ Reading.Limit α → (u v : ℤ) → pos 1 ≤ℤ v → u ≤ℤ (K *ℤ v) → (X : ℕ → ℤ) (p : ℤ) → pos 1 ≤ℤ p →
+  pub allows : (α : ℤ) → r ≡ Reading.Limit α → (u v : ℤ) → pos 1 ≤ℤ v → u ≤ℤ (K *ℤ v) →
+      (X : ℕ → ℤ) (p : ℤ) → pos 1 ≤ℤ p →
       Explained c u v X p → Allowed (record { order = c .order; low = c .low; high = c .high; linear = c .linear; limit = α }) X p

@@ -84,8 +84,9 @@ pub fn read_sums(
     running: i64,
     allowance: i64,
 ) -> Reading
-    ensures exact { λ r. ⌜ r ≡ readSums n (constraintSized (record { table = orderOf n * orderOf n; vector = orderOf n }) (lengthsOf (length
-        (now (low .entry))) (length (now (high .entry))) (length (now (from .entry))) (length (now (to .entry))))) allowance
+    ensures exact { λ r. ⌜ r ≡ readSums n (constraintSized (record { table = orderOf n * orderOf n; vector = orderOf n })
+        (lengthsOf (length (now (low .entry))) (length (now (high .entry))) (length (now (from .entry)))
+        (length (now (to .entry))))) allowance
         (constraintOf (orderOf n) (now (low .entry)) (now (high .entry)) (now (from .entry)) (now (to .entry)) running) ⌝ }
     ensures meaning { λ r. ⌜ ReadingMeaning r allowance (constraintOf (orderOf n) (now (low .entry)) (now (high .entry)) (now
         (from .entry)) (now (to .entry)) running) ⌝ }
