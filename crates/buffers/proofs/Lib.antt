@@ -1,3 +1,2 @@
 pub mod Loading
 pub mod Stores
-pub mod Sums

@@ -1,9 +1,8 @@
 -- R15.2 and R15.3 of docs/RULES.md: the numbers that a buffer of bytes spells, and the bytes that an act stores in it.
 use mathlib.Core.Path.{_≡_}
-use mathlib.Core.Bool.{Bool, true, _&&_}
+use mathlib.Core.Bool.{Bool, true}
 use mathlib.Core.List.{List}
 use Prim.Native.Nat.{ℕ, _+_, _*_, _≤_}
-use lib.Dec.{eqb}
 use lib.IntN.{ℤ}
 use lib.ListN.{length, take}
 use mir.Syntax.{w64}
@@ -12,17 +11,10 @@ use Rattle.words.specs.Numbers.{toLeBytes, signedAt, numbersOf, bytesOf}
 use Rattle.tables.specs.Ranges.{greatestOrder}
 use Rattle.tables.specs.Matrix.{Matrix, nth, table}
 use Rattle.tables.specs.Checks.{sizesOk}
-use Rattle.tables.specs.Problem.{constraintOf, lengthsOf, constraintSized}
-use Rattle.tables.specs.declared.problem.Constraint.{Constraint}
 use Rattle.tables.specs.declared.problem.Lengths.{Lengths}
 use Rattle.verdict.specs.Judge.{Judgement, Judged, judgeSizes, laidVerdict}
 use Rattle.enclosure.specs.Box.{Box}
 use Rattle.enclosure.specs.Act.{Enclosed, boxSizes, laidSides}
-use Rattle.rides.specs.declared.reading.Reading.{Reading}
-use Rattle.rides.specs.declared.reading.Reading.the-variants as Reading
-use Rattle.rides.specs.Samples.{factorCount}
-use Rattle.rides.specs.Gathering.{Outcome, sumsSized}
-use Rattle.rides.specs.Act.{Lent, Left, laidSums}
 
 -- the table of order n that a buffer spells: n² signed numbers of 8 bytes (R1.6)
 abbrev pub tableOf : ℕ → List ℕ → List ℤ
@@ -35,6 +27,13 @@ vectorOf n s = numbersOf w64 s n
 -- the sides of order n that a buffer spells
 abbrev pub sidesOf : ℕ → List ℕ → List ℤ
 sidesOf n s = numbersOf w64 s (n + n)
+
+-- the number that a buffer of one number spells, and the bytes of one
+abbrev pub numberOf : List ℕ → ℤ
+numberOf s = signedAt w64 s 0
+
+abbrev pub bytesOfNumber : ℤ → List ℕ
+bytesOfNumber v = toLeBytes (bytes w64) (ofZ w64 v)
 
 -- ---- 2, over bytes: each buffer has 8 bytes for each of its numbers
 abbrev pub factorBuffers : ℕ → ℕ → ℕ → ℕ → Bool
@@ -71,47 +70,3 @@ Spelled n sized l u = sized ≡ true → (n * n * bytes w64 ≤ l) × (n * n * b
 pub record Terms (n : ℕ) (sized : Bool) (s : List ℕ) (x : List ℤ) : Type 0 where
   pub size : length x ≡ greatestOrder
   pub numbers : sized ≡ true → nth x ≡ nth (vectorOf n s)
-
--- ---- running sums
--- the number that a buffer of one number spells, and the bytes of one
-abbrev pub numberOf : List ℕ → ℤ
-numberOf s = signedAt w64 s 0
-
-abbrev pub bytesOfNumber : ℤ → List ℕ
-bytesOfNumber v = toLeBytes (bytes w64) (ofZ w64 v)
-
--- the sums of order n that five buffers spell
-abbrev pub spelledSums : ℕ → Lent (List ℕ) → Constraint
-spelledSums n b =
-    constraintOf n (tableOf n (b .low)) (tableOf n (b .high)) (vectorOf n (b .from)) (vectorOf n (b .to)) (numberOf (b .limit))
-
--- 2 of gathering, over bytes
-abbrev pub sumsBuffers : ℕ → Lent (List ℕ) → Bool
-sumsBuffers n b =
-    let lengths : Lengths = lengthsOf (length (b .low)) (length (b .high)) (length (b .from)) (length (b .to)) in
-    sumsSized (bytes w64) n lengths (length (b .limit))
-
--- the sums are written, 8 bytes for each number, or all five buffers are kept
-abbrev pub storedSums : Outcome → Lent (List ℕ) → Left (List ℕ)
-storedSums = laidSums (λ t. bytesOf w64 t (factorCount * factorCount)) (λ x. bytesOf w64 x factorCount) bytesOfNumber
-
--- buffers of the sizes of a sample's order
-pub record SumsBytes (l u a b : List ℕ) : Type 0 where
-  pub low : length l ≡ factorCount * factorCount * bytes w64
-  pub high : length u ≡ factorCount * factorCount * bytes w64
-  pub linear-low : length a ≡ factorCount * bytes w64
-  pub linear-high : length b ≡ factorCount * bytes w64
-
--- 2 of reading, over bytes: `limit` is the size of the buffer for the limit
-unfoldable pub readBuffers : ℕ → Lengths → ℕ → Bool
-readBuffers n lengths limit =
-    constraintSized (record { table = n * n * bytes w64; vector = n * bytes w64 }) lengths && eqb limit (bytes w64)
-
--- the answer of reading, and the limit's buffer as it is left: written, 8 bytes, or kept
-pub record ReadOut : Type 0 where
-  pub answer : Reading
-  pub limit : List ℕ
-
-abbrev pub storedLimit : Reading → List ℕ → ReadOut
-storedLimit (Reading.Limit α) s = record { answer = Reading.Limit α; limit = bytesOfNumber α }
-storedLimit (Reading.Refused r) s = record { answer = Reading.Refused r; limit = s }

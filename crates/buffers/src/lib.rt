@@ -1,8 +1,6 @@
 // The acts on buffers of bytes: the numbers are loaded and checked, the act is asked, and what it gives is stored.
 pub mod boxing;
 pub mod entering;
-pub mod gathering;
 pub mod judging;
-pub mod reading;
 pub mod storing;
 pub mod tests;

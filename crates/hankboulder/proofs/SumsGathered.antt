@@ -24,7 +24,7 @@ use Rattle.rides.proofs.SumsChecks.{added-rooms, within-linear, within-limit, w
 use Rattle.rides.proofs.Laying.{sums-sizes-of}
 use Rattle.rides.proofs.Gains.{added-explains}
 use Rattle.rides.proofs.Wanted.{by-outcome}
-use Rattle.buffers.specs.Buffers.{spelledSums, sumsBuffers, storedSums}
+use Rattle.sums_buffers.specs.SumsBuffers.{spelledSums, sumsBuffers, storedSums}
 use Rattle.buffers.proofs.Stores.{read-numbers, read-number}
 use Rattle.hankboulder.specs.Entries.{gatherStored, gatherEntry}
 use Rattle.hankboulder.specs.Meanings.{GatherMeaning}

@@ -15,7 +15,7 @@ use Rattle.rides.specs.declared.reading.Reading.{Reading}
 use Rattle.rides.specs.declared.reading.Reading.the-variants as Reading
 use Rattle.rides.specs.Reading.{readSums, readingCode, ReadingMeaning}
 use Rattle.rides.proofs.Readings.{reading-fits, reading-means}
-use Rattle.buffers.specs.Buffers.{readBuffers, storedLimit}
+use Rattle.sums_buffers.specs.SumsBuffers.{readBuffers, storedLimit}
 use Rattle.buffers.proofs.Stores.{read-number}
 use Rattle.hankboulder.specs.Entries.{spelledWith, readStored, readEntry}
 use Rattle.hankboulder.specs.Meanings.{ReadMeaning}

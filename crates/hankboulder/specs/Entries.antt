@@ -17,7 +17,7 @@ use Rattle.rides.specs.Gathering.{gathering}
 use Rattle.rides.specs.Act.{Lent, Left, gatheredCode}
 use Rattle.buffers.specs.Buffers.{tableOf, vectorOf, factorBuffers, vectorBuffers, judgeBuffers, boxBuffers, storedVerdict, storedSides}
 use Rattle.rides.specs.Reading.{readSums, readingCode}
-use Rattle.buffers.specs.Buffers.{spelledSums, sumsBuffers, storedSums, readBuffers, ReadOut, storedLimit}
+use Rattle.sums_buffers.specs.SumsBuffers.{spelledSums, sumsBuffers, storedSums, readBuffers, ReadOut, storedLimit}
 
 -- hb_test_factor: the factor test of the numbers that the buffers spell
 unfoldable pub testFactorEntry : ℤ → List ℕ → List ℕ → List ℕ → ℤ

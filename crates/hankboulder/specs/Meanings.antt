@@ -15,7 +15,8 @@ use Rattle.enclosure.specs.Points.{Allowed, Contains}
 use Rattle.rides.specs.declared.sample.Sample.{Sample}
 use Rattle.rides.specs.Explaining.{Explained}
 use Rattle.rides.specs.Act.{Lent, Explaining}
-use Rattle.buffers.specs.Buffers.{tableOf, vectorOf, sidesOf, numberOf, spelledSums}
+use Rattle.buffers.specs.Buffers.{tableOf, vectorOf, sidesOf, numberOf}
+use Rattle.sums_buffers.specs.SumsBuffers.{spelledSums}
 use Rattle.hankboulder.specs.Entries.{testFactorEntry, testVectorEntry, spelledWith}
 
 -- k is the order, L and U the bounds

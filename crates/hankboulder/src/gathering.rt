@@ -49,7 +49,7 @@ pub extern "C" fn hb_gather(
       limit = now («running_limit» .exit);
     }) r ⌝ }
 {
-    gathered_code(buffers::gathering::gather(
+    gathered_code(sums_buffers::gathering::gather(
         sample,
         n,
         low,

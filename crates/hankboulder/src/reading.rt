@@ -22,7 +22,7 @@ pub extern "C" fn hb_read_sums(
     ensures meaning { λ r. ⌜ ReadMeaning n (now (low .entry)) (now (high .entry)) (now («linear_low» .entry)) (now
         («linear_high» .entry)) «running_limit» allowance r (now (limit .exit)) ⌝ }
 {
-    rides::reading::reading_code(buffers::reading::read_sums(
+    rides::reading::reading_code(sums_buffers::reading::read_sums(
         n,
         low,
         high,

@@ -3,7 +3,7 @@ use borrow.Author.Needs.{needs}
 use Rattle.integers.proofs.Machine.{clean, clean-result}
 use Rattle.tables.proofs.Answers.{exactly}
 use Rattle.rides.specs.Reading.{readingCode}
-use Rattle.buffers.specs.Buffers.{ReadOut}
+use Rattle.sums_buffers.specs.SumsBuffers.{ReadOut}
 use Rattle.hankboulder.specs.Entries.{ReadResult, readStored, readEntry}
 use Rattle.hankboulder.specs.Meanings.{ReadMeaning}
 use Rattle.hankboulder.proofs.SumsRead.{read-means}

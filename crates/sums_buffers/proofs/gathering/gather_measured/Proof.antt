@@ -23,10 +23,11 @@ use Rattle.rides.specs.Contracts.{Rooms, Stated}
 use Rattle.rides.specs.Act.{Lent, Left}
 use Rattle.rides.proofs.Near.{constraint-by}
 use Rattle.rides.proofs.Laying.{SumsSizes, sums-sizes-of, sums-sized, stated-by, laid-taken, laid-refused}
-use Rattle.buffers.specs.Buffers.{bytesOfNumber, spelledSums, SumsBytes, sumsBuffers, storedSums}
+use Rattle.buffers.specs.Buffers.{bytesOfNumber}
+use Rattle.sums_buffers.specs.SumsBuffers.{spelledSums, SumsBytes, sumsBuffers, storedSums}
 use Rattle.buffers.proofs.Stores.{number-stored}
-use Rattle.buffers.proofs.gathering.gather_measured.Statement.{statement}
-use Rattle.buffers.proofs.gathering.gather_measured.Tie as tie
+use Rattle.sums_buffers.proofs.gathering.gather_measured.Statement.{statement}
+use Rattle.sums_buffers.proofs.gathering.gather_measured.Tie as tie
 
 abbrev begun : tie.After-order-of → tie.Start
 begun c = c .before .before .before .before .before .before

@@ -7,8 +7,8 @@ use mir.Val.{bytes}
 use Rattle.words.specs.Numbers.{bytesOf}
 use Rattle.words.proofs.Lists.{append-drop-end}
 use Rattle.rides.specs.Samples.{factorCount}
-use Rattle.buffers.proofs.gathering.store_sums.Statement.{statement}
-use Rattle.buffers.proofs.gathering.store_sums.Tie as tie
+use Rattle.sums_buffers.proofs.gathering.store_sums.Statement.{statement}
+use Rattle.sums_buffers.proofs.gathering.store_sums.Tie as tie
 
 pub store-sums-spec : {M : Type 1} → statement M
 store-sums-spec =

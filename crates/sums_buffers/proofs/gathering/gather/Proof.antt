@@ -11,9 +11,9 @@ use Rattle.rides.specs.Samples.{measured}
 use Rattle.rides.specs.Gathering.{Outcome}
 use Rattle.rides.specs.Act.{Lent, Left}
 use Rattle.rides.proofs.Measuring.{Narrow, inside-near, gathering-inside, gathering-outside}
-use Rattle.buffers.specs.Buffers.{spelledSums, sumsBuffers, storedSums}
-use Rattle.buffers.proofs.gathering.gather.Statement.{statement}
-use Rattle.buffers.proofs.gathering.gather.Tie as tie
+use Rattle.sums_buffers.specs.SumsBuffers.{spelledSums, sumsBuffers, storedSums}
+use Rattle.sums_buffers.proofs.gathering.gather.Statement.{statement}
+use Rattle.sums_buffers.proofs.gathering.gather.Tie as tie
 
 -- the numbers of the sample are of 32 bits
 narrow : (s : tie.Start) → Narrow (s .args .sample)

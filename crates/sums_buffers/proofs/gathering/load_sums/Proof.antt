@@ -4,9 +4,9 @@ use native.Mathlib.Omega.{arith}
 use borrow.Author.Needs.{needs}
 use Rattle.words.proofs.Lists.{append-drop-end}
 use Rattle.rides.specs.Samples.{factorCount}
 use Rattle.buffers.specs.Buffers.{tableOf, vectorOf}
-use Rattle.buffers.proofs.gathering.load_sums.Statement.{statement}
-use Rattle.buffers.proofs.gathering.load_sums.Tie as tie
+use Rattle.sums_buffers.proofs.gathering.load_sums.Statement.{statement}
+use Rattle.sums_buffers.proofs.gathering.load_sums.Tie as tie
 
 pub load-sums-spec : {M : Type 1} → statement M
 load-sums-spec =

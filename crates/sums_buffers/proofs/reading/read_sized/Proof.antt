@@ -1,6 +1,6 @@
 use borrow.Author.Needs.{needs}
-use Rattle.buffers.proofs.reading.read_sized.Statement.{statement}
-use Rattle.buffers.proofs.reading.read_sized.Tie as tie
+use Rattle.sums_buffers.proofs.reading.read_sized.Statement.{statement}
+use Rattle.sums_buffers.proofs.reading.read_sized.Tie as tie
 
 pub read-sized-spec : {M : Type 1} → statement M
 read-sized-spec =

@@ -23,12 +23,13 @@ use Rattle.rides.specs.declared.reading.Reading.the-variants as Reading
 use Rattle.rides.specs.Gathering.{termsIn}
 use Rattle.rides.specs.Reading.{limitsIn, readLimit, readSums}
 use Rattle.rides.proofs.Readings.{reading-sized}
-use Rattle.buffers.specs.Buffers.{tableOf, vectorOf, readBuffers, ReadOut, storedLimit}
+use Rattle.buffers.specs.Buffers.{tableOf, vectorOf}
+use Rattle.sums_buffers.specs.SumsBuffers.{readBuffers, ReadOut, storedLimit}
 use Rattle.buffers.proofs.Loading.{terms-by}
 use Rattle.buffers.proofs.Stores.{number-stored}
-use Rattle.buffers.proofs.Sums.{read-sizes-of, reading-spelled, laid-by}
-use Rattle.buffers.proofs.reading.read_sums.Statement.{statement}
-use Rattle.buffers.proofs.reading.read_sums.Tie as tie
+use Rattle.sums_buffers.proofs.Sums.{read-sizes-of, reading-spelled, laid-by}
+use Rattle.sums_buffers.proofs.reading.read_sums.Statement.{statement}
+use Rattle.sums_buffers.proofs.reading.read_sums.Tie as tie
 
 abbrev begun : (c : tie.After-order-of) → tie.Start
 begun c = c .before .before .before .before .before .before

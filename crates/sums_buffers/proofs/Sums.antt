@@ -23,7 +23,8 @@ use Rattle.rides.specs.declared.reading.Reading.{Reading}
 use Rattle.rides.specs.declared.reading.Reading.the-variants as Reading
 use Rattle.rides.specs.Gathering.{sumsChecks}
 use Rattle.rides.specs.Reading.{limitsIn, checkedReading}
-use Rattle.buffers.specs.Buffers.{tableOf, vectorOf, readBuffers, Terms}
+use Rattle.buffers.specs.Buffers.{tableOf, vectorOf, Terms}
+use Rattle.sums_buffers.specs.SumsBuffers.{readBuffers}
 
 -- where check 2 of reading passes each buffer has its size
 pub read-sizes-of : (n : ℕ) (b : Lengths) (s : ℕ) → readBuffers n b s ≡ true →
