@@ -1,7 +1,6 @@
 -- A point X over p of the ellipsoid, seen from the centre c. With Y = X - p c, a member N over q, linear terms A over s, and D and g(k)
 -- of R13: Y'NY ≤ p² q D + 2 p q Σ g(k) |Y(k)|.
 use mathlib.Core.Path.{_≡_, refl, ap, ap₂, _∙_, fun-ext}
-use mathlib.Core.Logic.{_⊎_, inl, inr}
 use mathlib.Core.List.{[], _∷_}
 use Prim.Native.Nat.{ℕ, _<_}
 use native.Mathlib.Omega.{arith}
@@ -13,6 +12,7 @@ use Rattle.integers.proofs.Parts.{≤ℤ-trans, *ℤ-nonneg, square-nonneg, gap
 use Rattle.integers.proofs.Solver.{_&_, ring, order, solver}
 use Rattle.integers.proofs.Order.{≤ℤ-total, *ℤ-mono, *ℤ-cancel, ≤-abs, neg-≤-abs, min-≤ˡ, min-≤ʳ, ≤-maxˡ, ≤-maxʳ}
 use Rattle.integers.proofs.Sums.{sum-ext, sum-+, sum-*, sum-mono}
+use Rattle.arithmetic.proofs.Between.{times-low, times-high}
 use Rattle.tables.specs.Matrix.{Matrix, form}
 use Rattle.tables.specs.Members.{Member, Ends, Between}
 use Rattle.tables.proofs.Forms.{image, form-shift}
@@ -20,30 +20,6 @@ use Rattle.vectors.specs.Least.{leastValue}
 use Rattle.vectors.proofs.Showing.{least-below}
 use Rattle.centre.specs.Centre.{leastSum, greatestSum, lowGradient, highGradient, gradient, atCentre}
 use Rattle.enclosure.specs.Points.{Point}
-
--- ---- q l ≤ z ≤ q u: z c lies from q times the smaller of l c and u c to q times the greater
-module _ (q l u z c : ℤ) (nonneg : pos 0 ≤ℤ q) (low : (q *ℤ l) ≤ℤ z) (high : z ≤ℤ (q *ℤ u)) where
-  pub times-high : (z *ℤ c) ≤ℤ (q *ℤ maxℤ (l *ℤ c) (u *ℤ c))
-  times-high = go (≤ℤ-total (pos 0) c)
-    where
-      go : (pos 0 ≤ℤ c) ⊎ (c ≤ℤ pos 0) → (z *ℤ c) ≤ℤ (q *ℤ maxℤ (l *ℤ c) (u *ℤ c))
-      go (inl h) =
-          order (q ∷ u ∷ z ∷ c ∷ maxℤ (l *ℤ c) (u *ℤ c) ∷ []) (*ℤ-nonneg (gap-nonneg high) h & *ℤ-mono nonneg (≤-maxʳ (l *ℤ c) (u *ℤ c)))
-          (search solver depth 40 fits 20000) (omega arith)
-      go (inr h) =
-          order (q ∷ l ∷ z ∷ c ∷ maxℤ (l *ℤ c) (u *ℤ c) ∷ []) (*ℤ-nonneg (gap-nonneg low) (gap-nonneg h) & *ℤ-mono nonneg (≤-maxˡ (l *ℤ c) (u *ℤ c)))
-          (search solver depth 40 fits 20000) (omega arith)
-
-  pub times-low : (q *ℤ minℤ (l *ℤ c) (u *ℤ c)) ≤ℤ (z *ℤ c)
-  times-low = go (≤ℤ-total (pos 0) c)
-    where
-      go : (pos 0 ≤ℤ c) ⊎ (c ≤ℤ pos 0) → (q *ℤ minℤ (l *ℤ c) (u *ℤ c)) ≤ℤ (z *ℤ c)
-      go (inl h) =
-          order (q ∷ l ∷ z ∷ c ∷ minℤ (l *ℤ c) (u *ℤ c) ∷ []) (*ℤ-nonneg (gap-nonneg low) h & *ℤ-mono nonneg (min-≤ˡ (l *ℤ c) (u *ℤ c)))
-          (search solver depth 40 fits 20000) (omega arith)
-      go (inr h) =
-          order (q ∷ u ∷ z ∷ c ∷ minℤ (l *ℤ c) (u *ℤ c) ∷ []) (*ℤ-nonneg (gap-nonneg high) (gap-nonneg h) & *ℤ-mono nonneg (min-≤ʳ (l *ℤ c) (u *ℤ c)))
-          (search solver depth 40 fits 20000) (omega arith)
 
 -- ---- numbers from q l to q u, and their sum with c
 module _ (n : ℕ) (q : ℤ) (l u z c : ℕ → ℤ) (nonneg : pos 0 ≤ℤ q) (low : (j : ℕ) → j < n → (q *ℤ l j) ≤ℤ z j) (high : (j : ℕ) → j < n → z j ≤ℤ (q *ℤ u j)) where

@@ -8,7 +8,7 @@ ghost use Rattle.tables.specs.Matrix.{at};
 ghost use Rattle.tables.specs.Members.{PositiveDefinite};
 use libc::STDOUT_FILENO;
 use rides::reading::Reading as SumsReading;
-use rides::sample::Sample;
+use samples::sample::Sample;
 use summary::problem::Reading;
 use tables::Checked;
 use verdict::judge::Verdict;

@@ -14,15 +14,15 @@ use Rattle.tables.specs.declared.problem.Constraint.{Constraint}
 use Rattle.tables.proofs.Answers.{refusal-positive}
 use Rattle.tables.proofs.Buffers.{Small}
 use Rattle.verdict.proofs.Fitting.{sized}
-use Rattle.rides.specs.declared.sample.Sample.{Sample}
-use Rattle.rides.specs.Samples.{factorCount, factorNext, drawNext}
-use Rattle.rides.specs.Sums.{addedBy, added, sumsWithin}
-use Rattle.rides.specs.Gathering.{Outcome, taken}
+use Rattle.samples.specs.declared.sample.Sample.{Sample}
+use Rattle.samples.specs.Samples.{factorCount, factorNext, drawNext}
+use Rattle.samples.specs.Sums.{addedBy, added, sumsWithin}
+use Rattle.samples.specs.Gathering.{Outcome, taken}
 use Rattle.rides.specs.Act.{Lent, gatheredCode, Explaining}
-use Rattle.rides.proofs.Near.{constraint-by}
-use Rattle.rides.proofs.SumsChecks.{added-rooms, within-linear, within-limit, within-tables}
+use Rattle.samples.proofs.Near.{constraint-by}
+use Rattle.samples.proofs.SumsChecks.{added-rooms, within-linear, within-limit, within-tables}
 use Rattle.rides.proofs.Laying.{sums-sizes-of}
-use Rattle.rides.proofs.Gains.{added-explains}
+use Rattle.samples.proofs.Gains.{added-explains}
 use Rattle.rides.proofs.Wanted.{by-outcome}
 use Rattle.sums_buffers.specs.SumsBuffers.{spelledSums, sumsBuffers, storedSums}
 use Rattle.buffers.proofs.Stores.{read-numbers, read-number}

@@ -12,8 +12,8 @@ use Rattle.vectors.specs.VectorTest.{vectorTested}
 use Rattle.verdict.specs.Judge.{Judged, judging, verdictCode}
 use Rattle.enclosure.specs.Box.{boxing}
 use Rattle.enclosure.specs.Act.{Enclosed, boxCode}
-use Rattle.rides.specs.declared.sample.Sample.{Sample}
-use Rattle.rides.specs.Gathering.{gathering}
+use Rattle.samples.specs.declared.sample.Sample.{Sample}
+use Rattle.samples.specs.Gathering.{gathering}
 use Rattle.rides.specs.Act.{Lent, Left, gatheredCode}
 use Rattle.buffers.specs.Buffers.{tableOf, vectorOf, factorBuffers, vectorBuffers, judgeBuffers, boxBuffers, storedVerdict, storedSides}
 use Rattle.rides.specs.Reading.{readSums, readingCode}

@@ -12,8 +12,8 @@ use Rattle.tables.specs.Members.{PositiveDefinite, Margin}
 use Rattle.vectors.specs.Least.{shows, Witness}
 use Rattle.verdict.specs.Judge.{listed}
 use Rattle.enclosure.specs.Points.{Allowed, Contains}
-use Rattle.rides.specs.declared.sample.Sample.{Sample}
-use Rattle.rides.specs.Explaining.{Explained}
+use Rattle.samples.specs.declared.sample.Sample.{Sample}
+use Rattle.samples.specs.Explaining.{Explained}
 use Rattle.rides.specs.Act.{Lent, Explaining}
 use Rattle.buffers.specs.Buffers.{tableOf, vectorOf, sidesOf, numberOf}
 use Rattle.sums_buffers.specs.SumsBuffers.{spelledSums}

@@ -3,7 +3,7 @@ ghost use mathlib.Core.Path.{_≡_};
 ghost use Rattle.hankboulder.specs.Entries.{GatherResult, gatherEntry};
 ghost use Rattle.hankboulder.specs.Meanings.{GatherMeaning};
 use rides::gather::gathered_code;
-use rides::sample::Sample;
+use samples::sample::Sample;
 
 // Gathers a sample into running sums of order 4: 0 with all five buffers written; else the refusal's number, with nothing written.
 #[no_mangle]

@@ -13,11 +13,11 @@ use Rattle.tables.specs.Entering.{entered}
 use Rattle.tables.specs.Problem.{constraintOf, constraintEntered}
 use Rattle.tables.specs.declared.Refusal.the-variants as Refused
 use Rattle.floats.specs.Brackets.{signed, unitsOf, sixteenth, finiteWithin, inRange, wholeNextTo}
-use Rattle.rides.specs.declared.sample.Sample.{Sample}
-use Rattle.rides.specs.Samples.{sampleFits}
-use Rattle.rides.specs.Sums.{addedBy, sumsWithin}
-use Rattle.rides.specs.Gathering.{addedWithin, gathering}
-use Rattle.rides.specs.Gathering as Outcome
+use Rattle.samples.specs.declared.sample.Sample.{Sample}
+use Rattle.samples.specs.Samples.{sampleFits}
+use Rattle.samples.specs.Sums.{addedBy, sumsWithin}
+use Rattle.samples.specs.Gathering.{addedWithin, gathering}
+use Rattle.samples.specs.Gathering as Outcome
 use Rattle.rides.specs.Rides.{noSums, gathered}
 
 -- rolling 1, climb 1/32, air -1/32, start -0, draw 2: 16 times them lie from 16 to 16, 0 to 1, -1 to 0, 0 to 0, 32 to 32

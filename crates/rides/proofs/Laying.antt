@@ -19,12 +19,12 @@ use Rattle.tables.specs.declared.problem.Lengths.{Lengths}
 use Rattle.tables.proofs.Checks.{and-left, and-right}
 use Rattle.tables.proofs.Problems.{constraint-sized, constraint-sizes-of}
 use Rattle.floats.specs.declared.Neighbours.{Neighbours}
-use Rattle.rides.specs.declared.adding.Summed.{Summed}
-use Rattle.rides.specs.declared.adding.Summed.the-variants as Summed
+use Rattle.samples.specs.declared.adding.Summed.{Summed}
+use Rattle.samples.specs.declared.adding.Summed.the-variants as Summed
 use Rattle.rides.specs.declared.gather.Gathered.the-variants as Gathered
-use Rattle.rides.specs.Samples.{factorCount}
-use Rattle.rides.specs.Gathering.{Outcome, refused, sumsSized, termsIn, addedWithin, checkedSums, enteredSums}
-use Rattle.rides.specs.Contracts.{stated, Stated}
+use Rattle.samples.specs.Samples.{factorCount}
+use Rattle.samples.specs.Gathering.{Outcome, refused, sumsSized, termsIn, addedWithin, checkedSums, enteredSums}
+use Rattle.samples.specs.Contracts.{stated, Stated}
 use Rattle.rides.specs.Act.{Lent, Left, laidSums}
 
 -- ---- check 2

@@ -8,13 +8,13 @@ use Rattle.tables.specs.Matrix.{tabulate}
 use Rattle.tables.specs.Checks.{orderOf}
 use Rattle.tables.specs.Problem.{lengthsOf}
 use Rattle.tables.specs.declared.problem.Constraint.{Constraint}
-use Rattle.rides.specs.declared.sample.Sample.{Sample}
-use Rattle.rides.specs.Samples.{factorCount}
-use Rattle.rides.specs.Sums.{addedBy, added}
-use Rattle.rides.specs.Gathering.{Outcome, sumsSized, gathering}
+use Rattle.samples.specs.declared.sample.Sample.{Sample}
+use Rattle.samples.specs.Samples.{factorCount}
+use Rattle.samples.specs.Sums.{addedBy, added}
+use Rattle.samples.specs.Gathering.{Outcome, sumsSized, gathering}
 use Rattle.rides.specs.Act.{Lent, Left, laidSums, sumsOf, gather, Meaning}
 use Rattle.rides.proofs.Laying.{sums-sizes-of}
-use Rattle.rides.proofs.Gains.{added-explains}
+use Rattle.samples.proofs.Gains.{added-explains}
 use Rattle.rides.proofs.Wanted.{by-outcome}
 
 pub gather-means : (s : Sample) (n : ℤ) (b : Lent (List ℤ)) → (let j = gather s n b in Meaning s (j .answer) (sumsOf (orderOf n) b) (sumsOf (orderOf n) (j .sums)))

@@ -16,7 +16,7 @@ use Rattle.tables.proofs.Problems.{constraint-means, constraint-sized}
 use Rattle.enclosure.specs.Points.{Allowed}
 use Rattle.rides.specs.declared.reading.Reading.{Reading}
 use Rattle.rides.specs.declared.reading.Reading.the-variants as Reading
-use Rattle.rides.specs.Gathering.{termsIn}
+use Rattle.samples.specs.Gathering.{termsIn}
 use Rattle.rides.specs.Reading.{allowanceRange, limitsIn, readLimit, checkedReading, readSums, ReadingMeaning}
 use Rattle.rides.proofs.Wanted.{allowed}
 

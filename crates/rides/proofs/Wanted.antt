@@ -26,14 +26,14 @@ use Rattle.enclosure.specs.Act.{laidSides}
 use Rattle.enclosure.specs.declared.enclose.BoxAnswer.the-variants as BoxAnswer
 use Rattle.enclosure.proofs.BoxMeanings.{boxing-means}
 use Rattle.floats.specs.Brackets.{sixteenth}
-use Rattle.rides.specs.declared.sample.Sample.{Sample}
-use Rattle.rides.specs.Samples.{factorCount, sampleFits, factorNext, drawNext}
-use Rattle.rides.specs.Sums.{addedBy, added, sumsWithin}
-use Rattle.rides.specs.Gathering.{Outcome, taken, refused, termsIn, addedWithin, enteredSums, gathering}
-use Rattle.rides.specs.Explaining.{Explained, misfit}
+use Rattle.samples.specs.declared.sample.Sample.{Sample}
+use Rattle.samples.specs.Samples.{factorCount, sampleFits, factorNext, drawNext}
+use Rattle.samples.specs.Sums.{addedBy, added, sumsWithin}
+use Rattle.samples.specs.Gathering.{Outcome, taken, refused, termsIn, addedWithin, enteredSums, gathering}
+use Rattle.samples.specs.Explaining.{Explained, misfit}
 use Rattle.rides.specs.Rides.{noSums, gathered, sumsAfter, gatheredAll, ifTaken, squares, allowing}
-use Rattle.rides.proofs.Products.{whole-*}
-use Rattle.rides.proofs.Gains.{one, added-explains}
+use Rattle.samples.proofs.Products.{whole-*}
+use Rattle.samples.proofs.Gains.{one, added-explains}
 
 -- ---- fractions
 module _ (c : Constraint) {u v : ℤ} {X : ℕ → ℤ} {p : ℤ} where

@@ -11,11 +11,11 @@ use Rattle.tables.specs.Checks.{orderOf}
 use Rattle.tables.specs.Problem.{constraintOf, lengthsOf}
 use Rattle.tables.specs.declared.problem.Constraint.{Constraint}
 use Rattle.floats.specs.Brackets.{sixteenth}
-use Rattle.rides.specs.declared.sample.Sample.{Sample}
+use Rattle.samples.specs.declared.sample.Sample.{Sample}
 use Rattle.rides.specs.declared.gather.Gathered.{Gathered}
 use Rattle.rides.specs.declared.gather.Gathered.the-variants as Gathered
-use Rattle.rides.specs.Gathering.{Outcome, taken, refused, sumsSized, gathering}
-use Rattle.rides.specs.Explaining.{Explained, misfit}
+use Rattle.samples.specs.Gathering.{Outcome, taken, refused, sumsSized, gathering}
+use Rattle.samples.specs.Explaining.{Explained, misfit}
 
 -- the five lent buffers: lists of numbers, or of their bytes
 pub record Lent (A : Type 0) : Type 0 where

@@ -13,8 +13,8 @@ use Rattle.tables.specs.declared.problem.Constraint.{Constraint}
 use Rattle.enclosure.specs.Points.{Allowed}
 use Rattle.rides.specs.declared.reading.Reading.{Reading}
 use Rattle.rides.specs.declared.reading.Reading.the-variants as Reading
-use Rattle.rides.specs.Gathering.{termsIn, sumsChecks}
-use Rattle.rides.specs.Explaining.{Explained}
+use Rattle.samples.specs.Gathering.{termsIn, sumsChecks}
+use Rattle.samples.specs.Explaining.{Explained}
 use Rattle.rides.specs.Rides.{allowing}
 
 -- K is from 0 to this

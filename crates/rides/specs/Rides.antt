@@ -6,10 +6,10 @@ use mathlib.Core.Bool.{true}
 use Rattle.tables.specs.Matrix.{table, tabulate}
 use Rattle.tables.specs.Problem.{constraintOf}
 use Rattle.tables.specs.declared.problem.Constraint.{Constraint}
-use Rattle.rides.specs.declared.sample.Sample.{Sample}
-use Rattle.rides.specs.Samples.{factorCount}
-use Rattle.rides.specs.Gathering.{Outcome, taken, refused, gathering}
-use Rattle.rides.specs.Explaining.{misfit}
+use Rattle.samples.specs.declared.sample.Sample.{Sample}
+use Rattle.samples.specs.Samples.{factorCount}
+use Rattle.samples.specs.Gathering.{Outcome, taken, refused, gathering}
+use Rattle.samples.specs.Explaining.{misfit}
 
 -- sums of no sample
 unfoldable pub noSums : Constraint

@@ -1,6 +1,3 @@
 // R22 and R23 of docs/RULES.md: rides gathered into running sums.
-pub mod adding;
-pub mod checking;
 pub mod gather;
 pub mod reading;
-pub mod sample;

@@ -21,7 +21,7 @@ use Rattle.tables.proofs.Admission.{over-padded, checks-padded, range-same, cro
 use Rattle.tables.proofs.Problems.{constraint-sizes-of}
 use Rattle.rides.specs.declared.reading.Reading.{Reading}
 use Rattle.rides.specs.declared.reading.Reading.the-variants as Reading
-use Rattle.rides.specs.Gathering.{sumsChecks}
+use Rattle.samples.specs.Gathering.{sumsChecks}
 use Rattle.rides.specs.Reading.{limitsIn, checkedReading}
 use Rattle.buffers.specs.Buffers.{tableOf, vectorOf, Terms}
 use Rattle.sums_buffers.specs.SumsBuffers.{readBuffers}

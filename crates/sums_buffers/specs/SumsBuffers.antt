@@ -13,8 +13,8 @@ use Rattle.tables.specs.declared.problem.Constraint.{Constraint}
 use Rattle.tables.specs.declared.problem.Lengths.{Lengths}
 use Rattle.rides.specs.declared.reading.Reading.{Reading}
 use Rattle.rides.specs.declared.reading.Reading.the-variants as Reading
-use Rattle.rides.specs.Samples.{factorCount}
-use Rattle.rides.specs.Gathering.{Outcome, sumsSized}
+use Rattle.samples.specs.Samples.{factorCount}
+use Rattle.samples.specs.Gathering.{Outcome, sumsSized}
 use Rattle.rides.specs.Act.{Lent, Left, laidSums}
 use Rattle.buffers.specs.Buffers.{tableOf, vectorOf, numberOf, bytesOfNumber}
 

@@ -10,11 +10,11 @@ use Rattle.tables.specs.Checks.{orderOf}
 use Rattle.tables.specs.Problem.{lengthsOf}
 use Rattle.tables.specs.declared.problem.Constraint.{Constraint}
 use Rattle.tables.proofs.Answers.{exactly}
-use Rattle.rides.specs.declared.sample.Measured.the-variants.{Inside}
-use Rattle.rides.specs.Samples.{measured}
-use Rattle.rides.specs.Gathering.{Outcome, sumsSized}
+use Rattle.samples.specs.declared.sample.Measured.the-variants.{Inside}
+use Rattle.samples.specs.Samples.{measured}
+use Rattle.samples.specs.Gathering.{Outcome, sumsSized}
 use Rattle.rides.specs.Act.{Lent, Left, laidSums, sumsOf, gather, Meaning}
-use Rattle.rides.proofs.Measuring.{Narrow, inside-near, gathering-inside, gathering-outside}
+use Rattle.samples.proofs.Measuring.{Narrow, inside-near, gathering-inside, gathering-outside}
 use Rattle.rides.proofs.Meaning.{gather-means}
 use Rattle.rides.proofs.gather.gather.Statement.{statement}
 use Rattle.rides.proofs.gather.gather.Tie as tie

@@ -14,9 +14,9 @@ use Rattle.tables.specs.declared.problem.Constraint.{Constraint}
 use Rattle.tables.proofs.Checks.{call-false, call-true}
 use Rattle.tables.proofs.Buffers.{copied-all}
 use Rattle.tables.proofs.Admission.{no-order, no-sizes, order-given}
-use Rattle.rides.specs.Samples.{factorCount, factorOf}
-use Rattle.rides.specs.Gathering.{Outcome, refused, sumsSized, checkedSums, enteredSums}
-use Rattle.rides.specs.Contracts.{Stated}
+use Rattle.samples.specs.Samples.{factorCount, factorOf}
+use Rattle.samples.specs.Gathering.{Outcome, refused, sumsSized, checkedSums, enteredSums}
+use Rattle.samples.specs.Contracts.{Stated}
 use Rattle.rides.specs.Act.{Lent, Left, laidSums}
 use Rattle.rides.proofs.Laying.{SumsSizes, sums-sizes-of, sums-sized, set-one, stated-by, laid-taken, laid-refused}
 use Rattle.rides.proofs.gather.gather_measured.Statement.{statement}

@@ -6,11 +6,11 @@ use borrow.Author.Needs.{needs}
 use Rattle.integers.proofs.Machine.{clean}
 use Rattle.tables.specs.Checks.{orderOf}
 use Rattle.tables.specs.declared.problem.Constraint.{Constraint}
-use Rattle.rides.specs.declared.sample.Measured.the-variants.{Inside}
-use Rattle.rides.specs.Samples.{measured}
-use Rattle.rides.specs.Gathering.{Outcome}
+use Rattle.samples.specs.declared.sample.Measured.the-variants.{Inside}
+use Rattle.samples.specs.Samples.{measured}
+use Rattle.samples.specs.Gathering.{Outcome}
 use Rattle.rides.specs.Act.{Lent, Left}
-use Rattle.rides.proofs.Measuring.{Narrow, inside-near, gathering-inside, gathering-outside}
+use Rattle.samples.proofs.Measuring.{Narrow, inside-near, gathering-inside, gathering-outside}
 use Rattle.sums_buffers.specs.SumsBuffers.{spelledSums, sumsBuffers, storedSums}
 use Rattle.sums_buffers.proofs.gathering.gather.Statement.{statement}
 use Rattle.sums_buffers.proofs.gathering.gather.Tie as tie

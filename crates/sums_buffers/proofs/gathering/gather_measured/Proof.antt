@@ -17,11 +17,11 @@ use Rattle.tables.specs.Problem.{lengthsOf, constraintEnds, constraintEntered}
 use Rattle.tables.specs.declared.problem.Constraint.{Constraint}
 use Rattle.tables.proofs.Checks.{call-false, call-true}
 use Rattle.tables.proofs.Admission.{no-order, no-sizes, order-given}
-use Rattle.rides.specs.Samples.{factorCount, factorOf}
-use Rattle.rides.specs.Gathering.{Outcome, refused, termsIn, addedWithin, checkedSums, enteredSums}
-use Rattle.rides.specs.Contracts.{Rooms, Stated}
+use Rattle.samples.specs.Samples.{factorCount, factorOf}
+use Rattle.samples.specs.Gathering.{Outcome, refused, termsIn, addedWithin, checkedSums, enteredSums}
+use Rattle.samples.specs.Contracts.{Rooms, Stated}
 use Rattle.rides.specs.Act.{Lent, Left}
-use Rattle.rides.proofs.Near.{constraint-by}
+use Rattle.samples.proofs.Near.{constraint-by}
 use Rattle.rides.proofs.Laying.{SumsSizes, sums-sizes-of, sums-sized, stated-by, laid-taken, laid-refused}
 use Rattle.buffers.specs.Buffers.{bytesOfNumber}
 use Rattle.sums_buffers.specs.SumsBuffers.{spelledSums, SumsBytes, sumsBuffers, storedSums}

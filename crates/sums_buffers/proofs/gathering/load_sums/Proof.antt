@@ -3,7 +3,7 @@ use Prim.Native.Nat.{_*_}
 use native.Mathlib.Omega.{arith}
 use borrow.Author.Needs.{needs}
 use Rattle.words.proofs.Lists.{append-drop-end}
-use Rattle.rides.specs.Samples.{factorCount}
+use Rattle.samples.specs.Samples.{factorCount}
 use Rattle.buffers.specs.Buffers.{tableOf, vectorOf}
 use Rattle.sums_buffers.proofs.gathering.load_sums.Statement.{statement}
 use Rattle.sums_buffers.proofs.gathering.load_sums.Tie as tie

@@ -6,7 +6,7 @@ use mir.Syntax.{w64}
 use mir.Val.{bytes}
 use Rattle.words.specs.Numbers.{bytesOf}
 use Rattle.words.proofs.Lists.{append-drop-end}
-use Rattle.rides.specs.Samples.{factorCount}
+use Rattle.samples.specs.Samples.{factorCount}
 use Rattle.sums_buffers.proofs.gathering.store_sums.Statement.{statement}
 use Rattle.sums_buffers.proofs.gathering.store_sums.Tie as tie
 

@@ -1,0 +1,6 @@
+pub mod Near
+pub mod SumsChecks
+pub mod Measuring
+pub mod Products
+pub mod Step
+pub mod Gains
