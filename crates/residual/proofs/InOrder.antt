@@ -1,13 +1,14 @@
 -- R7.4 and R7.5 of docs/RULES.md: the factor test is the residual whole, and then the row test over its two tables; and what the tables enclose.
 use mathlib.Core.Path.{_≡_, refl, sym, ap, _∙_}
-use mathlib.Core.Bool.{Bool, true}
+use mathlib.Core.Bool.{Bool, true, _&&_, and-true}
 use mathlib.Core.List.{List, [], _∷_}
-use Prim.Native.Nat.{ℕ, _<_}
+use Prim.Native.Nat.{ℕ, _*_, _<_}
 use native.Mathlib.Omega.{arith}
-use borrow.Author.Tests.{eqb-true}
+use borrow.Author.Tests.{eqb-true, eq-eqb}
 use lib.Dec.{eqb}
 use lib.IntN.{ℤ, _-ℤ_, _*ℤ_}
 use lib.Signed.{leZ}
+use lib.ListN.{length}
 use Rattle.integers.specs.Numbers.{absℤ, maxℤ}
 use Rattle.integers.specs.Sum.{sumExcept}
 use Rattle.integers.proofs.Order.{Between}
@@ -22,11 +23,11 @@ use Rattle.tables.specs.declared.Checked.the-variants.{Passed, Refused}
 use Rattle.tables.specs.declared.Answer.{Answer}
 use Rattle.tables.specs.declared.Answer.the-variants as Answer
 use Rattle.tables.proofs.Matrix.{at-table}
-use Rattle.tables.proofs.Checks.{and-left, and-right, sizes-of}
+use Rattle.tables.proofs.Checks.{and-left, and-right, and-of, sizes-of}
 use Rattle.cholesky.specs.Scale.{scale}
 use Rattle.residual.specs.Residual.{residual, radius, rowPasses, rowsPass, accepts}
-use Rattle.residual.specs.FactorTest.{checkFactor, factorAnswer, factorTested}
-use Rattle.residual.specs.ResidualAct.{Tabled, kept, tables, tabled, tabling, residualSizes}
+use Rattle.residual.specs.FactorTest.{checkFactor, factorAnswer, factorTested, factorSizes, factorTest}
+use Rattle.residual.specs.ResidualAct.{Tabled, kept, tables, tabled, tabling, residualSizes, residualAct}
 use Rattle.residual.proofs.Rows.{rows-ext}
 
 -- where check 2 passes, each table has its size
@@ -65,6 +66,22 @@ in-order n sized l u f a b =
     go (Refused r) d t e = refl
     go Passed (Refused r) t e = refl
     go Passed Passed t e = e
+
+-- where both lent tables have the size of the others, check 2 finds the same of the factor test and of the residual
+lent-sized : (size l u f a b : ℕ) → a ≡ size → b ≡ size → sizesOk size size l u f ≡ residualSizes size l u f a b
+unfolding residualSizes
+lent-sized size l u f a b p q =
+    let z = sizesOk size size l u f in
+    sym (ap (λ (y : Bool). z && y) (and-of (eq-eqb a size p) (eq-eqb b size q)) ∙ and-true z)
+
+-- the two acts: the factor test is the residual, into any two lent tables of the size that belongs to n, and then the row test over what they
+-- are left with, refusals with it
+pub acts-in-order : (n : ℤ) (l u f a b : List ℤ) → length a ≡ orderOf n * orderOf n → length b ≡ orderOf n * orderOf n →
+    factorTest n l u f ≡ thenRows (orderOf n) (residualAct n l u f a b)
+unfolding factorTest residualAct
+acts-in-order n l u f a b p q =
+    in-order n (factorSizes (orderOf n) (length l) (length u) (length f)) l u f a b
+    ∙ ap (λ (z : Bool). thenRows (orderOf n) (tabling n z l u f a b)) (lent-sized (orderOf n * orderOf n) (length l) (length u) (length f) (length a) (length b) p q)
 
 -- ---- 2^32 N - q P, of each member N over q, lies between q times the two tables
 pub residual-encloses : (n : ℕ) (R L U N : Matrix) (q : ℤ) → Member n L U N q → (i j : ℕ) → i < n → j < n →
