@@ -127,11 +127,11 @@ entry-length : (e : Entry) → length (entryBytes e) ≡ head + length (e .bytes
 unfolding entryBytes
 entry-length e = omega (arith, length-append (toLeBytes 2 (length (e .bytes))) (e .bytes), length-toLeBytes 2 (length (e .bytes)))
 
-abbrev lengthsOf : (Kind → List ℕ) → List Kind → ℕ
-lengthsOf c [] = 0
-lengthsOf c (k ∷ ks) = length (c k) + lengthsOf c ks
+abbrev contentsLength : (Kind → List ℕ) → List Kind → ℕ
+contentsLength c [] = 0
+contentsLength c (k ∷ ks) = length (c k) + contentsLength c ks
 
-length-entries : (c : Kind → List ℕ) (ks : List Kind) → length (fileOf (map (entryWith c) ks)) ≡ length ks * head + lengthsOf c ks
+length-entries : (c : Kind → List ℕ) (ks : List Kind) → length (fileOf (map (entryWith c) ks)) ≡ length ks * head + contentsLength c ks
 unfolding fileOf
 length-entries c [] = refl
 length-entries c (k ∷ ks) = length-append (entryBytes (entryWith c k)) _ ∙ omega (arith, entry-length (entryWith c k), length-entries c ks)

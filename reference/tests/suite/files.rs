@@ -1,5 +1,7 @@
 //! The summary file: refusals 10 to 15 and 19, and 1, 3, 4, 5, 16 of a file.
 
+use std::collections::BTreeSet;
+
 use hankboulder_reference::cases::bytes;
 use hankboulder_reference::refusal::Refusal;
 use hankboulder_reference::summary::{decode, encode, fields, read_problem, write_summary};
@@ -42,20 +44,35 @@ fn case_p_is_read() {
     assert_eq!(problem.centre, [2]);
 }
 
+/// One of the 5,040 orders of case P's fields, by its number; 0 is that of the
+/// tags. The digits of the number are to the bases 7, 6 and so on, and each
+/// says which of the fields that are left comes next.
+fn order_of_fields(number: usize) -> Vec<&'static str> {
+    let mut rest = number;
+    let mut left = CASE_P.to_vec();
+    let mut parts = Vec::new();
+    while !left.is_empty() {
+        let digit = rest % left.len();
+        rest /= left.len();
+        parts.push(left.remove(digit));
+    }
+    parts
+}
+
 #[test]
 fn refusal_19_of_every_other_order_of_the_fields() {
-    for turn in 0..7 {
-        let mut parts = CASE_P.to_vec();
-        parts.rotate_left(turn);
-        assert_eq!(refusal_of(&parts), if turn == 0 { 0 } else { 19 });
-        parts.reverse();
-        assert_eq!(refusal_of(&parts), 19);
+    let orders: BTreeSet<Vec<&str>> = (0..5040).map(order_of_fields).collect();
+    assert_eq!(orders.len(), 5040);
+    for parts in orders {
+        let wanted = if parts == CASE_P { 0 } else { 19 };
+        assert_eq!(refusal_of(&parts), wanted, "{parts:?}");
     }
+}
+
+#[test]
+fn refusal_19_comes_before_13() {
     for (first, second) in (1..7).flat_map(|second| (0..second).map(move |f| (f, second))) {
-        let mut parts = CASE_P.to_vec();
-        parts.swap(first, second);
-        assert_eq!(refusal_of(&parts), 19, "{first} and {second} exchanged");
-        // Nothing else in the file: 19 comes before 13.
+        // Nothing else in the file.
         assert_eq!(refusal_of(&[CASE_P[second], CASE_P[first]]), 19);
         assert_eq!(refusal_of(&[CASE_P[first], CASE_P[second]]), 13);
     }
