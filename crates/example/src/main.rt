@@ -105,6 +105,19 @@ fn residuals() {
     print_four(b"high", &from_high);
 }
 
+// The same residual, with a lent table of another size: refused by 2, with both tables kept.
+fn residual_unfit() {
+    let low = [2i64, 1, 1, 2];
+    let high = [3i64, 1, 1, 3];
+    let factor = [89738i64, 47861, 0, 75910];
+    let mut from_low = [5i64; 4];
+    let mut short = [7i64; 2];
+    let refused = residual::residual::residual(2, &low, &high, &factor, &mut from_low, &mut short);
+    print_checked(b"residual", refused);
+    print_four(b"low", &from_low);
+    print_two(b"high", &short);
+}
+
 // [1 2; 2 1]: not definite, with a vector, to which the vector test says yes.
 fn not_definite() {
     let table = [1i64, 2, 2, 1];
@@ -273,6 +286,7 @@ fn read_fields() {
 fn main() {
     definite();
     residuals();
+    residual_unfit();
     not_definite();
     refused();
     boxed();

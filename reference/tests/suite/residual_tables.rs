@@ -1,42 +1,52 @@
 //! The residual by itself (R7.5, R7.6), which C has no entry for: beside what
 //! the example in Rattle prints.
 
-use hankboulder_reference::problem::Table;
 use hankboulder_reference::refusal::Refusal;
 use hankboulder_reference::residual::residual_tables;
 
 const LOW: [i64; 4] = [2, 1, 1, 2];
 const HIGH: [i64; 4] = [3, 1, 1, 3];
 const FACTOR: [i64; 4] = [89738, 47861, 0, 75910];
+const TURNED: [i64; 4] = [89738, 0, 47861, 75910];
 
-fn line(word: &str, table: &Table) -> String {
-    let numbers: Vec<String> = table.iter().flatten().map(i128::to_string).collect();
-    format!("{word} {}", numbers.join(" "))
+/// What the example prints of a call with these two lent tables: the number of
+/// a refusal, which keeps both, or 0 and both tables of the residual.
+fn printed(factor: &[i64], lent: [&[i64]; 2]) -> String {
+    let called = residual_tables(2, &LOW, &HIGH, factor, lent.map(<[i64]>::len));
+    let (number, left) = match called {
+        Ok(tables) => (0, tables.map(|table| words(table.iter().flatten()))),
+        Err(refusal) => (refusal.number(), lent.map(|table| words(table.iter()))),
+    };
+    format!("residual {number}\nlow {}\nhigh {}\n", left[0], left[1])
+}
+
+fn words(numbers: impl Iterator<Item = impl ToString>) -> String {
+    let words: Vec<String> = numbers.map(|number| number.to_string()).collect();
+    words.join(" ")
 }
 
 #[test]
-fn the_example_prints_these_tables() {
-    let [low, high] = residual_tables(2, &LOW, &HIGH, &FACTOR, [4, 4]).unwrap();
-    let wanted = format!(
-        "residual 0\n{}\n{}\n",
-        line("low", &low),
-        line("high", &high)
-    );
+fn the_example_prints_these_calls() {
+    let wanted = [
+        printed(&TURNED, [&[5; 4], &[5; 4]]),
+        printed(&FACTOR, [&[5; 4], &[5; 4]]),
+        printed(&FACTOR, [&[5; 4], &[7; 2]]),
+    ]
+    .concat();
     let path = concat!(env!("CARGO_MANIFEST_DIR"), "/../crates/example/stdout");
-    let printed = std::fs::read_to_string(path).unwrap();
-    assert!(printed.contains(&wanted), "{wanted}");
+    let stdout = std::fs::read_to_string(path).unwrap();
+    assert!(stdout.contains(&wanted), "{wanted}");
 }
 
 #[test]
 fn refusals_come_in_their_order() {
     let lopsided = [2, 1, 0, 2];
-    let turned = [89738, 0, 47861, 75910];
     let refused = |n, low: &[i64], factor: &[i64], lent| {
         residual_tables(n, low, &HIGH, factor, lent).unwrap_err()
     };
-    assert_eq!(refused(9, &lopsided, &turned, [3, 4]), Refusal::Order);
-    assert_eq!(refused(2, &lopsided, &turned, [3, 4]), Refusal::Length);
-    assert_eq!(refused(2, &lopsided, &turned, [4, 5]), Refusal::Length);
-    assert_eq!(refused(2, &lopsided, &turned, [4, 4]), Refusal::Lopsided);
-    assert_eq!(refused(2, &LOW, &turned, [4, 4]), Refusal::Factor);
+    assert_eq!(refused(9, &lopsided, &TURNED, [3, 4]), Refusal::Order);
+    assert_eq!(refused(2, &lopsided, &TURNED, [3, 4]), Refusal::Length);
+    assert_eq!(refused(2, &lopsided, &TURNED, [4, 5]), Refusal::Length);
+    assert_eq!(refused(2, &lopsided, &TURNED, [4, 4]), Refusal::Lopsided);
+    assert_eq!(refused(2, &LOW, &TURNED, [4, 4]), Refusal::Factor);
 }
