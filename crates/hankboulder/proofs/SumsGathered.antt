@@ -31,7 +31,7 @@ use Rattle.hankboulder.specs.Meanings.{GatherMeaning}
 
 -- sums in their ranges, stored and read back
 module _ (s : Sample) (c : Constraint) (b : Lent (List ℕ)) (e : sumsWithin (added s c) ≡ true) where
-  back : spelledSums factorCount (storedSums (taken (added s c)) b .sums) ≡ added s c
+  pub back : spelledSums factorCount (storedSums (taken (added s c)) b .sums) ≡ added s c
   unfolding addedBy
   back =
       let d = added s c in
