@@ -38,10 +38,10 @@ module _ {n : ℕ} {l u f : List ℤ} (s : Offer n l u f) where
   abbrev high : List ℤ
   high = turned n R u n
 
-  low-size : length low ≡ tableRoom
+  pub low-size : length low ≡ tableRoom
   low-size = columns-turned n R l (s .tables .low-length) n (omega arith) .kept .size ∙ s .rooms .low-size
 
-  high-size : length high ≡ tableRoom
+  pub high-size : length high ≡ tableRoom
   high-size = columns-turned n R u (s .tables .high-length) n (omega arith) .kept .size ∙ s .rooms .high-size
 
   low-whole : (i j : ℕ) → i < n → j < n → at n low i j ≡ residual n R (at n l) i j

@@ -73,7 +73,7 @@ pub fn turn(n: usize, factor: &[i64], low: &mut Table, high: &mut Table)
     }
 }
 
-// Check 6, and then the residual of bounds of order n into both lent tables.
+// Check 6, and then the residual of bounds of order n into both lent tables. Where 6 refuses, none of their entries is written.
 fn write_residual(
     n: usize,
     low: &mut Table,
@@ -91,13 +91,20 @@ fn write_residual(
     }) (tabled n (at n (now (low .entry))) (at n (now (high .entry))) (at n (now (factor .entry)))
         (now («low_residual» .entry)) (now («high_residual» .entry))) ⌝ }
 {
-    if !factor_shape(n, factor) {
-        return Checked::Refused(Refusal::Factor);
+    let size = n * n;
+    let shaped = factor_shape(n, factor);
+    let mut written = 0;
+    if shaped {
+        turn(n, factor, low, high);
+        written = size;
     }
-    turn(n, factor, low, high);
-    tables::copy_numbers(n * n, low, low_residual);
-    tables::copy_numbers(n * n, high, high_residual);
-    Checked::Passed
+    tables::copy_numbers(written, low, low_residual);
+    tables::copy_numbers(written, high, high_residual);
+    if shaped {
+        Checked::Passed
+    } else {
+        Checked::Refused(Refusal::Factor)
+    }
 }
 
 // Whether the tables of a call have their size.
