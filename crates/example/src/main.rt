@@ -118,6 +118,68 @@ fn residual_unfit() {
     print_two(b"high", &short);
 }
 
+// The entries (1,1), (1,8), (8,7) and (8,8) of a table of order 8.
+fn print_corners(word: &[u8], x: &[i64; 64])
+    requires { ⌜ length (now word) ≤ 16 ⌝ }
+{
+    let row = [x[0], x[7], x[62], x[63]];
+    print(word, &row, 4);
+}
+
+// A factor of order 8: 2^26 on the diagonal, -2^26 above it in the last column, and 0 elsewhere.
+fn widest_factor() -> [i64; 64] {
+    let greatest: i64 = 67108864;
+    let least: i64 = -67108864;
+    let mut x = [0i64; 64];
+    x[0] = greatest;
+    x[9] = greatest;
+    x[18] = greatest;
+    x[27] = greatest;
+    x[36] = greatest;
+    x[45] = greatest;
+    x[54] = greatest;
+    x[63] = greatest;
+    x[7] = least;
+    x[15] = least;
+    x[23] = least;
+    x[31] = least;
+    x[39] = least;
+    x[47] = least;
+    x[55] = least;
+    x
+}
+
+// The residual of the widest bounds of order 8 and this factor; and the same with n = 9, refused by 1, with both tables kept.
+fn residual_widest() {
+    let low = [-1048576i64; 64];
+    let high = [1048576i64; 64];
+    let factor = widest_factor();
+    let mut from_low = [5i64; 64];
+    let mut from_high = [7i64; 64];
+    let refused = residual::residual::residual(
+        9,
+        &low,
+        &high,
+        &factor,
+        &mut from_low,
+        &mut from_high,
+    );
+    print_checked(b"residual", refused);
+    print_corners(b"low", &from_low);
+    print_corners(b"high", &from_high);
+    let written = residual::residual::residual(
+        8,
+        &low,
+        &high,
+        &factor,
+        &mut from_low,
+        &mut from_high,
+    );
+    print_checked(b"residual", written);
+    print_corners(b"low", &from_low);
+    print_corners(b"high", &from_high);
+}
+
 // [1 2; 2 1]: not definite, with a vector, to which the vector test says yes.
 fn not_definite() {
     let table = [1i64, 2, 2, 1];
@@ -287,6 +349,7 @@ fn main() {
     definite();
     residuals();
     residual_unfit();
+    residual_widest();
     not_definite();
     refused();
     boxed();

@@ -25,6 +25,12 @@ fn words(numbers: impl Iterator<Item = impl ToString>) -> String {
     words.join(" ")
 }
 
+/// All that the example prints.
+fn stdout() -> String {
+    let path = concat!(env!("CARGO_MANIFEST_DIR"), "/../crates/example/stdout");
+    std::fs::read_to_string(path).unwrap()
+}
+
 #[test]
 fn the_example_prints_these_calls() {
     let wanted = [
@@ -33,9 +39,32 @@ fn the_example_prints_these_calls() {
         printed(&FACTOR, [&[5; 4], &[7; 2]]),
     ]
     .concat();
-    let path = concat!(env!("CARGO_MANIFEST_DIR"), "/../crates/example/stdout");
-    let stdout = std::fs::read_to_string(path).unwrap();
-    assert!(stdout.contains(&wanted), "{wanted}");
+    assert!(stdout().contains(&wanted), "{wanted}");
+}
+
+/// A factor of order 8 whose entries are at the ends of their range, and the
+/// widest bounds: the example prints four entries of each table.
+#[test]
+fn the_example_prints_the_widest_calls() {
+    let (low, high) = ([-(1 << 20); 64], [1 << 20; 64]);
+    let mut factor = [0; 64];
+    for i in 0..8 {
+        factor[8 * i + 7] = -(1 << 26);
+        factor[9 * i] = 1 << 26;
+    }
+    let called = |n| residual_tables(n, &low, &high, &factor, [64, 64]);
+    assert_eq!(called(9).unwrap_err(), Refusal::Order);
+    let [from_low, from_high] = called(8).unwrap().map(|table| {
+        words(
+            [(0, 0), (0, 7), (7, 6), (7, 7)]
+                .iter()
+                .map(|&(i, j)| table[i][j]),
+        )
+    });
+    let wanted = format!(
+        "residual 1\nlow 5 5 5 5\nhigh 7 7 7 7\nresidual 0\nlow {from_low}\nhigh {from_high}\n"
+    );
+    assert!(stdout().contains(&wanted), "{wanted}");
 }
 
 #[test]
