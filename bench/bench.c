@@ -6,6 +6,8 @@
  *     bench count             makes each call once, for callgrind, which writes down the instructions of each act, order and side
  *     bench time [COUNTS]     compares, times and prints the tables. Each line of the file COUNTS is an act, an order, a side and its instructions.
  *                             Ends with status 1 where the library takes longer beside plain C than it may
+ *     bench alone             times the library alone, for bench/before: a line for each act and order with the nanoseconds of a call, a sum over all
+ *                             answers and buffers, and the act's name
  */
 #define _POSIX_C_SOURCE 199309L
 #include "peers.h"
@@ -27,6 +29,8 @@
 
 #define COMPARED 2000
 #define ROUNDS 400
+#define ALONE_ROUNDS 15
+#define LACKING INT64_MIN
 #define SLICE_NS 40e3
 #define MOST_NS 1e9
 
@@ -462,6 +466,48 @@ static double time_of(const struct act *act, int64_t n, int k)
     return cell->parts ? sum / cell->parts : 0;
 }
 
+/* In the place of an entry that an earlier archive lacks: bench/before links it so. */
+int64_t bench_lacking(void)
+{
+    return LACKING;
+}
+
+/* A sum over what the library answers and writes, on all problems of an order */
+static uint64_t sum_of(const struct act *act, int64_t n)
+{
+    uint64_t sum = 14695981039346656037u;
+    own_sums = 1;
+    for (int place = 0; place < PROBLEMS; place++) {
+        memset(&out, 0x5A, sizeof out);
+        int64_t answer = act->sides[LIBRARY](n, problem_of(act->kind, n, place));
+        sum = (sum ^ (uint64_t)answer) * 1099511628211u;
+        for (size_t at = 0; at < sizeof out; at++)
+            sum = (sum ^ ((const unsigned char *)&out)[at]) * 1099511628211u;
+    }
+    own_sums = 0;
+    return sum;
+}
+
+/* Whether the library has an act, the same one not twice: those of FACTORING_FLOATING and after it have the library's sides of others */
+static int has_act(int a)
+{
+    const struct act *act = &acts[a];
+    return a < FACTORING_FLOATING && act->sides[LIBRARY] && act->sides[LIBRARY](act->last_order, problem_of(act->kind, act->last_order, 0)) != LACKING;
+}
+
+static void time_alone(void)
+{
+    for (int round = 0; round < ALONE_ROUNDS; round++)
+        for (int a = 0; a < ACTS; a++)
+            for (int64_t n = acts[a].first_order; n <= acts[a].last_order; n++)
+                if (has_act(a))
+                    measure(&acts[a], n, LIBRARY, round);
+    for (int a = 0; a < ACTS; a++)
+        for (int64_t n = acts[a].first_order; n <= acts[a].last_order; n++)
+            if (has_act(a))
+                printf("%d %d %.2f %016llx %s\n", a, (int)n, time_of(&acts[a], n, LIBRARY), (unsigned long long)sum_of(&acts[a], n), acts[a].name);
+}
+
 static double instructions_of(const struct act *act, int64_t n, int k)
 {
     return act->cells[n][k].instructions;
@@ -549,7 +595,7 @@ static void print_longest(void)
 static const struct {
     int act;
     double most;
-} limits[] = {{FACTORING, 1.2}, {JUDGE_DEFINITE, 1.2}, {BOX, 1.2}, {JUDGE_UNDECIDED, 0.01}, {GATHER, 1.5}, {READ_SUMS, 1.5}};
+} limits[] = {{FACTORING, 1.2}, {FACTOR_TEST, 1.2}, {JUDGE_DEFINITE, 1.2}, {BOX, 1.2}, {JUDGE_UNDECIDED, 0.01}, {GATHER, 1.5}, {READ_SUMS, 1.5}};
 
 /* Prints whether the limits are kept. What has no side of the library is not measured. */
 static int keeps_limits(void)
@@ -615,6 +661,10 @@ int main(int count, char **arguments)
     take_kind(THIN);
     if (strcmp(mode, "count") == 0) {
         count_all();
+        return 0;
+    }
+    if (strcmp(mode, "alone") == 0) {
+        time_alone();
         return 0;
     }
     compare_all();

@@ -165,24 +165,31 @@ static int64_t product(const int64_t *factor, int64_t n, int64_t i, int64_t j)
     return sum;
 }
 
-/* The row test of each row. The remainder at (i,j) counts in row i and in row j. */
-static int rows_hold(int64_t n, const int64_t *low, const int64_t *high, const int64_t *factor)
+/* Both tables of the residual, whole: 2^32 L - P and 2^32 U - P */
+static void residual(int64_t n, const int64_t *low, const int64_t *high, const int64_t *factor, int64_t *from_low, int64_t *from_high)
 {
-    int64_t surplus[PLAIN_MAX_ORDER] = {0};
     for (int64_t i = 0; i < n; i++) {
-        surplus[i] += SCALE * low[i * n + i] - product(factor, n, i, i);
-        for (int64_t j = i + 1; j < n; j++) {
+        for (int64_t j = i; j < n; j++) {
             int64_t p = product(factor, n, i, j);
-            int64_t from_low = magnitude(SCALE * low[i * n + j] - p);
-            int64_t from_high = magnitude(SCALE * high[i * n + j] - p);
-            int64_t remainder = from_low > from_high ? from_low : from_high;
-            surplus[i] -= remainder;
-            surplus[j] -= remainder;
+            from_low[i * n + j] = from_low[j * n + i] = SCALE * low[i * n + j] - p;
+            from_high[i * n + j] = from_high[j * n + i] = SCALE * high[i * n + j] - p;
         }
     }
-    for (int64_t i = 0; i < n; i++)
-        if (surplus[i] < 0)
+}
+
+/* The row test of each row, over the two tables of a residual */
+static int rows_hold(int64_t n, const int64_t *from_low, const int64_t *from_high)
+{
+    for (int64_t i = 0; i < n; i++) {
+        int64_t surplus = from_low[i * n + i];
+        for (int64_t j = 0; j < n; j++) {
+            int64_t low = magnitude(from_low[i * n + j]), high = magnitude(from_high[i * n + j]);
+            if (j != i)
+                surplus -= low > high ? low : high;
+        }
+        if (surplus < 0)
             return 0;
+    }
     return 1;
 }
 
@@ -234,7 +241,9 @@ int64_t plain_test_factor(int64_t n, const int64_t *low, size_t low_count, const
         return refusal;
     if (!proper_factor(factor, n))
         return 6;
-    return rows_hold(n, low, high, factor) ? 0 : -1;
+    int64_t from_low[PLAIN_MAX_ORDER * PLAIN_MAX_ORDER], from_high[PLAIN_MAX_ORDER * PLAIN_MAX_ORDER];
+    residual(n, low, high, factor, from_low, from_high);
+    return rows_hold(n, from_low, from_high) ? 0 : -1;
 }
 
 /* What x(i) x(j) m adds at its least, for an m from low to high */
