@@ -22,7 +22,7 @@ use Rattle.fields.specs.declared.layout.Layout.{Layout}
 use Rattle.fields.specs.declared.layout.Walked.{Walked}
 use Rattle.fields.specs.Fields.{placeOf, tagOf, head, kindOf, tagged, fieldAt}
 use Rattle.fields.specs.Layouts.{startOf, lengthOf, seen, unseen, placed, walk, walked, content}
-use Rattle.fields.specs.Entries.{Entry, headBytes, entryBytes, fileOf, entryOf, Writable, contentSeen, Written}
+use Rattle.fields.specs.Entries.{Entry, headBytes, entryBytes, bytesOfEntries, entryOf, Writable, contentSeen, Written}
 use Rattle.fields.proofs.Finding.{Stands, kind-place, same-kind, tag-known, field-end, field-whole, found-inside, found-end}
 use Rattle.fields.proofs.Walking.{seen-is, walk-end, walk-more, walk-ind}
 use Rattle.fields.proofs.Parts.{kind-discrete, HasPlaces, unseen-start, unseen-places, start-placed, length-placed, start-kept, length-kept, placed-places}
@@ -97,7 +97,7 @@ module _ (s : List ℕ) where
   unfolding entryOf
   reads-none l = record { passed = refl; found = λ k b q. absurd (false≢true (cc)); kept = λ k q. (refl, refl) }
 
-  module _ (e : Entry) (es : List Entry) (at : ℕ) (l : Layout) (h : drop at s ≡ entryBytes e ++ fileOf es) (d : entryOf es (e .kind) ≡ none) (z : HasPlaces l) where
+  module _ (e : Entry) (es : List Entry) (at : ℕ) (l : Layout) (h : drop at s ≡ entryBytes e ++ bytesOfEntries es) (d : entryOf es (e .kind) ≡ none) (z : HasPlaces l) where
     reads-more : (w : Walked) → Reads es (placed l (fieldOf at e)) w → Reads (e ∷ es) l w
     unfolding content
     reads-more w r = record { passed = r .passed; found = λ k. found k (kind-discrete k (e .kind)); kept = λ k. kept k (kind-discrete k (e .kind)) }
@@ -109,7 +109,7 @@ module _ (s : List ℕ) where
             let start : startOf (w .layout) k ≡ at + head = o .0 ∙ ap (startOf (placed l f)) p ∙ start-placed l f z in
             let size : lengthOf (w .layout) k ≡ length (e .bytes) = o .1 ∙ ap (lengthOf (placed l f)) p ∙ length-placed l f z in
             let same : e .bytes ≡ b = cc (entry-here e es k p) in
-            (omega arith, rw (start, size) (entry-content s at e (fileOf es) h ∙ same))
+            (omega arith, rw (start, size) (entry-content s at e (bytesOfEntries es) h ∙ same))
         found k (no n) b q = r .found k b (sym (entry-next e es k n) ∙ q)
 
         kept : (k : Kind) → Dec (k ≡ e .kind) → entryOf (e ∷ es) k ≡ none → (startOf (w .layout) k ≡ startOf l k) × (lengthOf (w .layout) k ≡ lengthOf l k)
@@ -122,20 +122,20 @@ module _ (s : List ℕ) where
   abbrev Above : ℕ → Layout → Type 0
   Above t l = (k : Kind) → t < tagOf k → startOf l k ≡ 0
 
-  reads : (es : List Entry) (at t : ℕ) (l : Layout) → drop at s ≡ fileOf es → Writable t es → HasPlaces l → Above t l → Reads es l (walk s at t l)
-  unfolding fileOf Writable
+  reads : (es : List Entry) (at t : ℕ) (l : Layout) → drop at s ≡ bytesOfEntries es → Writable t es → HasPlaces l → Above t l → Reads es l (walk s at t l)
+  unfolding bytesOfEntries Writable
   reads [] at t l h w z u =
       let end : length s ≤ at = let q = sym (length-drop at s) ∙ ap length h in omega arith in
       rw (walk-end s at t l (field-end s at end)) (reads-none l)
   reads (e ∷ es) at t l h w z u =
       let f = fieldOf at e in
       let b : t < tagOf (e .kind) = w .1 in
-      let here = entry-found s at e (fileOf es) h (w .0) in
+      let here = entry-found s at e (bytesOfEntries es) h (w .0) in
       let fresh = seen-is l (e .kind) (sym (u (e .kind) b)) refl in
       let d = none-below es (tagOf (e .kind)) (w .2) (e .kind) (omega arith) in
       rw (walk-more s at t l f here fresh (le-ltb (tagOf (e .kind)) t (omega arith)))
       (reads-more e es at l h d z _
-      (reads es (f .next) (tagOf (e .kind)) (placed l f) (entry-behind s at e (fileOf es) h) (w .2) (placed-places l f z)
+      (reads es (f .next) (tagOf (e .kind)) (placed l f) (entry-behind s at e (bytesOfEntries es) h) (w .2) (placed-places l f z)
       (λ k q. let n : k ≡ e .kind → ⊥ = λ p. let o = ap placeOf p in omega arith in start-kept l f k n ∙ u k (omega arith))))
 
 -- ---- a file that is made of entries passes, and their contents are found
@@ -191,10 +191,10 @@ module _ (s : List ℕ) (v : AllBytes s) where
   record Behind (at t : ℕ) : Type 0 where
     entries : List Entry
     writable : Writable t entries
-    file : drop at s ≡ fileOf entries
+    file : drop at s ≡ bytesOfEntries entries
 
   behind-end : (at t : ℕ) → fieldAt s at ≡ Found.End → Behind at t
-  unfolding Writable fileOf
+  unfolding Writable bytesOfEntries
   behind-end at t e = record { entries = []; writable = tt; file = drop-of-length-le s (found-end s at e) }
 
   -- the walk has met the tag that it carries, where that is one
@@ -222,7 +222,7 @@ module _ (s : List ℕ) (v : AllBytes s) where
       go (no n) = omega arith
 
   behind-more : (at t : ℕ) (f : Field) → Stands s at f → t < tagOf (f .kind) → Behind (f .next) (tagOf (f .kind)) → Behind at t
-  unfolding Writable fileOf
+  unfolding Writable bytesOfEntries
   behind-more at t f w h b =
       record {
         entries = entryAt f ∷ b .entries;

@@ -15,7 +15,7 @@ use Rattle.fields.specs.declared.field.Kind.the-variants as Kind
 use Rattle.fields.specs.declared.layout.Layout.{Layout}
 use Rattle.fields.specs.Fields.{kinds, kindCount, placeOf, tagOf, head}
 use Rattle.fields.specs.Layouts.{seen, walked, content}
-use Rattle.fields.specs.Entries.{Entry, entryBytes, fileOf, entryOf, Writable, contentSeen, Written, entryWith, allEntries, wholeFile}
+use Rattle.fields.specs.Entries.{Entry, entryBytes, bytesOfEntries, entryOf, Writable, contentSeen, Written, entryWith, allEntries, wholeFile}
 use Rattle.fields.proofs.Finding.{place-below, same-kind}
 use Rattle.fields.proofs.Parts.{kind-discrete}
 use Rattle.fields.proofs.Entries.{entry-here, entry-next, none-below, written-passes, written-contents, passed-written}
@@ -110,7 +110,7 @@ entries-ext c d e (k ∷ ks) = rw (e k, entries-ext c d e ks)
 
 pub whole-ext : (c d : Kind → List ℕ) → ((k : Kind) → c k ≡ d k) → wholeFile c ≡ wholeFile d
 unfolding wholeFile
-whole-ext c d e = ap fileOf (entries-ext c d e kinds)
+whole-ext c d e = ap bytesOfEntries (entries-ext c d e kinds)
 
 -- a file that passes and has all kinds is the file of its contents
 pub passed-whole : (s : List ℕ) → AllBytes s → walked s .checked ≡ Checked.Passed → ((k : Kind) → seen (walked s .layout) k ≡ true) → s ≡ wholeFile (content s (walked s .layout))
@@ -120,7 +120,7 @@ passed-whole s v p a =
     let w = passed-written s v p in
     let has : Has (content s l) 0 (w .entries) = λ k h. sym (written-contents s w k) ∙ seen-content s l k (a k) in
     let first : From 0 kinds = (refl, (refl, (refl, (refl, (refl, (refl, (refl, omega arith))))))) in
-    w .file ∙ ap fileOf (in-order (content s l) kinds (w .entries) 0 first (w .writable) has)
+    w .file ∙ ap bytesOfEntries (in-order (content s l) kinds (w .entries) 0 first (w .writable) has)
 
 -- ---- its length: that of the heads and of the contents
 entry-length : (e : Entry) → length (entryBytes e) ≡ head + length (e .bytes)
@@ -131,8 +131,8 @@ abbrev contentsLength : (Kind → List ℕ) → List Kind → ℕ
 contentsLength c [] = 0
 contentsLength c (k ∷ ks) = length (c k) + contentsLength c ks
 
-length-entries : (c : Kind → List ℕ) (ks : List Kind) → length (fileOf (map (entryWith c) ks)) ≡ length ks * head + contentsLength c ks
-unfolding fileOf
+length-entries : (c : Kind → List ℕ) (ks : List Kind) → length (bytesOfEntries (map (entryWith c) ks)) ≡ length ks * head + contentsLength c ks
+unfolding bytesOfEntries
 length-entries c [] = refl
 length-entries c (k ∷ ks) = length-append (entryBytes (entryWith c k)) _ ∙ omega (arith, entry-length (entryWith c k), length-entries c ks)
 

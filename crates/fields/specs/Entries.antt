@@ -26,9 +26,9 @@ headBytes e = tagOf (e .kind) ∷ toLeBytes 2 (length (e .bytes))
 unfoldable pub entryBytes : Entry → List ℕ
 entryBytes e = headBytes e ++ e .bytes
 
-unfoldable pub fileOf : List Entry → List ℕ
-fileOf [] = []
-fileOf (e ∷ es) = entryBytes e ++ fileOf es
+unfoldable pub bytesOfEntries : List Entry → List ℕ
+bytesOfEntries [] = []
+bytesOfEntries (e ∷ es) = entryBytes e ++ bytesOfEntries es
 
 -- the content of a kind among the entries
 unfoldable pub entryOf : List Entry → Kind → Option (List ℕ)
@@ -48,7 +48,7 @@ contentSeen s l k = elim (seen l k) [ true ↦ some (content s l k) | false ↦ 
 pub record Written (s : List ℕ) : Type 0 where
   pub entries : List Entry
   pub writable : Writable 0 entries
-  pub file : s ≡ fileOf entries
+  pub file : s ≡ bytesOfEntries entries
 
 -- R16.3: an entry of each kind, in the order of their tags, with the content that c gives it; and the file of them
 abbrev pub entryWith : (Kind → List ℕ) → Kind → Entry
@@ -58,4 +58,4 @@ abbrev pub allEntries : (Kind → List ℕ) → List Entry
 allEntries c = map (entryWith c) kinds
 
 unfoldable pub wholeFile : (Kind → List ℕ) → List ℕ
-wholeFile c = fileOf (allEntries c)
+wholeFile c = bytesOfEntries (allEntries c)

@@ -7,7 +7,7 @@ ghost use Rattle.fields.specs.Fields.{placeOf, tagOf, kindOf, head, fiel
 use tables::Refusal;
 
 // A field's head: one byte of tag, two of length.
-const HEAD: usize = 3;
+pub const HEAD: usize = 3;
 
 // The kinds of field, in the order of their tags.
 pub enum Kind {

@@ -10,11 +10,11 @@ use lib.Dec.{ltb, eqb}
 use lib.IntN.{pos}
 use lib.ListN.{length, getD}
 use lib.Seq.{take-all}
-use mir.Syntax.{Width, w64}
+use mir.Syntax.{Width, w32, w64}
 use mir.Val.{bytes}
 use borrow.Author.Tests.{eq-eqb}
 use Rattle.words.specs.Numbers.{signedAt, numbersOf, paddedNumbersOf, bytesOf}
-use Rattle.words.proofs.Laws.{AllBytes, part-bytes, bytesOf-numbersOf}
+use Rattle.words.proofs.Laws.{AllBytes, part-bytes, length-bytesOf, bytesOf-numbersOf}
 use Rattle.words.proofs.Sign.{Narrow, narrow-of}
 use Rattle.tables.specs.Ranges.{greatestOrder, tableRoom}
 use Rattle.tables.specs.Checks.{orderOk, firstRefusal}
@@ -33,7 +33,7 @@ use Rattle.fields.proofs.Finding.{place-below, each-place}
 use Rattle.fields.proofs.Parts.{walked-inside, length-content}
 use Rattle.fields.proofs.Whole.{whole-passes, whole-found, passed-whole, length-whole, whole-ext}
 use Rattle.summary.specs.declared.problem.Reading.{Reading}
-use Rattle.summary.specs.Problems.{longest, allPresent, orderIn, lengthFor, lengthsFor, fileSize, lengthsOk, fieldChecks, problemFrom, contentsOf, problemIn, readingOf, reading}
+use Rattle.summary.specs.Problems.{longest, allPresent, orderIn, lengthFor, lengthsFor, fileSize, lengthsOk, fieldChecks, problemFrom, contentsOf, fileOf, problemIn, readingOf, reading}
 use Rattle.summary.proofs.Spelled.{length-is, called-for, fields-fit, read-in-passed, read-in-refused, reading-long, reading-walked, reading-stopped, reading-handed, refused-not}
 
 -- ---- a file that is accepted
@@ -67,6 +67,20 @@ module _ (s : List ℕ) (e : firstRefusal (fieldChecks s (walked s .layout)) ≡
 whole-size : (c : Kind → List ℕ) (n : ℕ) → ((k : Kind) → length (c k) ≡ lengthFor n k) → length (wholeFile c) ≡ fileSize n
 whole-size c n z =
     length-whole c ∙ omega (arith, z Kind.Order, z Kind.Low, z Kind.High, z Kind.LinearLow, z Kind.Limit, z Kind.Centre, z Kind.LinearHigh)
+
+-- ---- the file of a problem: its contents have the lengths that its order calls for, and so has the file
+pub contents-length : (p : Problem) (k : Kind) → length (contentsOf p k) ≡ lengthFor (p .constraint .order) k
+contents-length p Kind.Order = refl
+contents-length p Kind.Low = length-bytesOf w32 _ _
+contents-length p Kind.High = length-bytesOf w32 _ _
+contents-length p Kind.LinearLow = length-bytesOf w64 _ _
+contents-length p Kind.Limit = length-bytesOf w64 _ _
+contents-length p Kind.Centre = length-bytesOf w64 _ _
+contents-length p Kind.LinearHigh = length-bytesOf w64 _ _
+
+pub file-length : (p : Problem) → length (fileOf p) ≡ fileSize (p .constraint .order)
+unfolding fileOf
+file-length p = whole-size (contentsOf p) (p .constraint .order) (contents-length p)
 
 -- ---- contents of these lengths, as numbers and back
 module _ {w : Width} (n : Narrow w) (room : ℕ) (t : List ℕ) (k : ℕ) (v : AllBytes t) (h : length t ≡ k * bytes w) where

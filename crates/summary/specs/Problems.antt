@@ -22,6 +22,7 @@ use Rattle.fields.specs.declared.layout.Layout.{Layout}
 use Rattle.fields.specs.declared.layout.Walked.{Walked}
 use Rattle.fields.specs.Fields.{kinds, kindCount}
 use Rattle.fields.specs.Layouts.{lengthOf, content, Inside, walked}
+use Rattle.fields.specs.Entries.{wholeFile}
 use Rattle.summary.specs.declared.problem.Reading.{Reading}
 
 -- R17.1: the longest file that 15 lets through
@@ -87,6 +88,10 @@ contentsOf p Kind.LinearLow = bytesOf w64 (p .constraint .linear .low) (p .const
 contentsOf p Kind.Limit = bytesOf w64 (p .constraint .limit ∷ []) 1
 contentsOf p Kind.Centre = bytesOf w64 (p .centre) (p .constraint .order)
 contentsOf p Kind.LinearHigh = bytesOf w64 (p .constraint .linear .high) (p .constraint .order)
+
+-- R24.1: the file of a problem
+unfoldable pub fileOf : Problem → List ℕ
+fileOf p = wholeFile (contentsOf p)
 
 -- the problem in the fields
 unfoldable pub problemIn : List ℕ → Layout → Problem

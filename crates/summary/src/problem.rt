@@ -191,7 +191,7 @@ fn problem_in(file: &[u8], layout: Layout) -> Problem
 }
 
 // 3, 4, 5 and 16.
-fn check_problem(problem: Problem) -> Checked
+pub fn check_problem(problem: Problem) -> Checked
     requires { ⌜ ProblemRooms problem ⌝ }
     ensures { λ r. ⌜ r ≡ firstRefusal (problemChecks problem) ⌝ }
 {

@@ -1,0 +1,2 @@
+// The writer of summary files, R24 of docs/RULES.md: the file of a problem.
+pub mod storing;
