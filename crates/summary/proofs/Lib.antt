@@ -1,3 +1,5 @@
 pub mod Spelled
 pub mod OneFile
 pub mod ReadingExamples
+pub mod RoundTrip
+pub mod Padding

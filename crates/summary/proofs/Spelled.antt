@@ -1,15 +1,17 @@
 -- Laws of the problem that a file spells: what the checks of its fields say, and what a problem that is handed out is.
 use mathlib.Core.Path.{_≡_, refl, ap, _∙_}
 use mathlib.Core.Bool.{true, false≢true}
-use mathlib.Core.List.{List}
-use Prim.Native.Nat.{ℕ, _≤_, _<_}
+use mathlib.Core.List.{List, _++_}
+use Prim.Native.Nat.{ℕ, _*_, _-_, _≤_, _<_}
 use native.Mathlib.Decide.{decLe}
 use native.Mathlib.Omega.{arith}
-use lib.IntN.{pos}
-use lib.ListN.{length, getD}
-use mir.Syntax.{w32, w64}
+use lib.IntN.{ℤ, pos}
+use lib.ListN.{length, getD, replicate}
+use lib.Seq.{take-at}
+use mir.Syntax.{Width, w32, w64}
 use borrow.Author.Tests.{le-leb, lt-leb, eqb-true}
-use Rattle.words.proofs.Laws.{length-paddedNumbersOf}
+use Rattle.words.specs.Numbers.{numbersOf, paddedNumbersOf}
+use Rattle.words.proofs.Laws.{length-numbersOf, length-paddedNumbersOf}
 use Rattle.tables.specs.Ranges.{greatestOrder, tableRoom}
 use Rattle.tables.specs.Checks.{orderOk, firstRefusal}
 use Rattle.tables.specs.declared.problem.Problem.{Problem}
@@ -24,10 +26,10 @@ use Rattle.fields.specs.declared.field.Kind.{Kind}
 use Rattle.fields.specs.declared.field.Kind.the-variants as Kind
 use Rattle.fields.specs.declared.layout.Layout.{Layout}
 use Rattle.fields.specs.Fields.{kindCount, placeOf}
-use Rattle.fields.specs.Layouts.{lengthOf, Inside, walked}
+use Rattle.fields.specs.Layouts.{lengthOf, content, Inside, walked}
 use Rattle.fields.proofs.Finding.{place-below}
 use Rattle.summary.specs.declared.problem.Reading.{Reading}
-use Rattle.summary.specs.Problems.{longest, orderIn, lengthFor, lengthsFor, lengthsOk, fieldChecks, problemIn, noProblem, readAs, readingOf, readIn, readWalked, reading, ProblemRooms, FieldsFit, LetThrough}
+use Rattle.summary.specs.Problems.{longest, orderIn, lengthFor, lengthsFor, lengthsOk, fieldChecks, paddedTo, padded, problemIn, noProblem, readAs, readingOf, readIn, readWalked, reading, ProblemRooms, FieldsFit, LetThrough}
 
 -- ---- the lengths of the fields
 pub called-for : (n : ℕ) (k : Kind) → getD (lengthsFor n) (placeOf k) 0 ≡ lengthFor n k
@@ -76,6 +78,23 @@ problem-rooms s l h =
       linear-high = length-paddedNumbersOf w64 greatestOrder _ _ h;
       centre = length-paddedNumbersOf w64 greatestOrder _ _ h;
     }
+
+-- zeros stand behind its numbers
+padded-numbers : (w : Width) (room : ℕ) (t : List ℕ) (k : ℕ) → paddedTo room k (paddedNumbersOf w room t k) ≡ paddedNumbersOf w room t k
+unfolding paddedNumbersOf
+padded-numbers w room t k = ap (λ (x : List ℤ). x ++ replicate (room - k) (pos 0)) (take-at (numbersOf w t k) _ k (length-numbersOf w t k))
+
+pub problem-padded : (s : List ℕ) (l : Layout) → padded (problemIn s l) ≡ problemIn s l
+unfolding problemIn
+problem-padded s l =
+    let n = orderIn s l in
+    rw (
+      padded-numbers w32 tableRoom (content s l Kind.Low) (n * n),
+      padded-numbers w32 tableRoom (content s l Kind.High) (n * n),
+      padded-numbers w64 greatestOrder (content s l Kind.LinearLow) n,
+      padded-numbers w64 greatestOrder (content s l Kind.LinearHigh) n,
+      padded-numbers w64 greatestOrder (content s l Kind.Centre) n,
+    )
 
 -- ---- the cases of a reading
 pub reading-as : (p : Problem) {k : Checked} → firstRefusal (problemChecks p) ≡ k → readingOf p ≡ readAs k p
@@ -131,16 +150,16 @@ read-as-through (Checked.Refused r) p f e = absurd (false≢true (cc))
 refused-through : (r : Refusal) → Through (readAs (Checked.Refused r) noProblem)
 refused-through r = read-as-through (Checked.Refused r) noProblem (λ e. absurd (false≢true (cc)))
 
-reading-of-through : (p : Problem) → orderOk (pos (p .constraint .order)) ≡ true → ProblemRooms p → Through (readingOf p)
+reading-of-through : (p : Problem) → orderOk (pos (p .constraint .order)) ≡ true → ProblemRooms p → padded p ≡ p → Through (readingOf p)
 unfolding readingOf
-reading-of-through p h z = read-as-through (firstRefusal (problemChecks p)) p (λ e. record { order = h; checks = e; rooms = z })
+reading-of-through p h z o = read-as-through (firstRefusal (problemChecks p)) p (λ e. record { order = h; checks = e; rooms = z; zeros = o })
 
 read-in-through : (s : List ℕ) (l : Layout) → Through (readIn s l)
 unfolding problemIn
 read-in-through s l = go (firstRefusal (fieldChecks s l)) refl
   where
     go : (k : Checked) → firstRefusal (fieldChecks s l) ≡ k → Through (readIn s l)
-    go Checked.Passed e = rw (read-in-passed s l e) (reading-of-through (problemIn s l) (fields-order s l e) (problem-rooms s l (order-small s l e)))
+    go Checked.Passed e = rw (read-in-passed s l e) (reading-of-through (problemIn s l) (fields-order s l e) (problem-rooms s l (order-small s l e)) (problem-padded s l))
     go (Checked.Refused r) e = rw (read-in-refused s l r e) (refused-through r)
 
 pub reading-through : (s : List ℕ) → Through (reading s)

@@ -1,11 +1,11 @@
 -- R17 and R5.11 of docs/RULES.md: the problem that a file spells, or the refusal that it gets.
 use mathlib.Core.Path.{_≡_}
 use mathlib.Core.Bool.{Bool, true, false}
-use mathlib.Core.List.{List, [], _∷_, map}
-use Prim.Native.Nat.{ℕ, _+_, _*_, _≤_}
+use mathlib.Core.List.{List, [], _∷_, _++_, map}
+use Prim.Native.Nat.{ℕ, _+_, _*_, _-_, _≤_}
 use lib.Dec.{leb, ltb, eqb}
-use lib.IntN.{pos}
-use lib.ListN.{length, getD, replicate}
+use lib.IntN.{ℤ, pos}
+use lib.ListN.{length, getD, take, replicate}
 use mir.Syntax.{w32, w64}
 use mir.Val.{bytes}
 use Rattle.words.specs.Numbers.{signedAt, paddedNumbersOf, bytesOf}
@@ -93,6 +93,24 @@ contentsOf p Kind.LinearHigh = bytesOf w64 (p .constraint .linear .high) (p .con
 unfoldable pub fileOf : Problem → List ℕ
 fileOf p = wholeFile (contentsOf p)
 
+-- R24.2: the first k numbers of x, and zeros up to so many
+abbrev pub paddedTo : ℕ → ℕ → List ℤ → List ℤ
+paddedTo room k x = take k x ++ replicate (room - k) (pos 0)
+
+-- a problem in arrays of their sizes: the numbers that its order calls for, and zeros behind them
+abbrev pub padded : Problem → Problem
+padded p =
+    let c = p .constraint in
+    let n : ℕ = c .order in
+    problemOf
+    n
+    (paddedTo tableRoom (n * n) (c .low))
+    (paddedTo tableRoom (n * n) (c .high))
+    (paddedTo greatestOrder n (c .linear .low))
+    (paddedTo greatestOrder n (c .linear .high))
+    (c .limit)
+    (paddedTo greatestOrder n (p .centre))
+
 -- the problem in the fields
 unfoldable pub problemIn : List ℕ → Layout → Problem
 problemIn s l = problemFrom (orderIn s l) (content s l)
@@ -145,9 +163,16 @@ pub record FieldsFit (s : List ℕ) (l : Layout) : Type 0 where
   pub order : orderIn s l ≤ greatestOrder
   pub sizes : lengthsOk l (orderIn s l) ≡ true
 
--- ---- what a reading means: a problem that is handed out has an order, checks 3, 4, 5 and 16 let it through, and its arrays have their
--- sizes
+-- ---- what a reading means
+-- a problem that is handed out has an order, checks 3, 4, 5 and 16 let it through, its arrays have their sizes, and zeros stand behind its
+-- numbers
 pub record LetThrough (p : Problem) : Type 0 where
   pub order : orderOk (pos (p .constraint .order)) ≡ true
   pub checks : firstRefusal (problemChecks p) ≡ Checked.Passed
   pub rooms : ProblemRooms p
+  pub zeros : padded p ≡ p
+
+-- of a reading r of the file s: a problem that is handed out is let through, and s is its file (R24.3)
+pub record ReadingMeaning (s : List ℕ) (r : Reading) : Type 0 where
+  pub through : r .checked ≡ Checked.Passed → LetThrough (r .problem)
+  pub file : r .checked ≡ Checked.Passed → fileOf (r .problem) ≡ s

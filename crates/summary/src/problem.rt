@@ -7,10 +7,9 @@ ghost use Rattle.words.specs.Numbers.{signedAt, paddedNumbersOf};
 ghost use Rattle.tables.specs.Ranges.{greatestOrder, tableRoom};
 ghost use Rattle.tables.specs.Checks.{firstRefusal};
 ghost use Rattle.tables.specs.Problem.{problemChecks};
-ghost use Rattle.tables.specs.declared.Checked.the-variants.{Passed};
 ghost use Rattle.fields.specs.Layouts.{lengthOf, content, Inside};
 ghost use Rattle.summary.specs.Problems.{allPresent, orderIn, lengthsFor, lengthsOk, FieldsFit, fieldChecks, problemIn};
-ghost use Rattle.summary.specs.Problems.{noProblem, ProblemRooms, readingOf, readIn, reading, LetThrough};
+ghost use Rattle.summary.specs.Problems.{noProblem, ProblemRooms, readingOf, readIn, reading, ReadingMeaning};
 use fields::field::KINDS;
 use fields::field::Kind;
 use fields::layout::Layout;
@@ -248,7 +247,7 @@ fn read_in(file: &[u8], layout: Layout) -> Reading
 // tags; 3, 4, 5, 16.
 pub fn read(file: &[u8]) -> Reading
     ensures exact { λ r. ⌜ r ≡ reading (now (file .entry)) ⌝ }
-    ensures meaning { λ r. ⌜ (r .checked ≡ Passed → LetThrough (r .problem)) ⌝ }
+    ensures meaning { λ r. ⌜ ReadingMeaning (now (file .entry)) r ⌝ }
 {
     if LONGEST < file.len() {
         return Reading {

@@ -11,7 +11,7 @@ use Rattle.report.proofs.report.report.Tie as tie
 
 -- a problem was read, and let through
 passed : (c : tie.After-enum-told) → LetThrough (c .before .before .before .read .result .problem)
-passed c = c .before .before .before .read .ensures .1 (c .enum-told .given .1)
+passed c = c .before .before .before .read .ensures .1 .through (c .enum-told .given .1)
 
 problem : tie.Need-returns
 problem c =

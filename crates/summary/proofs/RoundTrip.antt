@@ -1,0 +1,222 @@
+-- R24.2 and R24.3 of docs/RULES.md: the file of a problem that is let through is read as that problem; a file that is accepted is the file of its
+-- problem; so each such problem has just one file.
+use mathlib.Core.Path.{_≡_, refl, sym, ap, _∙_}
+use mathlib.Core.Bool.{true}
+use mathlib.Core.List.{List, [], _∷_, _++_, map, append-nil}
+use Prim.Native.Nat.{ℕ, zero, suc, _*_, _-_, _/_, _%_, _^_, _≤_, _<_}
+use native.Mathlib.Nat.{one-le-pow}
+use native.Mathlib.Decide.{decLt}
+use native.Mathlib.Omega.{arith}
+use lib.IntN.{ℤ, pos, negsuc, natAbs}
+use lib.ListN.{length, getD, take, replicate, List·getD-eq-default}
+use lib.Seq.{take-all, getD-take, length-take-le}
+use mir.Syntax.{Width, w32, w64}
+use mir.Val.{hbits, SFits}
+use Rattle.words.specs.Numbers.{toLeBytes, signedAt, numbersOf, paddedNumbersOf, bytesOf}
+use Rattle.words.proofs.Laws.{AllBytes, AllFit, numbersOf-bytesOf}
+use Rattle.words.proofs.Sign.{Narrow, narrow-of}
+use Rattle.integers.specs.Numbers.{Within}
+use Rattle.tables.specs.Ranges.{greatestOrder, tableRoom, entryRange, linearRange, limitRange, centreRange}
+use Rattle.tables.specs.Matrix.{nth}
+use Rattle.tables.specs.Checks.{orderOk, within, allWithin, tablesWithin, linearWithin, termsWithin, boundsChecks, firstRefusal}
+use Rattle.tables.specs.Problem.{problemWithin, problemChecks}
+use Rattle.tables.specs.declared.problem.Problem.{Problem}
+use Rattle.tables.specs.declared.Checked.the-variants as Checked
+use Rattle.tables.proofs.Matrix.{nth-padded, table-fits}
+use Rattle.tables.proofs.Checks.{all-at, within-of, and-left, and-right, first-passed}
+use Rattle.tables.proofs.Answers.{prefix-passed}
+use Rattle.fields.specs.declared.field.Kind.{Kind}
+use Rattle.fields.specs.declared.field.Kind.the-variants as Kind
+use Rattle.fields.specs.Fields.{kinds, tagOf}
+use Rattle.fields.specs.Entries.{headBytes, entryBytes, bytesOfEntries, entryWith, wholeFile}
+use Rattle.fields.proofs.Finding.{place-below}
+use Rattle.summary.specs.declared.problem.Reading.{Reading}
+use Rattle.summary.specs.Problems.{problemFrom, contentsOf, fileOf, paddedTo, padded, readAs, readingOf, reading, ProblemRooms, LetThrough, ReadingMeaning}
+use Rattle.summary.proofs.Spelled.{reading-as, reading-through}
+use Rattle.summary.proofs.OneFile.{contents-length, accepted-back, whole-read}
+
+-- ---- a file that is accepted
+pub reading-means : (s : List ℕ) → AllBytes s → ReadingMeaning s (reading s)
+unfolding fileOf
+reading-means s v = record { through = reading-through s; file = λ e. sym (accepted-back s e v) }
+
+-- ---- numbers as bytes and back
+fits-in : (w : Width) {b : ℕ} {z : ℤ} → Within b z → b < 2 ^ hbits w → SFits w z
+fits-in w {z = pos n} r h = let k = r .size in record { sfits = omega arith }
+fits-in w {z = negsuc n} r h = let k = r .size in record { sfits = omega arith }
+
+-- the numbers of x, k of them, and zeros
+pub nth-paddedTo : (room k : ℕ) (x : List ℤ) (i : ℕ) → i < k → nth (paddedTo room k x) i ≡ nth x i
+nth-paddedTo room k x i h = ap (λ (f : ℕ → ℤ). f i) (nth-padded (take k x) (room - k)) ∙ getD-take k x i (pos 0) h
+
+-- the bytes of the first k numbers do not depend on what stands behind these
+pub bytes-ext : (w : Width) (x y : List ℤ) (k : ℕ) → ((i : ℕ) → i < k → nth x i ≡ nth y i) → bytesOf w x k ≡ bytesOf w y k
+unfolding bytesOf
+bytes-ext w x y zero e = refl
+bytes-ext w x y (suc k) e = rw (bytes-ext w x y k (λ i h. e i (omega arith)), e k (omega arith))
+
+-- numbers of which the first k fit
+module _ {w : Width} (n : Narrow w) (x : List ℤ) (k : ℕ) (h : k ≤ length x) (f : (i : ℕ) → i < k → SFits w (nth x i)) where
+  front-fits : AllFit w (take k x)
+  front-fits = record { each = λ i. go i (decLt i k) }
+    where
+      go : (i : ℕ) → Dec (i < k) → SFits w (getD (take k x) i (pos 0))
+      go i (yes l) = rw (getD-take k x i (pos 0) l) (f i l)
+      go i (no l) =
+          let past : length (take k x) ≤ i = omega (arith, length-take-le k x h) in
+          rw (List·getD-eq-default (take k x) (pos 0) past) (record { sfits = one-le-pow (hbits w) 2 (omega arith) })
+
+  numbers-read : numbersOf w (bytesOf w x k) k ≡ take k x
+  numbers-read =
+      let t = take k x in
+      ap (λ (s : List ℕ). numbersOf w s k) (bytes-ext w x t k (λ i l. sym (getD-take k x i (pos 0) l)) ∙ sym (append-nil (bytesOf w t k)))
+      ∙ numbersOf-bytesOf n t [] k front-fits (omega (arith, length-take-le k x h)) ∙ take-all k t (omega (arith, length-take-le k x h))
+
+  padded-read : (room : ℕ) → paddedNumbersOf w room (bytesOf w x k) k ≡ paddedTo room k x
+  unfolding paddedNumbersOf
+  padded-read room = ap (λ (z : List ℤ). z ++ replicate (room - k) (pos 0)) numbers-read
+
+number-read : (v : ℤ) → SFits w64 v → signedAt w64 (bytesOf w64 (v ∷ []) 1) 0 ≡ v
+unfolding numbersOf
+number-read v f = ap (λ (x : List ℤ). nth x 0) (numbers-read (narrow-of 8) (v ∷ []) 1 (omega arith) (λ i h. let e : i ≡ 0 = omega arith in rw e f))
+
+-- ---- the file of a problem whose numbers fit their fields: 4 bytes for those of the tables, 8 for the others
+pub record InFields (p : Problem) : Type 0 where
+  pub low : (i : ℕ) → i < p .constraint .order * p .constraint .order → SFits w32 (nth (p .constraint .low) i)
+  pub high : (i : ℕ) → i < p .constraint .order * p .constraint .order → SFits w32 (nth (p .constraint .high) i)
+  pub linear-low : (i : ℕ) → i < p .constraint .order → SFits w64 (nth (p .constraint .linear .low) i)
+  pub linear-high : (i : ℕ) → i < p .constraint .order → SFits w64 (nth (p .constraint .linear .high) i)
+  pub limit : SFits w64 (p .constraint .limit)
+  pub centre : (i : ℕ) → i < p .constraint .order → SFits w64 (nth (p .centre) i)
+
+-- its lists have the numbers that its order calls for
+pub record Holds (p : Problem) : Type 0 where
+  pub low : p .constraint .order * p .constraint .order ≤ length (p .constraint .low)
+  pub high : p .constraint .order * p .constraint .order ≤ length (p .constraint .high)
+  pub linear-low : p .constraint .order ≤ length (p .constraint .linear .low)
+  pub linear-high : p .constraint .order ≤ length (p .constraint .linear .high)
+  pub centre : p .constraint .order ≤ length (p .centre)
+
+module _ (p : Problem) (z : Holds p) (f : InFields p) where
+  problem-back : problemFrom (p .constraint .order) (contentsOf p) ≡ padded p
+  problem-back =
+      let c = p .constraint in
+      let n = c .order in
+      rw (
+        padded-read (narrow-of 4) (c .low) (n * n) (z .low) (f .low) tableRoom,
+        padded-read (narrow-of 4) (c .high) (n * n) (z .high) (f .high) tableRoom,
+        padded-read (narrow-of 8) (c .linear .low) n (z .linear-low) (f .linear-low) greatestOrder,
+        padded-read (narrow-of 8) (c .linear .high) n (z .linear-high) (f .linear-high) greatestOrder,
+        padded-read (narrow-of 8) (p .centre) n (z .centre) (f .centre) greatestOrder,
+        number-read (c .limit) (f .limit),
+      )
+
+  -- what its file is read as, whether the checks refuse it or not
+  pub file-read : orderOk (pos (p .constraint .order)) ≡ true → reading (fileOf p) ≡ readingOf (padded p)
+  unfolding fileOf
+  file-read o = whole-read (contentsOf p) o (contents-length p) ∙ ap readingOf problem-back
+
+-- ---- the file of a problem that is let through
+-- check 3 passed, so its numbers fit
+all-fit : (w : Width) (b : ℕ) → b < 2 ^ hbits w → (k : ℕ) (x : List ℤ) → allWithin b k x ≡ true → (i : ℕ) → i < k → SFits w (nth x i)
+unfolding allWithin
+all-fit w b h k x e i l = fits-in w (within-of b (nth x i) (all-at _ k e i l)) h
+
+fields-of : (p : Problem) → firstRefusal (problemChecks p) ≡ Checked.Passed → InFields p
+unfolding boundsChecks tablesWithin termsWithin linearWithin
+fields-of p e =
+    let c = p .constraint in
+    let n = c .order in
+    let r = first-passed _ _ (prefix-passed (boundsChecks (problemWithin p) n (c .low) (c .high)) _ e) in
+    let t = and-right (problemWithin p) _ r in
+    let l = and-left (linearWithin n (c .linear .low) (c .linear .high)) _ (and-left (problemWithin p) _ r) in
+    let o = and-right (linearWithin n (c .linear .low) (c .linear .high)) _ (and-left (problemWithin p) _ r) in
+    record {
+      low = all-fit w32 entryRange (omega arith) (n * n) (c .low) (and-left (allWithin entryRange (n * n) (c .low)) _ t);
+      high = all-fit w32 entryRange (omega arith) (n * n) (c .high) (and-right (allWithin entryRange (n * n) (c .low)) _ t);
+      linear-low = all-fit w64 linearRange (omega arith) n (c .linear .low) (and-left (allWithin linearRange n (c .linear .low)) _ l);
+      linear-high = all-fit w64 linearRange (omega arith) n (c .linear .high) (and-right (allWithin linearRange n (c .linear .low)) _ l);
+      limit = fits-in w64 (within-of limitRange (c .limit) (and-left (within limitRange (c .limit)) _ o)) (omega arith);
+      centre = all-fit w64 centreRange (omega arith) n (p .centre) (and-right (within limitRange (c .limit)) _ o);
+    }
+
+holds-of : (p : Problem) → ProblemRooms p → Holds p
+holds-of p z =
+    let t = table-fits (z .order) in
+    record {
+      low = omega (arith, z .low);
+      high = omega (arith, z .high);
+      linear-low = omega (arith, z .order, z .linear-low);
+      linear-high = omega (arith, z .order, z .linear-high);
+      centre = omega (arith, z .order, z .centre);
+    }
+
+module _ (p : Problem) (t : LetThrough p) where
+  -- it is read as that problem
+  pub read-back : reading (fileOf p) ≡ readAs Checked.Passed p
+  read-back = file-read p (holds-of p (t .rooms)) (fields-of p (t .checks)) (t .order) ∙ ap readingOf (t .zeros) ∙ reading-as p (t .checks)
+
+  -- and no other file is
+  pub only-file : (s : List ℕ) → AllBytes s → reading s ≡ readAs Checked.Passed p → s ≡ fileOf p
+  unfolding readAs fileOf
+  only-file s v e = accepted-back s (ap (λ (r : Reading). r .checked) e) v ∙ ap (λ (r : Reading). fileOf (r .problem)) e
+
+-- ---- the file is made of bytes
+no-bytes : AllBytes []
+no-bytes = record { each = λ i. omega arith }
+
+cons-bytes : {x : ℕ} {s : List ℕ} → x < 256 → AllBytes s → AllBytes (x ∷ s)
+cons-bytes {x} {s} h a = record { each = go }
+  where
+    go : (i : ℕ) → getD (x ∷ s) i 0 < 256
+    go zero = h
+    go (suc i) = a .each i
+
+append-bytes : (s t : List ℕ) → AllBytes s → AllBytes t → AllBytes (s ++ t)
+append-bytes [] t a b = b
+append-bytes (x ∷ s) t a b = cons-bytes (a .each 0) (append-bytes s t (record { each = λ i. a .each (suc i) }) b)
+
+low-bytes : (k u : ℕ) → AllBytes (toLeBytes k u)
+unfolding toLeBytes
+low-bytes zero u = no-bytes
+low-bytes (suc k) u = cons-bytes (omega arith) (low-bytes k (u / 256))
+
+number-bytes : (w : Width) (x : List ℤ) (k : ℕ) → AllBytes (bytesOf w x k)
+unfolding bytesOf
+number-bytes w x zero = no-bytes
+number-bytes w x (suc k) = append-bytes (bytesOf w x k) _ (number-bytes w x k) (low-bytes _ _)
+
+content-bytes : (p : Problem) → p .constraint .order < 256 → (k : Kind) → AllBytes (contentsOf p k)
+content-bytes p h Kind.Order = cons-bytes h no-bytes
+content-bytes p h Kind.Low = number-bytes w32 _ _
+content-bytes p h Kind.High = number-bytes w32 _ _
+content-bytes p h Kind.LinearLow = number-bytes w64 _ _
+content-bytes p h Kind.Limit = number-bytes w64 _ _
+content-bytes p h Kind.Centre = number-bytes w64 _ _
+content-bytes p h Kind.LinearHigh = number-bytes w64 _ _
+
+entry-bytes : (c : Kind → List ℕ) → ((k : Kind) → AllBytes (c k)) → (ks : List Kind) → AllBytes (bytesOfEntries (map (entryWith c) ks))
+unfolding bytesOfEntries entryBytes
+entry-bytes c v [] = no-bytes
+entry-bytes c v (k ∷ ks) =
+    append-bytes (entryBytes (entryWith c k)) _
+    (append-bytes (headBytes (entryWith c k)) (c k) (cons-bytes (omega (arith, place-below k)) (low-bytes 2 (length (c k)))) (v k))
+    (entry-bytes c v ks)
+
+pub file-bytes : (p : Problem) → p .constraint .order ≤ greatestOrder → AllBytes (fileOf p)
+unfolding fileOf wholeFile
+file-bytes p h = entry-bytes (contentsOf p) (content-bytes p (omega arith)) kinds
+
+-- ---- R24.3: there is exactly one file that is read as a problem p
+pub record OnlyFile (p : Problem) (s : List ℕ) : Type 0 where
+  pub bytes : AllBytes s
+  pub read : reading s ≡ readAs Checked.Passed p
+  pub only : (s′ : List ℕ) → AllBytes s′ → reading s′ ≡ readAs Checked.Passed p → s′ ≡ s
+
+-- for each problem that is let through
+pub one-file : (p : Problem) → LetThrough p → OnlyFile p (fileOf p)
+one-file p t = record { bytes = file-bytes p (t .rooms .order); read = read-back p t; only = only-file p t }
+
+-- and each file that is accepted is that of its problem
+pub accepted-one : (s : List ℕ) → AllBytes s → reading s .checked ≡ Checked.Passed → LetThrough (reading s .problem) × (s ≡ fileOf (reading s .problem))
+accepted-one s v e = let m = reading-means s v in (m .through e, sym (m .file e))
