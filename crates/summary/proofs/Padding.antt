@@ -21,8 +21,10 @@ use Rattle.tables.proofs.Admission.{Padded, padded-nth, range-same, crossed-sam
 use Rattle.fields.specs.declared.field.Kind.{Kind}
 use Rattle.fields.specs.declared.field.Kind.the-variants as Kind
 use Rattle.fields.proofs.Whole.{whole-ext}
-use Rattle.summary.specs.Problems.{contentsOf, fileOf, paddedTo, padded, ProblemRooms, LetThrough}
-use Rattle.summary.proofs.RoundTrip.{nth-paddedTo, bytes-ext}
+use Rattle.summary.specs.Problems.{contentsOf, fileOf, paddedTo, padded, reading, ProblemRooms, LetThrough}
+use Rattle.summary.specs.declared.problem.Reading.{Reading}
+use Rattle.summary.proofs.Spelled.{reading-checked}
+use Rattle.summary.proofs.RoundTrip.{InFields, Holds, nth-paddedTo, bytes-ext, file-read}
 
 -- ---- lists
 length-paddedTo : (room k : ℕ) (x : List ℤ) → k ≤ length x → k ≤ room → length (paddedTo room k x) ≡ room
@@ -95,22 +97,26 @@ module _ (p : Problem) (z : Sized p) where
       let high = padded-list tableRoom (n * n) (p .constraint .high) (z .high) in
       rw (padded-within, padded-ends, checks-padded low high (problemWithin p) n)
 
+  -- the arrays have their sizes
+  pub padded-rooms : p .constraint .order ≤ greatestOrder → ProblemRooms (padded p)
+  padded-rooms h =
+      let t = table-fits h in
+      record {
+        order = h;
+        low = length-paddedTo tableRoom (n * n) _ (omega (arith, z .low)) t;
+        high = length-paddedTo tableRoom (n * n) _ (omega (arith, z .high)) t;
+        linear-low = length-paddedTo greatestOrder n a (omega (arith, z .linear-low)) h;
+        linear-high = length-paddedTo greatestOrder n b (omega (arith, z .linear-high)) h;
+        centre = length-paddedTo greatestOrder n c (omega (arith, z .centre)) h;
+      }
+
   -- so where they pass the one in arrays is let through
   pub padded-through : orderOk (pos (p .constraint .order)) ≡ true → firstRefusal (problemChecks p) ≡ Checked.Passed → LetThrough (padded p)
   padded-through o e =
-      let h : n ≤ greatestOrder = order-of o .1 in
-      let t = table-fits h in
       record {
         order = o;
         checks = ap firstRefusal padded-checks ∙ e;
-        rooms = record {
-          order = h;
-          low = length-paddedTo tableRoom (n * n) _ (omega (arith, z .low)) t;
-          high = length-paddedTo tableRoom (n * n) _ (omega (arith, z .high)) t;
-          linear-low = length-paddedTo greatestOrder n _ (omega (arith, z .linear-low)) h;
-          linear-high = length-paddedTo greatestOrder n _ (omega (arith, z .linear-high)) h;
-          centre = length-paddedTo greatestOrder n _ (omega (arith, z .centre)) h;
-        };
+        rooms = padded-rooms (order-of o .1);
         zeros = rw (
           padded-again tableRoom (n * n) (p .constraint .low) (omega (arith, z .low)),
           padded-again tableRoom (n * n) (p .constraint .high) (omega (arith, z .high)),
@@ -119,3 +125,9 @@ module _ (p : Problem) (z : Sized p) where
           padded-again greatestOrder n c (omega (arith, z .centre)),
         );
       }
+
+  -- and a file whose numbers fit their fields gets the refusal that the checks find
+  pub file-checked : orderOk (pos (p .constraint .order)) ≡ true → InFields p → reading (fileOf p) .checked ≡ firstRefusal (problemChecks p)
+  file-checked o f =
+      let w : Holds p = record { low = omega (arith, z .low); high = omega (arith, z .high); linear-low = omega (arith, z .linear-low); linear-high = omega (arith, z .linear-high); centre = omega (arith, z .centre) } in
+      ap (λ (r : Reading). r .checked) (file-read p w f o) ∙ reading-checked (padded p) ∙ ap firstRefusal padded-checks

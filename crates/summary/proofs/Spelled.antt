@@ -101,6 +101,14 @@ pub reading-as : (p : Problem) {k : Checked} → firstRefusal (problemChecks p) 
 unfolding readingOf
 reading-as p e = ap (λ (k : Checked). readAs k p) e
 
+pub reading-checked : (p : Problem) → readingOf p .checked ≡ firstRefusal (problemChecks p)
+unfolding readAs
+reading-checked p = go (firstRefusal (problemChecks p)) refl
+  where
+    go : (k : Checked) → firstRefusal (problemChecks p) ≡ k → readingOf p .checked ≡ k
+    go Checked.Passed h = ap (λ (r : Reading). r .checked) (reading-as p h)
+    go (Checked.Refused r) h = ap (λ (q : Reading). q .checked) (reading-as p h)
+
 -- a problem that is let through is handed out
 pub reading-handed : (p : Problem) → readingOf p .checked ≡ Checked.Passed → readingOf p .problem ≡ p
 unfolding readAs

@@ -1,2 +1,3 @@
 // The writer of summary files, R24 of docs/RULES.md: the file of a problem.
 pub mod storing;
+pub mod write;
