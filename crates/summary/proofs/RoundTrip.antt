@@ -1,7 +1,7 @@
 -- R24.2 and R24.3 of docs/RULES.md: the file of a problem that is let through is read as that problem; a file that is accepted is the file of its
 -- problem; so each such problem has just one file.
 use mathlib.Core.Path.{_≡_, refl, sym, ap, _∙_}
-use mathlib.Core.Bool.{true}
+use mathlib.Core.Bool.{Bool, true, false, _&&_}
 use mathlib.Core.List.{List, [], _∷_, _++_, map, append-nil}
 use Prim.Native.Nat.{ℕ, zero, suc, _*_, _-_, _/_, _%_, _^_, _≤_, _<_}
 use native.Mathlib.Nat.{one-le-pow}
@@ -21,9 +21,10 @@ use Rattle.tables.specs.Matrix.{nth}
 use Rattle.tables.specs.Checks.{orderOk, within, allWithin, tablesWithin, linearWithin, termsWithin, boundsChecks, firstRefusal}
 use Rattle.tables.specs.Problem.{problemWithin, problemChecks}
 use Rattle.tables.specs.declared.problem.Problem.{Problem}
+use Rattle.tables.specs.declared.Refusal.the-variants.{Range}
 use Rattle.tables.specs.declared.Checked.the-variants as Checked
 use Rattle.tables.proofs.Matrix.{nth-padded, table-fits}
-use Rattle.tables.proofs.Checks.{all-at, within-of, and-left, and-right, first-passed}
+use Rattle.tables.proofs.Checks.{all-at, within-of, and-left, and-right, first-passed, first-refuses}
 use Rattle.tables.proofs.Answers.{prefix-passed}
 use Rattle.fields.specs.declared.field.Kind.{Kind}
 use Rattle.fields.specs.declared.field.Kind.the-variants as Kind
@@ -117,17 +118,19 @@ module _ (p : Problem) (z : Holds p) (f : InFields p) where
   file-read o = whole-read (contentsOf p) o (contents-length p) ∙ ap readingOf problem-back
 
 -- ---- the file of a problem that is let through
--- check 3 passed, so its numbers fit
+-- where check 3 passes its numbers fit
 all-fit : (w : Width) (b : ℕ) → b < 2 ^ hbits w → (k : ℕ) (x : List ℤ) → allWithin b k x ≡ true → (i : ℕ) → i < k → SFits w (nth x i)
 unfolding allWithin
 all-fit w b h k x e i l = fits-in w (within-of b (nth x i) (all-at _ k e i l)) h
 
-fields-of : (p : Problem) → firstRefusal (problemChecks p) ≡ Checked.Passed → InFields p
-unfolding boundsChecks tablesWithin termsWithin linearWithin
-fields-of p e =
+abbrev inRange : Problem → Bool
+inRange p = let c = p .constraint in problemWithin p && tablesWithin (c .order * c .order) (c .low) (c .high)
+
+fields-within : (p : Problem) → inRange p ≡ true → InFields p
+unfolding tablesWithin termsWithin linearWithin
+fields-within p r =
     let c = p .constraint in
     let n = c .order in
-    let r = first-passed _ _ (prefix-passed (boundsChecks (problemWithin p) n (c .low) (c .high)) _ e) in
     let t = and-right (problemWithin p) _ r in
     let l = and-left (linearWithin n (c .linear .low) (c .linear .high)) _ (and-left (problemWithin p) _ r) in
     let o = and-right (linearWithin n (c .linear .low) (c .linear .high)) _ (and-left (problemWithin p) _ r) in
@@ -139,6 +142,19 @@ fields-of p e =
       limit = fits-in w64 (within-of limitRange (c .limit) (and-left (within limitRange (c .limit)) _ o)) (omega arith);
       centre = all-fit w64 centreRange (omega arith) n (p .centre) (and-right (within limitRange (c .limit)) _ o);
     }
+
+fields-of : (p : Problem) → firstRefusal (problemChecks p) ≡ Checked.Passed → InFields p
+unfolding boundsChecks
+fields-of p e = let c = p .constraint in fields-within p (first-passed _ _ (prefix-passed (boundsChecks (problemWithin p) (c .order) (c .low) (c .high)) _ e))
+
+-- a number that does not fit its field is refused by 3
+pub outside-range : (p : Problem) → (InFields p → ⊥) → firstRefusal (problemChecks p) ≡ Checked.Refused Range
+unfolding boundsChecks
+outside-range p f = go (inRange p) refl
+  where
+    go : (b : Bool) → inRange p ≡ b → firstRefusal (problemChecks p) ≡ Checked.Refused Range
+    go true e = absurd (f (fields-within p e))
+    go false e = first-refuses _ _ e
 
 holds-of : (p : Problem) → ProblemRooms p → Holds p
 holds-of p z =

@@ -1,29 +1,28 @@
 -- Laws of the writer's act: where n is an order and the buffers have their sizes 3, 4, 5 and 16 are all that is left to ask, of the numbers as they
 -- are handed in or in arrays; what is written is read back; and a problem is refused by the number that its file would get.
 use mathlib.Core.Path.{_≡_, refl, sym, ap, subst, _∙_}
-use mathlib.Core.Bool.{Bool, true, false≢true, _&&_}
+use mathlib.Core.Bool.{Bool, true, false≢true}
 use mathlib.Core.List.{List, _++_}
-use Prim.Native.Nat.{ℕ, _*_, _≤_}
-use native.Mathlib.Omega.{arith}
+use Prim.Native.Nat.{ℕ}
 use borrow.Author.Tests.{eqb-true}
 use lib.Dec.{eqb}
 use lib.IntN.{ℤ, pos, negsuc}
-use lib.ListN.{length}
 use Rattle.tables.specs.Checks.{orderOk, orderOf, entryChecks, firstRefusal}
 use Rattle.tables.specs.Answers.{after}
 use Rattle.tables.specs.Problem.{constraintSized, problemWithin, problemChecks}
+use Rattle.tables.specs.declared.Refusal.the-variants.{Range}
 use Rattle.tables.specs.declared.Checked.{Checked}
 use Rattle.tables.specs.declared.Checked.the-variants.{Passed, Refused}
 use Rattle.tables.specs.declared.problem.Problem.{Problem}
 use Rattle.tables.specs.declared.problem.Sizes.{Sizes}
 use Rattle.tables.specs.declared.problem.Lengths.{Lengths}
 use Rattle.tables.proofs.Checks.{and-left, and-right, more-checks, order-of}
-use Rattle.tables.proofs.Answers.{after-means, after-passed, after-refused, prefix-passed}
+use Rattle.tables.proofs.Answers.{after-means, prefix-passed}
 use Rattle.tables.proofs.Admission.{entry-passed, order-known}
 use Rattle.tables.proofs.Problems.{constraint-sizes-of, problem-door, constraint-sized}
-use Rattle.summary.specs.Problems.{fileSize, fileOf, padded, readAs, readingOf, reading}
-use Rattle.summary.proofs.RoundTrip.{read-back}
-use Rattle.summary.proofs.Padding.{Sized, padded-file, padded-checks, padded-through}
+use Rattle.summary.specs.Problems.{fileSize, fileOf, padded, readAs, reading}
+use Rattle.summary.proofs.RoundTrip.{InFields, outside-range, read-back}
+use Rattle.summary.proofs.Padding.{Sized, padded-file, padded-checks, padded-through, file-checked}
 use Rattle.writer.specs.Writing.{Written, kept, written, checkedWriting, writing, writeSizes, Meaning}
 
 -- ---- the sizes
@@ -80,3 +79,24 @@ writing-means n sized p s e z =
     let passed = sym (more-checks (entryChecks n sized) (problemChecks p) first) ∙ q in
     let through = padded-through p (z (o .1)) (rw e (order-ok n (o .0))) passed in
     record { back = λ _. ap reading (sym (padded-file p)) ∙ read-back (padded p) through }))
+
+-- ---- R24.5: a problem is refused by the number that its file would get
+answered : (p : Problem) (s : List ℕ) → checkedWriting p s .answer ≡ firstRefusal (problemChecks p)
+unfolding checkedWriting after
+answered p s = go (firstRefusal (problemChecks p))
+  where
+    go : (k : Checked) → after (kept s) k (written p) .answer ≡ k
+    go Passed = refl
+    go (Refused r) = refl
+
+module _ (n : ℤ) (sized : Bool) (p : Problem) (s : List ℕ) (o : orderOk n ≡ true) (y : sized ≡ true) (e : p .constraint .order ≡ orderOf n) where
+  asked : writing n sized p s .answer ≡ firstRefusal (problemChecks p)
+  asked = ap (λ (w : Written). w .answer) (sym (writing-sized n sized p s o y e)) ∙ answered p s
+
+  -- where its numbers fit their fields
+  pub same-refusal : Sized p → InFields p → writing n sized p s .answer ≡ reading (fileOf p) .checked
+  same-refusal z f = asked ∙ sym (file-checked p z (rw e (order-ok n o)) f)
+
+  -- and where one does not it is 3
+  pub too-large : (InFields p → ⊥) → writing n sized p s .answer ≡ Refused Range
+  too-large f = asked ∙ outside-range p f
