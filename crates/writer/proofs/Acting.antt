@@ -1,7 +1,7 @@
 -- Laws of the writer's act: where n is an order and the buffers have their sizes 3, 4, 5 and 16 are all that is left to ask, of the numbers as they
 -- are handed in or in arrays; what is written is read back; and a problem is refused by the number that its file would get.
 use mathlib.Core.Path.{_≡_, refl, sym, ap, subst, _∙_}
-use mathlib.Core.Bool.{Bool, true, false≢true}
+use mathlib.Core.Bool.{Bool, true, false, false≢true}
 use mathlib.Core.List.{List, _++_}
 use Prim.Native.Nat.{ℕ}
 use borrow.Author.Tests.{eqb-true}
@@ -9,8 +9,8 @@ use lib.Dec.{eqb}
 use lib.IntN.{ℤ, pos, negsuc}
 use Rattle.tables.specs.Checks.{orderOk, orderOf, entryChecks, firstRefusal}
 use Rattle.tables.specs.Answers.{after}
-use Rattle.tables.specs.Problem.{constraintSized, problemWithin, problemChecks}
-use Rattle.tables.specs.declared.Refusal.the-variants.{Range}
+use Rattle.tables.specs.Problem.{constraintSized, problemWithin, problemChecks, constraintEntered}
+use Rattle.tables.specs.declared.Refusal.the-variants.{Order, Length, Range}
 use Rattle.tables.specs.declared.Checked.{Checked}
 use Rattle.tables.specs.declared.Checked.the-variants.{Passed, Refused}
 use Rattle.tables.specs.declared.problem.Problem.{Problem}
@@ -18,7 +18,7 @@ use Rattle.tables.specs.declared.problem.Sizes.{Sizes}
 use Rattle.tables.specs.declared.problem.Lengths.{Lengths}
 use Rattle.tables.proofs.Checks.{and-left, and-right, more-checks, order-of}
 use Rattle.tables.proofs.Answers.{after-means, prefix-passed}
-use Rattle.tables.proofs.Admission.{entry-passed, order-known}
+use Rattle.tables.proofs.Admission.{entry-passed, order-known, no-order, no-sizes}
 use Rattle.tables.proofs.Problems.{constraint-sizes-of, problem-door, constraint-sized}
 use Rattle.summary.specs.Problems.{fileSize, fileOf, padded, readAs, reading}
 use Rattle.summary.proofs.RoundTrip.{InFields, outside-range, read-back}
@@ -48,7 +48,17 @@ write-sizes-of n z b c s e =
       file = eqb-true s (fileSize n) (and-right (eqb c (z .vector)) _ t);
     }
 
--- ---- the door
+-- ---- the door: 1, then 2
+module _ (n : ℤ) (sized : Bool) (p : Problem) (s : List ℕ) where
+  pub writing-no-order : orderOf n ≡ 0 → kept s Order ≡ writing n sized p s
+  unfolding writing constraintEntered
+  writing-no-order e = no-order n _ _ _ _ (kept s) _ e
+
+  pub writing-no-sizes : (orderOf n ≡ 0 → ⊥) → sized ≡ false → kept s Length ≡ writing n sized p s
+  unfolding writing constraintEntered
+  writing-no-sizes h e = no-sizes n sized _ _ _ (kept s) _ h e
+
+-- and then 3, 4, 5 and 16
 pub writing-sized : (n : ℤ) (sized : Bool) (p : Problem) (s : List ℕ) → orderOk n ≡ true → sized ≡ true → p .constraint .order ≡ orderOf n →
     checkedWriting p s ≡ writing n sized p s
 unfolding checkedWriting writing

@@ -55,13 +55,13 @@ put-bounds-spec =
     let o = c .before .before .before in
     let s = begun o in
     let t = table-fits (s .pre .0) in
-    (refl, s .pre .1, put-room (first o) (table s) (omega (arith, s .pre .3)), omega arith))
+    (refl, omega (arith, s .pre .1, s .pre .2), put-room (first o) (table s) (omega (arith, s .pre .3)), omega arith))
     (λ c. search needs)
     (λ c κs.
     let o = c .before .before .before in
     let s = begun (begun2 o) in
     let t = table-fits (s .pre .0) in
-    (refl, s .pre .2, put-room (second o) (table s) (omega (arith, s .pre .3)), omega arith))
+    (refl, omega (arith, s .pre .1, s .pre .2), put-room (second o) (table s) (omega (arith, s .pre .3)), omega arith))
     (λ c. search needs)
     (λ c.
     let l = c .before .before in

@@ -8,15 +8,15 @@ use lib.ListN.{length}
 use Rattle.integers.proofs.Machine.{clean}
 use Rattle.tables.specs.Ranges.{greatestOrder}
 use Rattle.tables.specs.Checks.{orderOf}
-use Rattle.tables.specs.Problem.{problemOf, lengthsOf, constraintEntered}
+use Rattle.tables.specs.Problem.{problemOf, lengthsOf}
 use Rattle.tables.specs.declared.problem.Problem.{Problem}
 use Rattle.tables.proofs.Answers.{exactly}
 use Rattle.tables.proofs.Checks.{call-true, call-false}
-use Rattle.tables.proofs.Admission.{order-small, order-fits, order-given, no-order, no-sizes}
+use Rattle.tables.proofs.Admission.{order-small, order-fits, order-given}
 use Rattle.summary.specs.Problems.{padded}
 use Rattle.summary.proofs.Padding.{Sized, padded-rooms}
-use Rattle.writer.specs.Writing.{Written, kept, checkedWriting, writing, writeSizes, write}
-use Rattle.writer.proofs.Acting.{WriteSized, write-sizes-of, writing-sized, writing-padded, Means, writing-means}
+use Rattle.writer.specs.Writing.{checkedWriting, writeSizes, write}
+use Rattle.writer.proofs.Acting.{WriteSized, write-sizes-of, writing-no-order, writing-no-sizes, writing-sized, writing-padded, Means, writing-means}
 use Rattle.writer.proofs.write.write.Statement.{statement}
 use Rattle.writer.proofs.write.write.Tie as tie
 
@@ -83,14 +83,14 @@ unfolding write
 shown s = writing-means (s .args .n) (sizes s) (posed s) (s .args .file .now) refl (exact-sizes s)
 
 pub write-spec : {M : Type 1} → statement M
-unfolding write writing constraintEntered
+unfolding write
 write-spec =
     tie.close
     (tie.spec
     (λ c κs. search needs)
     (λ c.
     let s = begun (c .before) in
-    exactly (Means (posed s)) (shown s) _ (no-order _ _ _ _ _ (kept (s .args .file .now)) _ (sym (order (c .before)) ∙ c .if1 .taken)))
+    exactly (Means (posed s)) (shown s) _ (writing-no-order _ _ (posed s) _ (sym (order (c .before)) ∙ c .if1 .taken)))
     (λ c. record { fits = omega (arith, order-fits _ (order (c .before))) })
     (λ c κs. search needs)
     (λ c κs. small (c .before .before))
@@ -98,7 +98,7 @@ write-spec =
     let o = ordering (c .before) in
     let s = begun o in
     exactly (Means (posed s)) (shown s) _
-    (no-sizes _ _ _ _ _ (kept (s .args .file .now)) _ (λ z. c .before .before .before .if1 .left (order o ∙ z)) (call-false (sized (c .before)) (c .if2 .taken))))
+    (writing-no-sizes _ _ (posed s) _ (λ z. c .before .before .before .if1 .left (order o ∙ z)) (call-false (sized (c .before)) (c .if2 .taken))))
     (λ c κs.
     let o = ordering (c .before) in
     let z = lent (begun o) (fitting c) in
