@@ -66,7 +66,8 @@ fn put_numbers(
 
 // Puts the fields of the order and of both tables.
 fn put_bounds(file: &mut [u8], n: usize, low: &[i64], high: &[i64]) -> usize
-    requires { ⌜ (n ≤ greatestOrder) × (n * n ≤ length (now low)) × (n * n ≤ length (now high)) × (boundsSize n ≤ length (now file)) ⌝ }
+    requires { ⌜ (n ≤ greatestOrder) × (n * n ≤ length (now low)) × (n * n ≤ length (now high))
+        × (boundsSize n ≤ length (now file)) ⌝ }
     ensures { λ r. ⌜ Put (now (file .entry)) 0 (bytesOfEntries (boundsEntries n (now (low .entry)) (now (high .entry)))) (boundsSize
         n) r (now (file .exit)) ⌝ }
 {

@@ -77,8 +77,8 @@ fn problem_of(
     limit: i64,
     centre: &[i64],
 ) -> Problem
-    requires { ⌜ (n ≤ greatestOrder) × (n * n ≤ length (now low)) × (n * n ≤ length (now high)) × (n ≤ length (now «linear_low»))
-        × (n ≤ length (now «linear_high»)) × (n ≤ length (now centre)) ⌝ }
+    requires { ⌜ (n ≤ greatestOrder) × (n * n ≤ length (now low)) × (n * n ≤ length (now high))
+        × (n ≤ length (now «linear_low»)) × (n ≤ length (now «linear_high»)) × (n ≤ length (now centre)) ⌝ }
     ensures { λ r. ⌜ r ≡ padded (problemOf n (now (low .entry)) (now (high .entry)) (now («linear_low» .entry))
         (now («linear_high» .entry)) limit (now (centre .entry))) ⌝ }
 {
