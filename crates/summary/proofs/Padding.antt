@@ -6,9 +6,12 @@ use mathlib.Core.List.{List, _++_}
 use Prim.Native.Nat.{ℕ, _*_, _-_, _≤_}
 use native.Mathlib.Omega.{arith}
 use lib.IntN.{ℤ, pos}
-use lib.ListN.{length, take, replicate, length-append, length-replicate}
+use lib.ListN.{length, take, drop, replicate, length-append, length-replicate}
 use lib.Seq.{take-all, take-at, length-take-le}
-use mir.Syntax.{w32, w64}
+use mir.Syntax.{Width, w32, w64}
+use Rattle.words.specs.Numbers.{numbersOf, paddedNumbersOf}
+use Rattle.words.proofs.Laws.{length-numbersOf}
+use Rattle.words.proofs.Lists.{drop-replicate}
 use Rattle.tables.specs.Ranges.{greatestOrder, tableRoom, linearRange, centreRange}
 use Rattle.tables.specs.Matrix.{nth}
 use Rattle.tables.specs.Checks.{orderOk, linearWithin, termsWithin, endsChecks, firstRefusal}
@@ -35,6 +38,16 @@ padded-again room k x h = ap (λ (y : List ℤ). y ++ replicate (room - k) (pos 
 
 padded-list : (room k : ℕ) (x : List ℤ) → length x ≡ k → Padded x (paddedTo room k x)
 padded-list room k x e = record { rest = room - k; list = ap (λ (y : List ℤ). y ++ replicate (room - k) (pos 0)) (take-all k x (omega arith)) }
+
+-- numbers that are copied over zeros, and those that bytes spell
+pub over-zeros : (room k : ℕ) (x : List ℤ) → k ≤ room → take k x ++ drop k (replicate room (pos 0)) ≡ paddedTo room k x
+over-zeros room k x h = ap (λ (z : List ℤ). take k x ++ z) (drop-replicate room k (pos 0) h)
+
+pub spelled-padded : (w : Width) (room : ℕ) (s : List ℕ) (k : ℕ) → paddedNumbersOf w room s k ≡ paddedTo room k (numbersOf w s k)
+unfolding paddedNumbersOf
+spelled-padded w room s k =
+    let e : length (numbersOf w s k) ≤ k = omega (arith, length-numbersOf w s k) in
+    ap (λ (z : List ℤ). z ++ replicate (room - k) (pos 0)) (sym (take-all k (numbersOf w s k) e))
 
 -- ---- both have the same file
 padded-contents : (p : Problem) (k : Kind) → contentsOf (padded p) k ≡ contentsOf p k

@@ -3,11 +3,11 @@
 use mathlib.Core.Path.{_≡_, refl, sym, ap, _∙_}
 use mathlib.Core.Bool.{Bool, true, false, _&&_}
 use mathlib.Core.List.{List, [], _∷_, _++_, map, append-nil}
-use Prim.Native.Nat.{ℕ, zero, suc, _*_, _-_, _/_, _%_, _^_, _≤_, _<_}
+use Prim.Native.Nat.{ℕ, zero, suc, _*_, _-_, _/_, _^_, _≤_, _<_}
 use native.Mathlib.Nat.{one-le-pow}
 use native.Mathlib.Decide.{decLt}
 use native.Mathlib.Omega.{arith}
-use lib.IntN.{ℤ, pos, negsuc, natAbs}
+use lib.IntN.{ℤ, pos, negsuc}
 use lib.ListN.{length, getD, take, replicate, List·getD-eq-default}
 use lib.Seq.{take-all, getD-take, length-take-le}
 use mir.Syntax.{Width, w32, w64}
@@ -28,7 +28,7 @@ use Rattle.tables.proofs.Checks.{all-at, within-of, and-left, and-right, first-
 use Rattle.tables.proofs.Answers.{prefix-passed}
 use Rattle.fields.specs.declared.field.Kind.{Kind}
 use Rattle.fields.specs.declared.field.Kind.the-variants as Kind
-use Rattle.fields.specs.Fields.{kinds, tagOf}
+use Rattle.fields.specs.Fields.{kinds}
 use Rattle.fields.specs.Entries.{headBytes, entryBytes, bytesOfEntries, entryWith, wholeFile}
 use Rattle.fields.proofs.Finding.{place-below}
 use Rattle.summary.specs.declared.problem.Reading.{Reading}

@@ -1,6 +1,6 @@
 -- Files of some problems, and refusals: what the rules give, beside what was worked out apart from them. One list with one proof.
 use mathlib.Core.Path.{_≡_, refl}
-use mathlib.Core.List.{List, [], _∷_, _++_, map}
+use mathlib.Core.List.{List, [], _∷_, map}
 use Prim.Native.Nat.{ℕ, _+_, _^_}
 use lib.IntN.{ℤ, pos, negsuc}
 use lib.ListN.{length, take, replicate}

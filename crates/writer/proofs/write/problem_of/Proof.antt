@@ -1,4 +1,3 @@
-use native.Mathlib.Omega.{arith}
 use borrow.Author.Needs.{needs}
 use Rattle.integers.proofs.Machine.{clean}
 use Rattle.tables.proofs.Matrix.{table-fits}
