@@ -4,3 +4,5 @@ pub mod Boxing
 pub mod SumsGathered
 pub mod Calls
 pub mod SumsRead
+pub mod SummaryRead
+pub mod SummaryWritten

@@ -18,6 +18,9 @@ use Rattle.rides.specs.Act.{Lent, Left, gatheredCode}
 use Rattle.buffers.specs.Buffers.{tableOf, vectorOf, factorBuffers, vectorBuffers, judgeBuffers, boxBuffers, storedVerdict, storedSides}
 use Rattle.rides.specs.Reading.{readSums, readingCode}
 use Rattle.sums_buffers.specs.SumsBuffers.{spelledSums, sumsBuffers, storedSums, readBuffers, ReadOut, storedLimit}
+use Rattle.writer.specs.Writing.{Written}
+use Rattle.file_buffers.specs.Parts.{Parts, Handed, readSummary, checkedCode}
+use Rattle.file_buffers.specs.Filing.{writeSummary}
 
 -- hb_test_factor: the factor test of the numbers that the buffers spell
 unfoldable pub testFactorEntry : ℤ → List ℕ → List ℕ → List ℕ → ℤ
@@ -105,3 +108,26 @@ unfoldable pub readEntry : ℤ → List ℕ → List ℕ → List ℕ → List �
 readEntry n l u a b α K s =
     let j : ReadOut = readStored n l u a b α K s in
     record { number = readingCode (j .answer); limit = j .limit }
+
+-- ---- hb_read_summary: the problem of a file s into seven buffers
+-- the number of the answer, and the buffers as they are left
+pub record ReadSummaryResult : Type 0 where
+  pub number : ℤ
+  pub parts : Parts
+
+unfoldable pub readSummaryEntry : List ℕ → Parts → ReadSummaryResult
+readSummaryEntry s b =
+    let j : Handed = readSummary s b in
+    record { number = checkedCode (j .answer); parts = j .parts }
+
+-- ---- hb_write_summary: the file of the problem that the buffers spell, with linear terms from a to b, a limit α and a centre c, into s
+-- the number of the answer, and the buffer as it is left
+pub record WriteSummaryResult : Type 0 where
+  pub number : ℤ
+  pub file : List ℕ
+
+unfoldable pub writeSummaryEntry : ℤ → List ℕ → List ℕ → List ℕ → List ℕ → ℤ → List ℕ → List ℕ →
+    WriteSummaryResult
+writeSummaryEntry n l u a b α c s =
+    let j : Written = writeSummary n l u a b α c s in
+    record { number = checkedCode (j .answer); file = j .file }

@@ -2,9 +2,10 @@
 use mathlib.Core.Path.{_≡_}
 use mathlib.Core.Bool.{true}
 use mathlib.Core.List.{List, List·Memᴰ}
-use Prim.Native.Nat.{ℕ}
+use Prim.Native.Nat.{ℕ, _*_}
 use lib.IntN.{ℤ, pos, negsuc, _*ℤ_}
 use lib.Signed.{_≤ℤ_}
+use lib.ListN.{length}
 use Rattle.tables.specs.Matrix.{Matrix, at, nth}
 use Rattle.tables.specs.Checks.{orderOf}
 use Rattle.tables.specs.Problem.{constraintOf}
@@ -15,9 +16,13 @@ use Rattle.enclosure.specs.Points.{Allowed, Contains}
 use Rattle.samples.specs.declared.sample.Sample.{Sample}
 use Rattle.samples.specs.Explaining.{Explained}
 use Rattle.rides.specs.Act.{Lent, Explaining}
+use Rattle.tables.specs.declared.Checked.the-variants.{Passed}
+use Rattle.summary.specs.Problems.{fileOf, reading, LetThrough}
 use Rattle.buffers.specs.Buffers.{tableOf, vectorOf, sidesOf, numberOf}
 use Rattle.sums_buffers.specs.SumsBuffers.{spelledSums}
-use Rattle.hankboulder.specs.Entries.{testFactorEntry, testVectorEntry, spelledWith}
+use Rattle.file_buffers.specs.Parts.{Parts, partsRoomy, spelled, orderIn, problemIn}
+use Rattle.file_buffers.specs.Filing.{front, laidOut}
+use Rattle.hankboulder.specs.Entries.{testFactorEntry, testVectorEntry, spelledWith, readSummaryEntry, writeSummaryEntry}
 
 -- k is the order, L and U the bounds
 module _ (n : ℤ) (l u : List ℕ) where
@@ -75,3 +80,25 @@ pub record ReadMeaning (n : ℤ) (l u a b : List ℕ) (α K r : ℤ) (s : List �
   -- 0, the limit is written: a point that the sums explain up to K is allowed by the constraint with that limit
   pub allows : r ≡ pos 0 → (g v : ℤ) → pos 1 ≤ℤ v → g ≤ℤ (K *ℤ v) → (X : ℕ → ℤ) (p : ℤ) → pos 1 ≤ℤ p →
       Explained (spelledWith n l u a b α) g v X p → Allowed (spelledWith n l u a b (numberOf s)) X p
+
+-- of a file s that is read into buffers; d: the buffers as they are left
+pub record ReadSummaryMeaning (s : List ℕ) (d : Parts) (r : ℤ) : Type 0 where
+  -- 0, all buffers are written: the file is accepted, and its problem is the one that the fronts of the buffers spell
+  pub problem : r ≡ pos 0 → reading s ≡ record { checked = Passed; problem = problemIn d }
+  -- its order is one, and 3, 4, 5 and 16 let it through
+  pub through : r ≡ pos 0 → LetThrough (problemIn d)
+  -- R24.3: the file is the one file of that problem
+  pub file : r ≡ pos 0 → fileOf (problemIn d) ≡ s
+  -- and hb_write_summary writes it again from the fronts of the buffers, byte for byte, into any buffer of its size
+  pub again : r ≡ pos 0 → (t : List ℕ) → length t ≡ length s → let k : ℕ = orderIn d in
+      writeSummaryEntry (numberOf (d .order)) (front (k * k) (d .low)) (front (k * k) (d .high)) (front k (d .from)) (front k (d .to))
+      (numberOf (d .limit)) (front k (d .centre)) t
+      ≡ record { number = pos 0; file = s }
+
+-- of a problem that is written, with linear terms from a to b, a limit α and a centre c; s: the file's buffer as it is left
+pub record WriteSummaryMeaning (n : ℤ) (l u a b : List ℕ) (α : ℤ) (c : List ℕ) (r : ℤ) (s : List ℕ) : Type 0 where
+  -- 0, the file is written (R24.2): it is read as the problem that was handed in
+  pub back : r ≡ pos 0 → reading s ≡ record { checked = Passed; problem = spelled (orderOf n) l u a b α c }
+  -- and hb_read_summary reads it into any buffers of their sizes: each as it was handed in, and zeros behind it
+  pub again : r ≡ pos 0 → (d : Parts) → partsRoomy d ≡ true →
+      readSummaryEntry s d ≡ record { number = pos 0; parts = laidOut n l u a b α c }

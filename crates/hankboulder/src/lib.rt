@@ -3,6 +3,8 @@ ghost use mathlib.Core.Path.{_≡_};
 ghost use Rattle.hankboulder.specs.Entries.{testFactorEntry, testVectorEntry, JudgeResult, judgeEntry, BoxResult, boxEntry};
 ghost use Rattle.hankboulder.specs.Meanings.{FactorMeaning, VectorMeaning, JudgeMeaning, BoxMeaning};
 
+pub mod file_reading;
+pub mod file_writing;
 pub mod gathering;
 pub mod reading;
 

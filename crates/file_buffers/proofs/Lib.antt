@@ -1,0 +1,5 @@
+pub mod Fronts
+pub mod Handing
+pub mod Back
+pub mod Filed
+pub mod Rewritten

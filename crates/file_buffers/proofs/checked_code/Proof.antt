@@ -1,0 +1,20 @@
+use mathlib.Core.Path.{ap, _∙_}
+use native.Mathlib.Omega.{arith}
+use borrow.Author.Needs.{needs}
+use lib.IntN.{pos}
+use Rattle.integers.proofs.Machine.{read-i64}
+use Rattle.file_buffers.specs.Parts.{checkedCode}
+use Rattle.file_buffers.proofs.checked_code.Statement.{statement}
+use Rattle.file_buffers.proofs.checked_code.Tie as tie
+
+pub checked-code-spec : {M : Type 1} → statement M
+unfolding checkedCode
+checked-code-spec =
+    tie.close
+    (tie.spec
+    (λ c. search needs)
+    (λ c. search needs)
+    (λ c κs. search needs)
+    (λ c. search needs)
+    (λ c. rw (c .enum-told .given .1))
+    (λ c. rw (c .before .before .checked .given .1) (read-i64 (c .refusal-number .result) (omega arith) ∙ ap pos (c .refusal-number .ensures))))
