@@ -3,3 +3,4 @@ pub mod Handing
 pub mod Back
 pub mod Filed
 pub mod Rewritten
+pub mod Examples
