@@ -1,5 +1,5 @@
 -- Laws of the problem that buffers spell, and of its file: what is written is read back, number by number and byte by byte.
-use mathlib.Core.Path.{_≡_, refl, sym, ap, _∙_}
+use mathlib.Core.Path.{_≡_, refl, sym, ap, subst, _∙_}
 use mathlib.Core.Bool.{Bool, true, false≢true}
 use mathlib.Core.List.{List, _++_}
 use Prim.Native.Nat.{ℕ, _-_, _*_, _≤_}
@@ -7,29 +7,31 @@ use native.Mathlib.Omega.{arith}
 use lib.IntN.{ℤ, pos, negsuc, natAbs}
 use lib.Signed.{_≤ℤ_}
 use lib.ListN.{length, replicate}
-use lib.Seq.{take-all, take-at}
+use lib.Seq.{take-all}
 use mir.Syntax.{w64}
 use mir.Val.{bytes}
-use Rattle.words.specs.Numbers.{numbersOf, paddedNumbersOf}
+use Rattle.words.specs.Numbers.{paddedNumbersOf}
 use Rattle.words.proofs.Laws.{AllBytes, length-numbersOf, length-paddedNumbersOf, bytesOf-numbersOf}
 use Rattle.words.proofs.Sign.{narrow-of}
 use Rattle.tables.specs.Ranges.{greatestOrder, tableRoom}
 use Rattle.tables.specs.Checks.{orderOk, orderOf, entryChecks, firstRefusal}
 use Rattle.tables.specs.Answers.{after}
-use Rattle.tables.specs.Problem.{lengthsOf, problemChecks}
+use Rattle.tables.specs.Problem.{problemOf, lengthsOf, problemChecks}
+use Rattle.tables.specs.declared.Refusal.the-variants.{Range}
 use Rattle.tables.specs.declared.Checked.{Checked}
 use Rattle.tables.specs.declared.Checked.the-variants.{Passed, Refused}
 use Rattle.tables.specs.declared.problem.Problem.{Problem}
 use Rattle.tables.proofs.Matrix.{table-fits}
 use Rattle.tables.proofs.Checks.{more-checks, order-of}
 use Rattle.tables.proofs.Answers.{prefix-passed, after-passed, after-refused}
-use Rattle.tables.proofs.Admission.{entry-passed, entry-passes, order-known, order-small}
+use Rattle.tables.proofs.Admission.{entry-passed, entry-passes, order-known}
 use Rattle.tables.proofs.Problems.{problem-door}
-use Rattle.summary.specs.Problems.{fileOf, paddedTo, padded, readAs, reading, ProblemRooms, LetThrough}
-use Rattle.summary.proofs.RoundTrip.{read-back}
-use Rattle.writer.specs.Writing.{Written, kept, written, writing}
-use Rattle.writer.proofs.Acting.{write-sizes-of}
-use Rattle.buffers.specs.Buffers.{bytesOfNumber}
+use Rattle.summary.specs.Problems.{fileOf, padded, readAs, reading, ProblemRooms, LetThrough}
+use Rattle.summary.proofs.RoundTrip.{InFields, read-back}
+use Rattle.summary.proofs.Padding.{Sized, spelled-padded, padded-checks, padded-through}
+use Rattle.writer.specs.Writing.{Written, kept, written, checkedWriting, writing}
+use Rattle.writer.proofs.Acting.{write-sizes-of, writing-sized, writing-padded, same-refusal, too-large}
+use Rattle.buffers.specs.Buffers.{tableOf, vectorOf, bytesOfNumber}
 use Rattle.file_buffers.specs.Parts.{partsOf, inFront, spelled}
 use Rattle.file_buffers.specs.Filing.{writeBuffers, writeSummary, filled, laidOut}
 use Rattle.file_buffers.proofs.Handing.{parts-by}
@@ -68,11 +70,6 @@ module _ (n : ℤ) (sized : Bool) (p : Problem) (s : List ℕ) (e : p .constrain
           absurd (false≢true cc)
 
 -- ---- the problem that buffers spell
--- zeros stand behind its numbers
-again : (room : ℕ) (t : List ℕ) (k : ℕ) → paddedTo room k (paddedNumbersOf w64 room t k) ≡ paddedNumbersOf w64 room t k
-unfolding paddedNumbersOf
-again room t k = ap (λ (x : List ℤ). x ++ replicate (room - k) (pos 0)) (take-at (numbersOf w64 t k) _ k (length-numbersOf w64 t k))
-
 module _ (n : ℕ) (l u a b : List ℕ) (α : ℤ) (c : List ℕ) where
   pub spelled-rooms : n ≤ greatestOrder → ProblemRooms (spelled n l u a b α c)
   spelled-rooms h =
@@ -85,8 +82,35 @@ module _ (n : ℕ) (l u a b : List ℕ) (α : ℤ) (c : List ℕ) where
         centre = length-paddedNumbersOf w64 greatestOrder c n h;
       }
 
-  spelled-zeros : padded (spelled n l u a b α c) ≡ spelled n l u a b α c
-  spelled-zeros = rw (again tableRoom l (n * n), again tableRoom u (n * n), again greatestOrder a n, again greatestOrder b n, again greatestOrder c n)
+  -- it is the problem of the lists of numbers that they spell, in arrays
+  abbrev pub listed : Problem
+  listed = problemOf n (tableOf n l) (tableOf n u) (vectorOf n a) (vectorOf n b) α (vectorOf n c)
+
+  listed-sized : Sized listed
+  listed-sized =
+      record {
+        low = length-numbersOf w64 l (n * n);
+        high = length-numbersOf w64 u (n * n);
+        linear-low = length-numbersOf w64 a n;
+        linear-high = length-numbersOf w64 b n;
+        centre = length-numbersOf w64 c n;
+      }
+
+  spelled-listed : spelled n l u a b α c ≡ padded listed
+  spelled-listed =
+      rw (
+        spelled-padded w64 tableRoom l (n * n),
+        spelled-padded w64 tableRoom u (n * n),
+        spelled-padded w64 greatestOrder a n,
+        spelled-padded w64 greatestOrder b n,
+        spelled-padded w64 greatestOrder c n,
+      )
+
+  -- where the checks pass it is let through
+  spelled-through : orderOk (pos n) ≡ true → firstRefusal (problemChecks (spelled n l u a b α c)) ≡ Passed → LetThrough (spelled n l u a b α c)
+  spelled-through o e =
+      let q = ap firstRefusal (sym (padded-checks listed listed-sized) ∙ ap problemChecks (sym spelled-listed)) ∙ e in
+      subst LetThrough (sym spelled-listed) (padded-through listed listed-sized o q)
 
 -- ---- as the reader lays it out
 -- numbers that fill a buffer, and zeros behind them
@@ -109,19 +133,16 @@ module _ (n : ℤ) (l u a b : List ℕ) (α : ℤ) (c s : List ℕ) where
   abbrev problem : Problem
   problem = spelled k l u a b α c
 
+  abbrev sized : Bool
+  sized = writeBuffers k (lengthsOf (length l) (length u) (length a) (length b)) (length c) (length s)
+
   module _ (h : writeSummary n l u a b α c s .answer ≡ Passed) where
-    wrote : Wrote n (writeBuffers k (lengthsOf (length l) (length u) (length a) (length b)) (length c) (length s)) problem s refl
+    wrote : Wrote n sized problem s refl
     unfolding writeSummary
     wrote = writing-wrote n _ problem s refl h
 
     through : LetThrough problem
-    through =
-        record {
-          order = rw (order-known n (wrote .order), order-pos n (order-of (wrote .order) .0)) (wrote .order);
-          checks = wrote .checks;
-          rooms = spelled-rooms k l u a b α c (order-small n);
-          zeros = spelled-zeros k l u a b α c;
-        }
+    through = spelled-through k l u a b α c (rw (order-known n (wrote .order), order-pos n (order-of (wrote .order) .0)) (wrote .order)) (wrote .checks)
 
     -- it is read back
     pub written-read : reading (writeSummary n l u a b α c s .file) ≡ readAs Passed problem
@@ -135,3 +156,18 @@ module _ (n : ℤ) (l u a b : List ℕ) (α : ℤ) (c s : List ℕ) where
         parts-by (ap bytesOfNumber (ap pos (order-known n (wrote .order)) ∙ order-pos n (order-of (wrote .order) .0)))
         (numbers-filled tableRoom l (k * k) vl (z .low)) (numbers-filled tableRoom u (k * k) vu (z .high))
         (numbers-filled greatestOrder a k va (z .linear-low)) (numbers-filled greatestOrder b k vb (z .linear-high)) refl (numbers-filled greatestOrder c k vc (z .centre))
+
+  -- ---- R24.5: where n is an order and the buffers have their sizes, the problem is refused by the number that its file would get
+  module _ (o : orderOk n ≡ true) (z : sized ≡ true) where
+    as-listed : writeSummary n l u a b α c s ≡ writing n sized (listed k l u a b α c) s
+    unfolding writeSummary
+    as-listed =
+        sym (writing-sized n sized problem s o z refl) ∙ ap (λ (p : Problem). checkedWriting p s) (spelled-listed k l u a b α c)
+        ∙ writing-padded (listed k l u a b α c) s (listed-sized k l u a b α c) ∙ writing-sized n sized (listed k l u a b α c) s o z refl
+
+    pub refused-as-file : InFields (listed k l u a b α c) → writeSummary n l u a b α c s .answer ≡ reading (fileOf (listed k l u a b α c)) .checked
+    refused-as-file f = ap (λ (w : Written). w .answer) as-listed ∙ same-refusal n sized (listed k l u a b α c) s o z refl (listed-sized k l u a b α c) f
+
+    -- and by 3 where a number does not fit its field
+    pub refused-too-large : (InFields (listed k l u a b α c) → ⊥) → writeSummary n l u a b α c s .answer ≡ Refused Range
+    refused-too-large f = ap (λ (w : Written). w .answer) as-listed ∙ too-large n sized (listed k l u a b α c) s o z refl f
