@@ -1,4 +1,4 @@
-//! The worked cases W1 to W33, and cases for the mistakes that docs/RULES.md
+//! The worked cases W1 to W38, and cases for the mistakes that docs/RULES.md
 //! remarks on. Expected answers are literals.
 
 use std::fmt;
@@ -44,7 +44,7 @@ impl fmt::Display for Case {
     }
 }
 
-/// Every case: W1 to W20, W21 (case P), W24 to W33, then those for the mistakes,
+/// Every case: W1 to W20, W21 (case P), W24 to W38, then those for the mistakes,
 /// W22 and W23 among them.
 pub fn listed_cases() -> Vec<Case> {
     [
@@ -54,6 +54,7 @@ pub fn listed_cases() -> Vec<Case> {
         vec![case_p()],
         two_ends(),
         falling_tags(),
+        written_files(),
         wrong_turns(),
     ]
     .concat()
@@ -97,14 +98,13 @@ fn judged_refusals() -> Vec<Case> {
     ]
 }
 
+const CASE_P: &str = "01 0100 01, 02 0400 04000000, 03 0400 04000000, \
+    04 0800 F8FFFFFFFFFFFFFF, 05 0800 0000000000000000, \
+    06 0800 0200000000000000, 07 0800 F8FFFFFFFFFFFFFF";
+
 fn case_p() -> Case {
-    let file = bytes(
-        "01 0100 01, 02 0400 04000000, 03 0400 04000000, \
-         04 0800 F8FFFFFFFFFFFFFF, 05 0800 0000000000000000, \
-         06 0800 0200000000000000, 07 0800 F8FFFFFFFFFFFFFF",
-    );
     let expected = "definite; row 129007; side -1 5";
-    Case::new("case P", expected, output(&file))
+    Case::new("case P", expected, output(&bytes(CASE_P)))
 }
 
 /// Boxes whose linear terms have unequal ends.
@@ -135,6 +135,55 @@ fn falling_tags() -> Vec<Case> {
         file("01 0000, 02 0000, 01 0000", "refused 12"),
         file("01 0000, 03 0000, 02 0000", "refused 19"),
         file("02 0000, 01 0000, 03", "refused 19"),
+    ]
+}
+
+/// Case P's problem, written and read over bytes.
+fn written_files() -> Vec<Case> {
+    let write = |n: i64, m: i64, limit: i64, room: usize| {
+        let [m, a, c] = [m, -8, 2].map(|number| number.to_le_bytes());
+        let mut file = vec![0xA5; room];
+        let answer = entries::write_summary(n, &m, &m, &a, &a, limit, &c, &mut file);
+        let kept = file.iter().all(|byte| *byte == 0xA5);
+        match (answer == 0 && file == bytes(CASE_P), kept) {
+            (true, _) => "the file of case P".to_string(),
+            (false, true) => format!("refused {answer}"),
+            (false, false) => format!("answer {answer}, and another file"),
+        }
+    };
+    let read = |table: usize| {
+        let (mut low, mut high) = (vec![0xA5; table], vec![0xA5; 512]);
+        let [mut order, mut limit] = [[0xA5; 8]; 2];
+        let [mut least, mut most, mut centre] = [[0xA5; 64]; 3];
+        entries::read_summary(
+            &bytes(CASE_P),
+            &mut order,
+            &mut low,
+            &mut high,
+            &mut least,
+            &mut most,
+            &mut limit,
+            &mut centre,
+        )
+    };
+    let case = |subject: &str, expected: &str, got: String| {
+        Case::new(&format!("case P, {subject}"), expected, got)
+    };
+    let wide = (1 << 54) + 1;
+    vec![
+        case("written", "the file of case P", write(1, 4, 0, 62)),
+        case("written, n = 257", "refused 1", write(257, 4, 0, 62)),
+        case(
+            "written, M = [2^32 + 4]",
+            "refused 3",
+            write(1, (1 << 32) + 4, 0, 62),
+        ),
+        case(
+            "written to 61 bytes, α = 2^54 + 1",
+            "refused 2",
+            write(1, 4, wide, 61),
+        ),
+        case("read, L to 8 bytes", "2", read(8).to_string()),
     ]
 }
 

@@ -1,17 +1,21 @@
-//! The acts over bytes, as the C entries have them: R15, R22 and R23.
+//! The acts over bytes, as the C entries have them: R15 and R22 to R25.
 //!
 //! Numbers take up 8 bytes (R15.2); what is returned is that of R15.4.
 
 use crate::enclosure::{self, Enclosure};
 use crate::judge::{self as judging, Verdict};
-use crate::problem::{check_lengths, check_order, sides_size, table_size};
+use crate::problem::{
+    check_lengths, check_order, sides_size, table_size, write_numbers, MAX_ORDER,
+};
 use crate::refusal::Refusal;
 use crate::residual;
 use crate::rides::{self, Sample};
-use crate::summary::{decode, encode, NUMBER_WIDTH};
+use crate::summary::{decode, encode, read_problem, NUMBER_WIDTH};
 use crate::vectors;
+use crate::writer;
 
-/// 'definite', 'accepted', 'yes', a box, a sample taken, a limit written
+/// 'definite', 'accepted', 'yes', a box, a sample taken, a limit written, a file
+/// written, a problem written
 pub const POSITIVE: i64 = 0;
 /// 'not definite', 'not accepted', 'no', 'empty'
 pub const NEGATIVE: i64 = -1;
@@ -222,4 +226,80 @@ pub fn read_sums(
             Ok(())
         }),
     )
+}
+
+/// Writing a summary file. The file's size is in bytes, not in numbers.
+#[allow(clippy::too_many_arguments)]
+pub fn write_summary(
+    n: i64,
+    low: &[u8],
+    high: &[u8],
+    linear_low: &[u8],
+    linear_high: &[u8],
+    limit: i64,
+    centre: &[u8],
+    file: &mut [u8],
+) -> i64 {
+    let buffers = [
+        (low, table_size as Count),
+        (high, table_size),
+        (linear_low, LIST),
+        (linear_high, LIST),
+        (centre, LIST),
+    ];
+    taken_code(
+        read(n, buffers).and_then(|[low, high, least, most, centre]| {
+            writer::write_summary(n, &low, &high, &least, &most, limit, &centre, file)
+        }),
+    )
+}
+
+/// Reading a summary file (R25): the sizes of the seven outputs, which are those of
+/// the greatest order, come before the file.
+#[allow(clippy::too_many_arguments)]
+pub fn read_summary(
+    file: &[u8],
+    order: &mut [u8],
+    low: &mut [u8],
+    high: &mut [u8],
+    linear_low: &mut [u8],
+    linear_high: &mut [u8],
+    limit: &mut [u8],
+    centre: &mut [u8],
+) -> i64 {
+    let lent = [order, low, high, linear_low, linear_high, limit, centre];
+    taken_code(summary_read(file, lent))
+}
+
+fn summary_read(file: &[u8], mut lent: [&mut [u8]; 7]) -> Result<(), Refusal> {
+    let counts = [SINGLE, table_size, table_size, LIST, LIST, SINGLE, LIST];
+    let size = |count: Count| NUMBER_WIDTH * count(MAX_ORDER as usize);
+    let lengths: Vec<(usize, usize)> = lent
+        .iter()
+        .zip(counts)
+        .map(|(bytes, count)| (bytes.len(), size(count)))
+        .collect();
+    check_lengths(&lengths)?;
+    let problem = read_problem(file)?;
+    let bounds = problem.bounds;
+    let lists = [
+        vec![bounds.order as i128],
+        bounds.low.concat(),
+        bounds.high.concat(),
+        problem.linear_low,
+        problem.linear_high,
+        vec![problem.limit],
+        problem.centre,
+    ];
+    for (buffer, list) in lent.iter_mut().zip(lists) {
+        write_in_front(&list, buffer);
+    }
+    Ok(())
+}
+
+/// R25.3: numbers in front, zeros behind them.
+fn write_in_front(numbers: &[i128], buffer: &mut [u8]) {
+    let mut whole = vec![0; buffer.len() / NUMBER_WIDTH];
+    write_numbers(numbers, &mut whole[..numbers.len()]);
+    write(&whole, buffer);
 }

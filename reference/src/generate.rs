@@ -9,8 +9,8 @@ mod problems;
 mod rides;
 mod simulated;
 
-pub use calls::{BoxCall, FactorCall, JudgeCall, VectorCall};
-pub use files::DrawnFile;
+pub use calls::{BoxCall, FactorCall, JudgeCall, VectorCall, WriteCall};
+pub use files::{DrawnFile, ReadCall};
 pub use points::{Fractions, Point};
 pub use rides::{GatherCall, SumsCall, EDGES};
 pub use simulated::{Ride, Road};

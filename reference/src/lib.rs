@@ -21,3 +21,4 @@ pub mod residual;
 pub mod rides;
 pub mod summary;
 pub mod vectors;
+pub mod writer;

@@ -161,8 +161,8 @@ pub fn problem_fields(
     ]
 }
 
-/// A file of fields (tag, content), in the order given.
-pub fn write_summary(fields: &[(u8, Vec<u8>)]) -> Vec<u8> {
+/// A file of any fields (tag, content), in the order given.
+pub fn file_of_fields(fields: &[(u8, Vec<u8>)]) -> Vec<u8> {
     let mut file = vec![];
     for (tag, content) in fields {
         let length = u16::try_from(content.len()).expect("a two-byte length");

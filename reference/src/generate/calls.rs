@@ -10,6 +10,7 @@ use crate::problem::{
     LINEAR_RANGE, VECTOR_RANGE,
 };
 use crate::summary::{encode, NUMBER_WIDTH};
+use crate::writer::file_size;
 
 /// The factor test's arguments.
 #[derive(Clone, Debug, PartialEq, Eq)]
@@ -54,6 +55,20 @@ pub struct BoxCall {
     pub limit: i64,
     pub centre: Vec<u8>,
     pub sides: Vec<u8>,
+}
+
+/// The writer's arguments; the file with its contents before the call.
+#[derive(Clone, Debug, PartialEq, Eq)]
+#[allow(missing_docs)]
+pub struct WriteCall {
+    pub n: i64,
+    pub low: Vec<u8>,
+    pub high: Vec<u8>,
+    pub linear_low: Vec<u8>,
+    pub linear_high: Vec<u8>,
+    pub limit: i64,
+    pub centre: Vec<u8>,
+    pub file: Vec<u8>,
 }
 
 /// Orders that check 1 refuses.
@@ -160,8 +175,52 @@ impl Generator {
         call
     }
 
+    /// A call of the writer.
+    pub fn write_call(&mut self) -> WriteCall {
+        let mut problem = self.any_problem();
+        self.damage_entries(&mut problem);
+        self.damage_terms(&mut problem);
+        self.damage_width(&mut problem);
+        let mut call = WriteCall {
+            n: problem.order as i64,
+            low: bytes(&problem.low),
+            high: bytes(&problem.high),
+            linear_low: bytes(&problem.linear_low),
+            linear_high: bytes(&problem.linear_high),
+            limit: problem.limit,
+            centre: bytes(&problem.centre),
+            file: self.random.bytes(file_size(problem.order)),
+        };
+        let buffers = &mut [
+            &mut call.low,
+            &mut call.high,
+            &mut call.linear_low,
+            &mut call.linear_high,
+            &mut call.centre,
+            &mut call.file,
+        ];
+        self.damage_sizes(&mut call.n, buffers);
+        call
+    }
+
+    /// Now and then an entry of both tables that its 4 bytes in a file have no room
+    /// for: what they would have of it is in range.
+    fn damage_width(&mut self, problem: &mut RawProblem) {
+        if !self.random.one_in(FAULT_SHARE) {
+            return;
+        }
+        let turns = self.random.pick(&[1, -1, 1 << 20, i64::from(i32::MAX)]);
+        let order = problem.order;
+        let (i, j) = (self.random.index(order), self.random.index(order));
+        for place in [i * order + j, j * order + i] {
+            for table in [&mut problem.low, &mut problem.high] {
+                table[place] = table[place].wrapping_add(turns << 32);
+            }
+        }
+    }
+
     /// Random contents for an output of so many numbers.
-    fn buffer(&mut self, count: usize) -> Vec<u8> {
+    pub(super) fn buffer(&mut self, count: usize) -> Vec<u8> {
         self.random.bytes(NUMBER_WIDTH * count)
     }
 

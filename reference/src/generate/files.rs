@@ -1,7 +1,8 @@
 //! Summary files, faulty ones among them.
 
 use super::{Generator, RawProblem};
-use crate::summary::{problem_fields, write_summary, MAX_FILE, TAG_ORDER};
+use crate::problem::{table_size, MAX_ORDER};
+use crate::summary::{file_of_fields, problem_fields, MAX_FILE, TAG_ORDER};
 
 /// A field to be written: tag and content.
 type Field = (u8, Vec<u8>);
@@ -15,7 +16,67 @@ pub struct DrawnFile {
     pub damaged: bool,
 }
 
+/// The arguments of reading a summary; the outputs with their contents before the
+/// call.
+#[derive(Clone, Debug, PartialEq, Eq)]
+#[allow(missing_docs)]
+pub struct ReadCall {
+    pub file: Vec<u8>,
+    pub order: Vec<u8>,
+    pub low: Vec<u8>,
+    pub high: Vec<u8>,
+    pub linear_low: Vec<u8>,
+    pub linear_high: Vec<u8>,
+    pub limit: Vec<u8>,
+    pub centre: Vec<u8>,
+}
+
+/// One call of reading in this many has an output of a wrong size.
+const FAULT_SHARE: usize = 12;
+
 impl Generator {
+    /// A call of reading a summary.
+    pub fn read_call(&mut self) -> ReadCall {
+        let most = MAX_ORDER as usize;
+        let mut call = ReadCall {
+            file: self.summary_file(),
+            order: self.buffer(1),
+            low: self.buffer(table_size(most)),
+            high: self.buffer(table_size(most)),
+            linear_low: self.buffer(most),
+            linear_high: self.buffer(most),
+            limit: self.buffer(1),
+            centre: self.buffer(most),
+        };
+        if self.random.one_in(FAULT_SHARE) {
+            self.damage_output(&mut call);
+        }
+        call
+    }
+
+    /// Another size of one output: that of another order, or one beside its own.
+    fn damage_output(&mut self, call: &mut ReadCall) {
+        let outputs = [
+            &mut call.order,
+            &mut call.low,
+            &mut call.high,
+            &mut call.linear_low,
+            &mut call.linear_high,
+            &mut call.limit,
+            &mut call.centre,
+        ];
+        let place = self.random.index(outputs.len());
+        let output = outputs.into_iter().nth(place).expect("the place is there");
+        let (size, order) = (output.len(), self.random.index(10));
+        let choices = [0, size - 8, size - 1, size + 1, size + 8];
+        let others = [8 * order, 8 * table_size(order)];
+        let size = match self.random.index(3) {
+            0 => self.random.pick(&others),
+            _ => self.random.pick(&choices),
+        };
+        *output = self.random.bytes(size);
+    }
+
     /// A summary file: a good one, one with faulty entries, one with a faulty
     /// field, or one with faulty bytes.
     pub fn summary_file(&mut self) -> Vec<u8> {
@@ -32,11 +93,11 @@ impl Generator {
             self.damage_terms(&mut problem);
         }
         let mut fields = file_fields(&problem);
-        let whole = write_summary(&fields);
+        let whole = file_of_fields(&fields);
         if (1..=4).contains(&choice) {
             self.damage_fields(&mut fields);
         }
-        let mut bytes = write_summary(&fields);
+        let mut bytes = file_of_fields(&fields);
         if choice == 5 || choice == 4 {
             self.damage_bytes(&mut bytes);
         }
@@ -66,7 +127,7 @@ impl Generator {
                 // One field is lengthened until the file has about the greatest
                 // size.
                 let size = MAX_FILE as i64 + self.random.between(-1, 1);
-                let missing = size - write_summary(fields).len() as i64;
+                let missing = size - file_of_fields(fields).len() as i64;
                 let length = fields[place].1.len() + missing.max(0) as usize;
                 fields[place].1.resize(length, 0);
             }

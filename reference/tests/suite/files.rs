@@ -4,7 +4,7 @@ use std::collections::BTreeSet;
 
 use hankboulder_reference::cases::bytes;
 use hankboulder_reference::refusal::Refusal;
-use hankboulder_reference::summary::{decode, encode, fields, read_problem, write_summary};
+use hankboulder_reference::summary::{decode, encode, fields, file_of_fields, read_problem};
 
 const N: &str = "01 0100 01";
 const L: &str = "02 0400 04000000";
@@ -279,7 +279,7 @@ fn order_2(low: [i64; 4], high: [i64; 4], centre: [i64; 2]) -> i64 {
 
 /// The same with these ends of the linear terms.
 fn with_ends(low: [i64; 4], high: [i64; 4], centre: [i64; 2], ends: ([i64; 2], [i64; 2])) -> i64 {
-    let file = write_summary(&[
+    let file = file_of_fields(&[
         (1, vec![2]),
         (2, encode(&low, 4)),
         (3, encode(&high, 4)),
@@ -332,7 +332,7 @@ fn refusal_15_comes_first_and_4096_bytes_pass_it() {
     let tail = bytes(&[A_LOW, ALPHA, C, A_HIGH].concat());
     for (size, expected) in [(4096, 14), (4097, 15)] {
         let length = size - head.len() - tail.len() - 3;
-        let field = write_summary(&[(3, vec![0; length])]);
+        let field = file_of_fields(&[(3, vec![0; length])]);
         let file = [head.clone(), field, tail.clone()].concat();
         assert_eq!(file.len(), size);
         assert_eq!(refusal(&file), expected);
@@ -348,7 +348,7 @@ fn the_field_walk_asks_10_11_12_19_alone_and_hands_out_parts_of_the_file() {
     assert_eq!(parts, expected);
     assert!(std::ptr::eq(found[1].content, &file[6..9]));
     // More than 4096 bytes: 15 is not asked.
-    let long = write_summary(&[(2, vec![1; 5000])]);
+    let long = file_of_fields(&[(2, vec![1; 5000])]);
     assert_eq!(fields(&long).unwrap()[0].content.len(), 5000);
     assert_eq!(fields(&[]), Ok(vec![]));
 }

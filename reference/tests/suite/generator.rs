@@ -8,7 +8,9 @@ use hankboulder_reference::judge::{verdict, List, Verdict};
 use hankboulder_reference::problem::Bounds;
 use hankboulder_reference::program::output;
 
-use crate::support::{enclose_problem, judge, numbers, run_box, run_gather, run_sums};
+use crate::support::{
+    enclose_problem, judge, numbers, run_box, run_gather, run_read, run_sums, run_write,
+};
 
 /// How often each answer was met.
 type Counts = BTreeMap<i64, usize>;
@@ -34,7 +36,15 @@ fn the_same_seed_gives_the_same_calls() {
         let acts = (generator.factor_call(), generator.vector_call());
         let others = (generator.judge_call(), generator.box_call());
         let rides = (generator.gather_call(), generator.sums_call());
-        (problem, acts, others, rides, generator.summary_file())
+        let files = (generator.write_call(), generator.read_call());
+        (
+            problem,
+            acts,
+            others,
+            rides,
+            files,
+            generator.summary_file(),
+        )
     };
     assert_eq!(calls(1), calls(1));
     assert_ne!(calls(1), calls(2));
@@ -93,6 +103,21 @@ fn calls_of_reading_the_sums_meet_every_answer() {
     let mut generator = Generator::new(62);
     let counts = count(3000, || run_sums(&mut generator.sums_call()));
     assert_met(&counts, &[0, 1, 2, 3, 4, 5, 16]);
+}
+
+#[test]
+fn calls_of_the_writer_meet_every_answer() {
+    let mut generator = Generator::new(64);
+    let counts = count(3000, || run_write(&mut generator.write_call()));
+    assert_met(&counts, &[0, 1, 2, 3, 4, 5, 16]);
+}
+
+#[test]
+fn calls_of_reading_a_summary_meet_every_answer() {
+    let mut generator = Generator::new(65);
+    let counts = count(8000, || run_read(&mut generator.read_call()));
+    let answers = [0, 1, 2, 3, 4, 5, 10, 11, 12, 13, 14, 15, 16, 19];
+    assert_met(&counts, &answers);
 }
 
 /// Floats of every exponent, on both sides of 0, and all that are edges.

@@ -11,5 +11,6 @@ mod readings;
 mod refusals;
 mod residual_tables;
 mod rides;
+mod summaries;
 mod support;
 mod two_ends;

@@ -6,7 +6,7 @@ use std::process::{Command, Stdio};
 use hankboulder_reference::cases::{bytes, numbers};
 use hankboulder_reference::generate::{Generator, RawProblem, KINDS};
 use hankboulder_reference::program::output;
-use hankboulder_reference::summary::{problem_fields, write_summary};
+use hankboulder_reference::summary::{file_of_fields, problem_fields};
 
 use crate::support::{enclose_problem, judge};
 
@@ -16,7 +16,7 @@ fn file(matrix: &str, linear: &[i64], limit: i64) -> Vec<u8> {
     let m = numbers(matrix);
     let centre = vec![0; n];
     let fields = problem_fields(n as u8, &m, &m, linear, linear, limit, &centre);
-    write_summary(&fields)
+    file_of_fields(&fields)
 }
 
 const CASE_P: &str = "01 0100 01, 02 0400 04000000, 03 0400 04000000, \
@@ -54,8 +54,8 @@ fn the_command_cases_counts_every_case() {
     let done = Command::new(env!("CARGO_BIN_EXE_cases")).output().unwrap();
     assert!(done.status.success());
     let text = String::from_utf8(done.stdout).unwrap();
-    assert_eq!(text.lines().count(), 41);
-    assert!(text.ends_with("\n40 passed, 0 failed\n"));
+    assert_eq!(text.lines().count(), 46);
+    assert!(text.ends_with("\n45 passed, 0 failed\n"));
 }
 
 #[test]
@@ -64,9 +64,9 @@ fn file_refusals() {
     assert_eq!(output(&[1]), "refused 10\n");
     assert_eq!(output(&[0; 4097]), "refused 15\n");
     let crossed = problem_fields(1, &[2], &[1], &[0], &[0], 0, &[0]);
-    assert_eq!(output(&write_summary(&crossed)), "refused 4\n");
+    assert_eq!(output(&file_of_fields(&crossed)), "refused 4\n");
     let reversed = problem_fields(1, &[1], &[1], &[1], &[0], 0, &[0]);
-    assert_eq!(output(&write_summary(&reversed)), "refused 16\n");
+    assert_eq!(output(&file_of_fields(&reversed)), "refused 16\n");
 }
 
 #[test]
@@ -132,7 +132,7 @@ fn the_program_and_the_byte_entries_agree() {
                 problem.limit,
                 &problem.centre,
             );
-            let text = output(&write_summary(&fields));
+            let text = output(&file_of_fields(&fields));
             assert_eq!(text, text_of_entries(&problem));
         }
     }

@@ -2,7 +2,10 @@
 //! library's.
 
 use hankboulder_reference::entries;
-use hankboulder_reference::generate::{BoxCall, GatherCall, RawProblem, SumsCall};
+use hankboulder_reference::generate::{
+    BoxCall, GatherCall, RawProblem, ReadCall, SumsCall, WriteCall,
+};
+use hankboulder_reference::writer::file_size;
 
 /// Contents of output buffers before a call.
 pub const UNWRITTEN: i64 = 0x5A5A_5A5A_5A5A_5A5A;
@@ -83,6 +86,63 @@ pub fn run_sums(call: &mut SumsCall) -> i64 {
         call.allowance,
         &mut call.limit,
     )
+}
+
+/// Runs a call of the writer.
+pub fn run_write(call: &mut WriteCall) -> i64 {
+    entries::write_summary(
+        call.n,
+        &call.low,
+        &call.high,
+        &call.linear_low,
+        &call.linear_high,
+        call.limit,
+        &call.centre,
+        &mut call.file,
+    )
+}
+
+/// Runs a call of reading a summary.
+pub fn run_read(call: &mut ReadCall) -> i64 {
+    entries::read_summary(
+        &call.file,
+        &mut call.order,
+        &mut call.low,
+        &mut call.high,
+        &mut call.linear_low,
+        &mut call.linear_high,
+        &mut call.limit,
+        &mut call.centre,
+    )
+}
+
+/// The call that writes a problem.
+pub fn write_call(problem: &RawProblem) -> WriteCall {
+    WriteCall {
+        n: problem.order as i64,
+        low: bytes(&problem.low),
+        high: bytes(&problem.high),
+        linear_low: bytes(&problem.linear_low),
+        linear_high: bytes(&problem.linear_high),
+        limit: problem.limit,
+        centre: bytes(&problem.centre),
+        file: vec![0x5A; file_size(problem.order)],
+    }
+}
+
+/// The call that reads a file, its outputs unwritten.
+pub fn read_call(file: &[u8]) -> ReadCall {
+    let output = |count: usize| bytes(&vec![UNWRITTEN; count]);
+    ReadCall {
+        file: file.to_vec(),
+        order: output(1),
+        low: output(64),
+        high: output(64),
+        linear_low: output(8),
+        linear_high: output(8),
+        limit: output(1),
+        centre: output(8),
+    }
 }
 
 /// The box's return value and the sides, with equal ends of the linear terms.
