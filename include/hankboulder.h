@@ -21,16 +21,33 @@
  *     int64_t low[4] = {2, 1, 1, 2};
  *     ... (const uint8_t *)low, sizeof low ...
  *
+ * SUMMARY FILES
+ *
+ * A summary file holds one problem of an ellipsoid, centre included, in a form of its own: seven fields one after the other, each a tag of one byte, a
+ * length of two bytes, low byte first, and so many bytes of content. The tags rise:
+ *
+ *     01  the order n, one byte                               1 byte
+ *     02  low, row by row, 4 bytes to an entry                4 * n * n bytes
+ *     03  high, the same                                      4 * n * n bytes
+ *     04  linear_low, 8 bytes to a term                       8 * n bytes
+ *     05  the limit                                           8 bytes
+ *     06  the centre, 8 bytes to an entry                     8 * n bytes
+ *     07  linear_high, 8 bytes to a term                      8 * n bytes
+ *
+ * Numbers are signed, low byte first, but for n. So a problem has exactly one file, of HB_SUMMARY_BYTES(n) bytes: hb_write_summary writes it, and
+ * hb_read_summary, like the program "judge", takes it and no other. A file is bytes, the same on any processor: it can be kept, sent and compared.
+ *
  * WHAT HOLDS FOR EVERY FUNCTION
  *
  * - Every call returns, with one of the numbers that the function's comment lists. Any contents, any lengths and any n are answered: what is wrong with
  *   them is named by a refusal.
  * - Lengths are in bytes. A pointer must point to as many readable bytes as its length says, and writable ones where it is not const. It may be null
- *   where the length is 0: that is an empty buffer, and is refused by HB_REFUSED_LENGTH if n is good and no earlier check fails.
+ *   where the length is 0: that is an empty buffer, and is refused by HB_REFUSED_LENGTH if n is good and no earlier check fails (an empty file by
+ *   HB_REFUSED_ABSENT).
  * - Pointers need no alignment.
  * - The buffers of one call must not overlap: nothing is promised where they do. There are two exceptions, both of buffers that are only
- *   read, so const: low and high may be the same table, and linear_low and linear_high the same buffer. hb_gather writes all of them, and has
- *   no exception.
+ *   read, so const: low and high may be the same table, and linear_low and linear_high the same buffer. hb_gather and hb_read_summary write all of
+ *   them, and have no exception.
  * - A const buffer is only read. A buffer that is not const is written whole, or kept as it was: each function says when. A refused call writes
  *   nothing at all. Nothing is ever written outside of a buffer.
  * - No memory is allocated, nothing is kept between calls, no lock is held, and the archive has no variables. So the functions are reentrant: they may be
@@ -59,10 +76,11 @@ extern "C" {
 /*
  * The version of this header and of the archive that it is installed with, as numbers and as a string. It is said here alone: the file for
  * pkg-config has it from here. Since 0.2 hb_box has two parameters more, which a linker does not see: header and archive have to be of one
- * version. Since 0.3 there are hb_gather and hb_read_sums, and a summary file has its tags rising (19).
+ * version. Since 0.3 there are hb_gather and hb_read_sums, and a summary file has its tags rising (19). Since 0.4 there are hb_write_summary and
+ * hb_read_summary.
  */
 #define HB_VERSION_MAJOR 0
-#define HB_VERSION_MINOR 3
+#define HB_VERSION_MINOR 4
 #define HB_VERSION_PATCH 0
 #define HB_VERSION_STRING HB_VERSION_JOINED(HB_VERSION_MAJOR, HB_VERSION_MINOR, HB_VERSION_PATCH)
 #define HB_VERSION_JOINED(major, minor, patch) HB_VERSION_QUOTED(major) "." HB_VERSION_QUOTED(minor) "." HB_VERSION_QUOTED(patch)
@@ -77,6 +95,13 @@ extern "C" {
 #define HB_TABLE_BYTES(n) ((size_t)HB_NUMBER_BYTES * (size_t)(n) * (size_t)(n))
 #define HB_VECTOR_BYTES(n) ((size_t)HB_NUMBER_BYTES * (size_t)(n))
 #define HB_SIDES_BYTES(n) ((size_t)2 * HB_NUMBER_BYTES * (size_t)(n))
+
+/*
+ * Bytes of the summary file of a problem of order n: 62, 110, 174, 254, 350, 462, 590 and 734 for n = 1 to 8. No file of another size is read. So
+ * HB_SUMMARY_BYTES(HB_MAX_ORDER) = 734 bytes have room for any, and HB_TABLE_BYTES(HB_MAX_ORDER) = 512 and HB_VECTOR_BYTES(HB_MAX_ORDER) = 64 bytes
+ * for the tables and vectors of any: hb_read_summary asks for exactly these.
+ */
+#define HB_SUMMARY_BYTES(n) ((size_t)30 + (size_t)8 * (size_t)(n) * (size_t)(n) + (size_t)24 * (size_t)(n))
 
 /*
  * The greatest magnitude of an entry of low and high, 2^20, of a factor, 2^26, of a vector, 2^15, of a linear term, 2^36, of a limit and of a running
@@ -103,12 +128,14 @@ extern "C" {
 #define HB_BOX_STACK 8192
 #define HB_GATHER_STACK 4096
 #define HB_READ_SUMS_STACK 4096
+#define HB_WRITE_SUMMARY_STACK 8192
+#define HB_READ_SUMMARY_STACK 8192
 
 /*
  * What a function returns: an answer, which is 0 or less, or a refusal, which is 1 or more. The checks are made in the order in which the
  * function lists its refusals, each over the whole input before the next, and the number of the first that fails is returned. That order is
- * rising, but 16 stands between 5 and 8, and 17 before all others. 10 to 15 and 19 refuse a summary file, and are returned by no function of this
- * header.
+ * rising, but 16 stands between 5 and 8, and 17 before all others. 10 to 15 and 19 refuse a summary file, and are returned by hb_read_summary alone,
+ * whose order is its own: its comment has it.
  */
 enum {
     HB_UNDECIDED = -2,
@@ -129,7 +156,7 @@ enum {
     HB_WRITTEN = 0,
 
     HB_REFUSED_ORDER = 1,     /* "order": n is not 1 to 8 */
-    HB_REFUSED_LENGTH = 2,    /* "length": a buffer has not exactly the size that n calls for or, in hb_gather, n is another order than 4 */
+    HB_REFUSED_LENGTH = 2,    /* "length": a buffer has not exactly the size that its function asks for or, in hb_gather, n is another order than 4 */
     HB_REFUSED_RANGE = 3,     /* "range": an entry of low or high, a linear term, a limit, running limit, centre entry or allowance is beyond its range */
     HB_REFUSED_CROSSED = 4,   /* "crossed": an entry of low is above its entry of high */
     HB_REFUSED_LOPSIDED = 5,  /* "lopsided": low or high is not symmetric */
@@ -143,7 +170,7 @@ enum {
     HB_REFUSED_ABSENT = 13,   /* "absent": of a file, one of the seven tags is missing */
     HB_REFUSED_SIZE = 14,     /* "size": of a file, a field is longer or shorter than its tag and the order ask for */
     HB_REFUSED_LONG = 15,     /* "long": of a file, more than 4096 bytes */
-    HB_REFUSED_REVERSED = 16, /* "reversed": of a box, a file or sums, a low linear term is above its high one */
+    HB_REFUSED_REVERSED = 16, /* "reversed": of an ellipsoid, a file or sums, a low linear term is above its high one */
     HB_REFUSED_SAMPLE = 17,   /* "sample": a number of a sample is infinite, not a number, or beyond +-8 */
     HB_REFUSED_FULL = 18,     /* "full": with the sample in it a sum would be beyond its range */
     HB_REFUSED_FALLING = 19   /* "falling": of a file, a tag below the one before it */
@@ -436,6 +463,104 @@ int64_t hb_gather(hb_sample sample, int64_t n, uint8_t *low, size_t low_len, uin
 int64_t hb_read_sums(int64_t n, const uint8_t *low, size_t low_len, const uint8_t *high, size_t high_len, const uint8_t *linear_low,
                      size_t linear_low_len, const uint8_t *linear_high, size_t linear_high_len, int64_t running_limit, int64_t allowance,
                      uint8_t *limit, size_t limit_len);
+
+/*
+ * hb_write_summary: writes the summary file of a problem.
+ *
+ *   n                        the order, 1 to 8
+ *   low, high                the bounds: HB_TABLE_BYTES(n) bytes each, entries within +-2^20, symmetric, no entry of low above its entry of high
+ *   linear_low, linear_high  the ends of the linear terms: HB_VECTOR_BYTES(n) bytes each, terms within +-2^36, none of linear_low above its term of
+ *                            linear_high
+ *   limit                    the limit, a number within +-2^54: not a running limit, of which hb_read_sums makes it
+ *   centre                   the centre: HB_VECTOR_BYTES(n) bytes, entries within +-2^12
+ *   file                     HB_SUMMARY_BYTES(n) bytes, written whole where the answer is HB_WRITTEN and kept as they were, all of them, where it is
+ *                            any other
+ *   low_len, high_len,       the lengths of the six buffers, in bytes. That of file is exact too: 254 bytes for the order of samples, 4
+ *   linear_low_len,
+ *   linear_high_len,
+ *   centre_len, file_len
+ *
+ * What is asked is what hb_box asks of a problem before 8. So a problem that hb_box answers by any number but 1 to 5 and 16 has a file, also one that is
+ * not definite. The bytes depend on the numbers alone: two problems have the same file exactly if they are the same. hb_read_summary takes the file back
+ * to these numbers, and the program "judge" reads it.
+ *
+ * Returns
+ *
+ *   HB_WRITTEN           the file is written
+ *   HB_REFUSED_ORDER     n is not 1 to 8; no length is looked at. n is looked at whole, not the one byte that a file has for it: 257 is refused
+ *   HB_REFUSED_LENGTH    a length is not HB_TABLE_BYTES(n) for low and high, HB_VECTOR_BYTES(n) for linear_low, linear_high and centre,
+ *                        HB_SUMMARY_BYTES(n) for file; too long is refused like too short
+ *   HB_REFUSED_RANGE     an entry of low or high is beyond +-2^20, a term of linear_low or linear_high beyond +-2^36, the limit beyond +-2^54, or an
+ *                        entry of the centre beyond +-2^12. Numbers are looked at whole: 2^32 + 4 is not written as 4
+ *   HB_REFUSED_CROSSED   an entry of low is above its entry of high
+ *   HB_REFUSED_LOPSIDED  low or high is not symmetric
+ *   HB_REFUSED_REVERSED  a term of linear_low is above its term of linear_high
+ *
+ * and nothing else. What file holds before the call plays no part.
+ *
+ * Buffers: at any address; none overlaps another, but low and high may be the same table, and linear_low and linear_high the same buffer. The file
+ * overlaps none. Nothing is allocated. Reentrant.
+ * Stack: HB_WRITE_SUMMARY_STACK bytes.
+ */
+int64_t hb_write_summary(int64_t n, const uint8_t *low, size_t low_len, const uint8_t *high, size_t high_len, const uint8_t *linear_low,
+                         size_t linear_low_len, const uint8_t *linear_high, size_t linear_high_len, int64_t limit, const uint8_t *centre,
+                         size_t centre_len, uint8_t *file, size_t file_len);
+
+/*
+ * hb_read_summary: the problem of a summary file.
+ *
+ *   file                     the file, of any length: any bytes at all are answered
+ *   order                    HB_NUMBER_BYTES = 8 bytes
+ *   low, high                HB_TABLE_BYTES(HB_MAX_ORDER) = 512 bytes each
+ *   linear_low, linear_high  HB_VECTOR_BYTES(HB_MAX_ORDER) = 64 bytes each
+ *   limit                    HB_NUMBER_BYTES = 8 bytes
+ *   centre                   HB_VECTOR_BYTES(HB_MAX_ORDER) = 64 bytes
+ *   file_len, order_len,     the lengths of the eight buffers, in bytes. The order of the file is not known before, so the last seven have these sizes
+ *   low_len, high_len,       in every call
+ *   linear_low_len,
+ *   linear_high_len,
+ *   limit_len, centre_len
+ *
+ * Where the answer is HB_WRITTEN the seven buffers are written whole. order has n and limit the limit, as numbers. The tables of order n stand in the
+ * first HB_TABLE_BYTES(n) bytes, row by row with n entries to a row, the vectors in the first HB_VECTOR_BYTES(n) bytes, and all bytes behind them are 0.
+ * So they go on to the other functions as they are:
+ *
+ *     n = hb_load_number(order);
+ *     ... hb_judge(n, low, HB_TABLE_BYTES(n), high, HB_TABLE_BYTES(n), ...
+ *
+ * and hb_write_summary, with HB_SUMMARY_BYTES(n) bytes for a file, writes the file that was read, byte for byte. Where the answer is any other number,
+ * all seven are kept as they were.
+ *
+ * Returns
+ *
+ *   HB_WRITTEN           the problem is written
+ *   HB_REFUSED_LENGTH    a length of the last seven buffers is not the one above; the file is not looked at
+ *   HB_REFUSED_LONG      the file has more than 4096 bytes; no byte of it is looked at
+ *   HB_REFUSED_CUT       of a field, the three bytes of tag and length are not all there, or the content is not
+ *   HB_REFUSED_TAG       a field has a tag that is not 01 to 07
+ *   HB_REFUSED_AGAIN     a field has a tag that was there before
+ *   HB_REFUSED_FALLING   a field has a tag below that of the field before it. These four are asked field by field, so that the first bad field decides
+ *   HB_REFUSED_ABSENT    one of the seven tags is missing: of an empty file all are
+ *   HB_REFUSED_SIZE      the content of 01 has not one byte
+ *   HB_REFUSED_ORDER     n is not 1 to 8
+ *   HB_REFUSED_SIZE      a content of 02 to 07 has not the length that n calls for
+ *   HB_REFUSED_RANGE     an entry of low or high is beyond +-2^20, a term of linear_low or linear_high beyond +-2^36, the limit beyond +-2^54, or an
+ *                        entry of the centre beyond +-2^12
+ *   HB_REFUSED_CROSSED   an entry of low is above its entry of high
+ *   HB_REFUSED_LOPSIDED  low or high is not symmetric
+ *   HB_REFUSED_REVERSED  a term of linear_low is above its term of linear_high
+ *
+ * and nothing else, asked in this order. What the seven buffers hold before the call plays no part.
+ *
+ * A file has no check sum. A byte that was damaged in storage may leave a file that is good and holds another problem: what is kept where that can happen
+ * needs a check sum of the caller's.
+ *
+ * Buffers: at any address; none overlaps another: low and high are two, and so are linear_low and linear_high. Nothing is allocated. Reentrant.
+ * Stack: HB_READ_SUMMARY_STACK bytes.
+ */
+int64_t hb_read_summary(const uint8_t *file, size_t file_len, uint8_t *order, size_t order_len, uint8_t *low, size_t low_len, uint8_t *high,
+                        size_t high_len, uint8_t *linear_low, size_t linear_low_len, uint8_t *linear_high, size_t linear_high_len,
+                        uint8_t *limit, size_t limit_len, uint8_t *centre, size_t centre_len);
 
 #ifdef __cplusplus
 }
