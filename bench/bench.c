@@ -40,12 +40,15 @@ int64_t hb_bench_factor(size_t n, const int64_t *low, size_t low_len, const int6
 /* Where no archive has it, its address is null. */
 #pragma weak hb_bench_factor
 
-/* What the calls write. The last five are running sums. */
+/* What the calls write. The last five are running sums, or with the order, the limit and the centre a problem. */
 static struct {
     int64_t factor[MAX_ENTRIES];
     int64_t vector[HB_MAX_ORDER];
     int64_t sides[2 * HB_MAX_ORDER];
+    uint8_t file[HB_SUMMARY_BYTES(HB_MAX_ORDER)];
+    int64_t order;
     int64_t limit;
+    int64_t centre[HB_MAX_ORDER];
     int64_t low[MAX_ENTRIES];
     int64_t high[MAX_ENTRIES];
     int64_t linear_low[HB_MAX_ORDER];
@@ -214,12 +217,60 @@ static int64_t plain_read_sums_side(int64_t n, const struct problem *problem)
                            problem->allowance, &out.limit, 1);
 }
 
+static int64_t library_write_summary(int64_t n, const struct problem *problem)
+{
+    size_t table = HB_TABLE_BYTES(n), vector = HB_VECTOR_BYTES(n);
+    return hb_write_summary(n, bytes(problem->low), table, bytes(problem->high), table, bytes(problem->linear_low), vector,
+                            bytes(problem->linear_high), vector, problem->limit, bytes(problem->centre), vector, out.file,
+                            HB_SUMMARY_BYTES(n));
+}
+
+static int64_t plain_write_summary_side(int64_t n, const struct problem *problem)
+{
+    size_t order = (size_t)n, count = order * order;
+    return plain_write_summary(n, problem->low, count, problem->high, count, problem->linear_low, order, problem->linear_high, order,
+                               problem->limit, problem->centre, order, out.file, HB_SUMMARY_BYTES(n));
+}
+
+static int64_t tuned_write_summary_side(int64_t n, const struct problem *problem)
+{
+    size_t table = HB_TABLE_BYTES(n), vector = HB_VECTOR_BYTES(n);
+    return tuned_write_summary(n, bytes(problem->low), table, bytes(problem->high), table, bytes(problem->linear_low), vector,
+                               bytes(problem->linear_high), vector, problem->limit, bytes(problem->centre), vector, out.file,
+                               HB_SUMMARY_BYTES(n));
+}
+
+/* The file has an order of its own. */
+static int64_t library_read_summary(int64_t n, const struct problem *problem)
+{
+    (void)n;
+    return hb_read_summary(problem->file, problem->file_size, (uint8_t *)&out.order, sizeof out.order, (uint8_t *)out.low, sizeof out.low,
+                           (uint8_t *)out.high, sizeof out.high, (uint8_t *)out.linear_low, sizeof out.linear_low, (uint8_t *)out.linear_high,
+                           sizeof out.linear_high, (uint8_t *)&out.limit, sizeof out.limit, (uint8_t *)out.centre, sizeof out.centre);
+}
+
+static int64_t plain_read_summary_side(int64_t n, const struct problem *problem)
+{
+    (void)n;
+    return plain_read_summary(problem->file, problem->file_size, &out.order, 1, out.low, MAX_ENTRIES, out.high, MAX_ENTRIES, out.linear_low,
+                              HB_MAX_ORDER, out.linear_high, HB_MAX_ORDER, &out.limit, 1, out.centre, HB_MAX_ORDER);
+}
+
+static int64_t tuned_read_summary_side(int64_t n, const struct problem *problem)
+{
+    (void)n;
+    return tuned_read_summary(problem->file, problem->file_size, (uint8_t *)&out.order, sizeof out.order, (uint8_t *)out.low, sizeof out.low,
+                              (uint8_t *)out.high, sizeof out.high, (uint8_t *)out.linear_low, sizeof out.linear_low,
+                              (uint8_t *)out.linear_high, sizeof out.linear_high, (uint8_t *)&out.limit, sizeof out.limit,
+                              (uint8_t *)out.centre, sizeof out.centre);
+}
+
 /* The peers are the last two. */
 enum { LIBRARY, PLAIN, TUNED, LAPACK_SIDE, ARB_SIDE, SIDES };
 
 #define COMPARED_SIDES 3
 #define LEAST_ANSWER HB_UNDECIDED
-#define ANSWERS (HB_REFUSED_FULL - LEAST_ANSWER + 1)
+#define ANSWERS (HB_REFUSED_FALLING - LEAST_ANSWER + 1)
 
 static const char *const side_names[SIDES] = {"library", "plain C", "tuned C", "dpotrf", "arb_mat_cho"};
 
@@ -257,6 +308,8 @@ enum {
     BOX,
     GATHER,
     READ_SUMS,
+    WRITE_SUMMARY,
+    READ_SUMMARY,
     FACTORING_FLOATING,
     JUDGE_PAIRS,
     CHOLESKY,
@@ -273,6 +326,8 @@ static struct act acts[ACTS] = {
     [BOX] = {"box", DEFINITE, 1, HB_MAX_ORDER, {library_box, plain_box_side, tuned_box_side}},
     [GATHER] = {"gathering (a sample is of order 4)", DEFINITE, HB_SAMPLE_ORDER, HB_SAMPLE_ORDER, {library_gather, plain_gather_side}},
     [READ_SUMS] = {"reading the sums", DEFINITE, 1, HB_MAX_ORDER, {library_read_sums, plain_read_sums_side}},
+    [WRITE_SUMMARY] = {"writing a summary", DEFINITE, 1, HB_MAX_ORDER, {library_write_summary, plain_write_summary_side, tuned_write_summary_side}},
+    [READ_SUMMARY] = {"reading a summary", DEFINITE, 1, HB_MAX_ORDER, {library_read_summary, plain_read_summary_side, tuned_read_summary_side}},
     [FACTORING_FLOATING] = {"factoring, where plain C has the processor's floating-point root", DEFINITE, 1, HB_MAX_ORDER, {library_factor, plain_floating_side}},
     [JUDGE_PAIRS] = {"judge, undecided, where plain C takes each pair of entries once", UNDECIDED, 2, HB_MAX_ORDER, {library_judge, plain_pairs_judge_side}},
     [CHOLESKY] = {"peers: the judge on thin definite bounds, and the peers' factoring of the same matrices",
@@ -328,6 +383,8 @@ static const struct {
     {BOX, "box"},
     {GATHER, "gathering"},
     {READ_SUMS, "reading the sums"},
+    {WRITE_SUMMARY, "writing a summary"},
+    {READ_SUMMARY, "reading a summary"},
     {FACTORING_FLOATING, "factoring, floating root"},
     {JUDGE_PAIRS, "judge, pairs once"},
 };
@@ -350,7 +407,7 @@ static void compare_all(void)
         }
     }
     for (int64_t n = -1; n <= HB_MAX_ORDER + 1; n++)
-        for (int a = FACTOR_TEST; a <= READ_SUMS; a++)
+        for (int a = FACTOR_TEST; a <= READ_SUMMARY; a++)
             compare(&acts[a], n, problem_of(DEFINITE, 1, 0));
     own_sums = 0;
     printf("the library, plain C and tuned C gave the same answers and buffers, on %d problems of each order:\n", count);
@@ -595,7 +652,7 @@ static void print_longest(void)
 static const struct {
     int act;
     double most;
-} limits[] = {{FACTORING, 1.2}, {FACTOR_TEST, 1.2}, {JUDGE_DEFINITE, 1.2}, {BOX, 1.2}, {JUDGE_UNDECIDED, 0.01}, {GATHER, 1.5}, {READ_SUMS, 1.5}};
+} limits[] = {{FACTORING, 1.2}, {FACTOR_TEST, 1.2}, {JUDGE_DEFINITE, 1.2}, {BOX, 1.2}, {JUDGE_UNDECIDED, 0.01}, {GATHER, 1.5}, {READ_SUMS, 1.5}, {WRITE_SUMMARY, 1.5}, {READ_SUMMARY, 1.5}};
 
 /* Prints whether the limits are kept. What has no side of the library is not measured. */
 static int keeps_limits(void)

@@ -676,3 +676,167 @@ int64_t plain_read_sums(int64_t n, const int64_t *low, size_t low_count, const i
     *limit = allowance + running_limit;
     return 0;
 }
+
+/* The fields of a summary file by tag, and what they hold */
+enum { NO_TAG, ORDER_TAG, LOW_TAG, HIGH_TAG, LINEAR_LOW_TAG, LIMIT_TAG, CENTRE_TAG, LINEAR_HIGH_TAG, TAGS };
+
+#define HEAD_BYTES 3
+#define ENTRY_BYTES 4
+#define NUMBER_BYTES 8
+#define LONGEST_FILE 4096
+#define MAX_ENTRIES (PLAIN_MAX_ORDER * PLAIN_MAX_ORDER)
+
+/* Puts the low bytes of a number, and returns the place behind them */
+static uint8_t *put_number(uint8_t *at, int64_t number, int width)
+{
+    for (int k = 0; k < width; k++)
+        *at++ = (uint8_t)((uint64_t)number >> (8 * k));
+    return at;
+}
+
+/* Puts a field: its tag, its length, and numbers of some bytes each */
+static uint8_t *put_field(uint8_t *at, int tag, const int64_t *numbers, int64_t count, int width)
+{
+    at = put_number(at, tag, 1);
+    at = put_number(at, count * width, 2);
+    for (int64_t k = 0; k < count; k++)
+        at = put_number(at, numbers[k], width);
+    return at;
+}
+
+int64_t plain_write_summary(int64_t n, const int64_t *low, size_t low_count, const int64_t *high, size_t high_count, const int64_t *linear_low,
+                            size_t linear_low_count, const int64_t *linear_high, size_t linear_high_count, int64_t limit,
+                            const int64_t *centre, size_t centre_count, uint8_t *file, size_t file_size)
+{
+    struct ellipsoid ellipsoid = {n, low, high, linear_low, linear_high, limit, centre};
+    if (n < 1 || n > PLAIN_MAX_ORDER)
+        return 1;
+    size_t order = (size_t)n, count = order * order;
+    if (low_count != count || high_count != count || linear_low_count != order || linear_high_count != order || centre_count != order ||
+        file_size != 30 + 8 * count + 24 * order)
+        return 2;
+    int64_t refusal = check_ellipsoid(&ellipsoid);
+    if (refusal)
+        return refusal;
+    file = put_field(file, ORDER_TAG, &n, 1, 1);
+    file = put_field(file, LOW_TAG, low, n * n, ENTRY_BYTES);
+    file = put_field(file, HIGH_TAG, high, n * n, ENTRY_BYTES);
+    file = put_field(file, LINEAR_LOW_TAG, linear_low, n, NUMBER_BYTES);
+    file = put_field(file, LIMIT_TAG, &limit, 1, NUMBER_BYTES);
+    file = put_field(file, CENTRE_TAG, centre, n, NUMBER_BYTES);
+    put_field(file, LINEAR_HIGH_TAG, linear_high, n, NUMBER_BYTES);
+    return 0;
+}
+
+/* The content of a field: null where there is none */
+struct content {
+    const uint8_t *bytes;
+    size_t size;
+};
+
+/* Notes the contents of a file's fields by tag. 0, or the number of the refusal: 10, 11, 12 or 19. */
+static int64_t walk(const uint8_t *file, size_t size, struct content *contents)
+{
+    int last = NO_TAG;
+    for (size_t at = 0; at < size;) {
+        if (size - at < HEAD_BYTES)
+            return 10;
+        int tag = file[at];
+        size_t length = file[at + 1] + (size_t)256 * file[at + 2];
+        if (length > size - at - HEAD_BYTES)
+            return 10;
+        if (tag < ORDER_TAG || tag >= TAGS)
+            return 11;
+        if (contents[tag].bytes)
+            return 12;
+        if (tag < last)
+            return 19;
+        contents[tag].bytes = file + at + HEAD_BYTES;
+        contents[tag].size = length;
+        last = tag;
+        at += HEAD_BYTES + length;
+    }
+    return 0;
+}
+
+/* Checks 13, 14 of the order, 1, and 14 of the others: 0, or the number of the refusal */
+static int64_t check_contents(const struct content *contents)
+{
+    for (int tag = ORDER_TAG; tag < TAGS; tag++)
+        if (!contents[tag].bytes)
+            return 13;
+    if (contents[ORDER_TAG].size != 1)
+        return 14;
+    size_t n = contents[ORDER_TAG].bytes[0], table = ENTRY_BYTES * n * n, list = NUMBER_BYTES * n;
+    if (n < 1 || n > PLAIN_MAX_ORDER)
+        return 1;
+    if (contents[LOW_TAG].size != table || contents[HIGH_TAG].size != table || contents[LINEAR_LOW_TAG].size != list ||
+        contents[LIMIT_TAG].size != NUMBER_BYTES || contents[CENTRE_TAG].size != list || contents[LINEAR_HIGH_TAG].size != list)
+        return 14;
+    return 0;
+}
+
+/* A signed number of some bytes */
+static int64_t get_number(const uint8_t *bytes, int width)
+{
+    uint64_t bits = 0, sign = (uint64_t)1 << (8 * width - 1);
+    for (int k = width - 1; k >= 0; k--)
+        bits = bits << 8 | bytes[k];
+    return (int64_t)((bits ^ sign) - sign);
+}
+
+static void get_numbers(const struct content *content, int width, int64_t *numbers)
+{
+    int64_t count = (int64_t)content->size / width;
+    for (int64_t k = 0; k < count; k++)
+        numbers[k] = get_number(content->bytes + k * width, width);
+}
+
+/* What a file holds, with room for the greatest order */
+struct held {
+    int64_t low[MAX_ENTRIES];
+    int64_t high[MAX_ENTRIES];
+    int64_t linear_low[PLAIN_MAX_ORDER];
+    int64_t linear_high[PLAIN_MAX_ORDER];
+    int64_t limit;
+    int64_t centre[PLAIN_MAX_ORDER];
+};
+
+int64_t plain_read_summary(const uint8_t *file, size_t file_size, int64_t *order, size_t order_count, int64_t *low, size_t low_count,
+                           int64_t *high, size_t high_count, int64_t *linear_low, size_t linear_low_count, int64_t *linear_high,
+                           size_t linear_high_count, int64_t *limit, size_t limit_count, int64_t *centre, size_t centre_count)
+{
+    struct content contents[TAGS] = {{NULL, 0}};
+    struct held held;
+    if (order_count != 1 || low_count != MAX_ENTRIES || high_count != MAX_ENTRIES || linear_low_count != PLAIN_MAX_ORDER ||
+        linear_high_count != PLAIN_MAX_ORDER || limit_count != 1 || centre_count != PLAIN_MAX_ORDER)
+        return 2;
+    if (file_size > LONGEST_FILE)
+        return 15;
+    int64_t refusal = walk(file, file_size, contents);
+    if (refusal)
+        return refusal;
+    refusal = check_contents(contents);
+    if (refusal)
+        return refusal;
+    int64_t n = contents[ORDER_TAG].bytes[0];
+    memset(&held, 0, sizeof held);
+    get_numbers(&contents[LOW_TAG], ENTRY_BYTES, held.low);
+    get_numbers(&contents[HIGH_TAG], ENTRY_BYTES, held.high);
+    get_numbers(&contents[LINEAR_LOW_TAG], NUMBER_BYTES, held.linear_low);
+    get_numbers(&contents[LIMIT_TAG], NUMBER_BYTES, &held.limit);
+    get_numbers(&contents[CENTRE_TAG], NUMBER_BYTES, held.centre);
+    get_numbers(&contents[LINEAR_HIGH_TAG], NUMBER_BYTES, held.linear_high);
+    struct ellipsoid ellipsoid = {n, held.low, held.high, held.linear_low, held.linear_high, held.limit, held.centre};
+    refusal = check_ellipsoid(&ellipsoid);
+    if (refusal)
+        return refusal;
+    *order = n;
+    memcpy(low, held.low, sizeof held.low);
+    memcpy(high, held.high, sizeof held.high);
+    memcpy(linear_low, held.linear_low, sizeof held.linear_low);
+    memcpy(linear_high, held.linear_high, sizeof held.linear_high);
+    *limit = held.limit;
+    memcpy(centre, held.centre, sizeof held.centre);
+    return 0;
+}

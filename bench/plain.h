@@ -55,4 +55,20 @@ int64_t plain_read_sums(int64_t n, const int64_t *low, size_t low_count, const i
                         size_t linear_low_count, const int64_t *linear_high, size_t linear_high_count, int64_t running_limit,
                         int64_t allowance, int64_t *limit, size_t limit_count);
 
+/*
+ * Writing a summary file with its checks, field by field and byte by byte: 0, and the file is written; or the number of the refusal, and it is as it was.
+ * The file's size is in bytes.
+ */
+int64_t plain_write_summary(int64_t n, const int64_t *low, size_t low_count, const int64_t *high, size_t high_count, const int64_t *linear_low,
+                            size_t linear_low_count, const int64_t *linear_high, size_t linear_high_count, int64_t limit,
+                            const int64_t *centre, size_t centre_count, uint8_t *file, size_t file_size);
+
+/*
+ * Reading a summary file with its checks: the fields are walked over and noted, then looked at, and the problem is read into arrays and checked there. 0, and all
+ * seven are written, zeros behind the problem; or the number of the refusal.
+ */
+int64_t plain_read_summary(const uint8_t *file, size_t file_size, int64_t *order, size_t order_count, int64_t *low, size_t low_count,
+                           int64_t *high, size_t high_count, int64_t *linear_low, size_t linear_low_count, int64_t *linear_high,
+                           size_t linear_high_count, int64_t *limit, size_t limit_count, int64_t *centre, size_t centre_count);
+
 #endif

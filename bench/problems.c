@@ -85,6 +85,15 @@ static void draw_sample(struct problem *problem)
     problem->allowance = draw(0, HB_MAX_ALLOWANCE);
 }
 
+/* The summary file of the problem, where it has one */
+static void draw_file(int64_t n, struct problem *problem)
+{
+    size_t order = (size_t)n, count = order * order;
+    problem->file_size = HB_SUMMARY_BYTES(n);
+    plain_write_summary(n, problem->low, count, problem->high, count, problem->linear_low, order, problem->linear_high, order, problem->limit,
+                        problem->centre, order, problem->file, problem->file_size);
+}
+
 /* A factor of the bounds, a vector and an ellipsoid. One factor in eight is changed so that the last row, and only that, fails its test. */
 static void draw_definite(int64_t n, int place)
 {
@@ -101,6 +110,7 @@ static void draw_definite(int64_t n, int place)
         problem->vector[i] = draw(-HB_VECTOR_RANGE, HB_VECTOR_RANGE);
     draw_terms(n, problem);
     draw_sample(problem);
+    draw_file(n, problem);
 }
 
 /* Makes row a of B orthogonal to x, of which entry p is 1 or -1 */
@@ -130,6 +140,7 @@ static void draw_not_definite(int64_t n, int place)
     } while (verdict(n, problem) != HB_NOT_DEFINITE);
     draw_terms(n, problem);
     draw_sample(problem);
+    draw_file(n, problem);
 }
 
 /* B'B for an upper triangular B with 1 on the diagonal, some rows of which are multiplied: in whole numbers Bx is 0 for x = 0 alone. */
@@ -147,6 +158,7 @@ static void draw_undecided(int64_t n, int place)
     } while (verdict(n, problem) != HB_UNDECIDED);
     draw_terms(n, problem);
     draw_sample(problem);
+    draw_file(n, problem);
 }
 
 /* A problem with thin bounds, from the low table of another */
@@ -155,6 +167,7 @@ static void make_thin(enum kind from, enum kind to, int64_t n, int place)
     struct problem *problem = &problems[to][n][place];
     *problem = problems[from][n][place];
     memcpy(problem->high, problem->low, sizeof problem->low);
+    draw_file(n, problem);
 }
 
 void draw_problems(void)
@@ -240,6 +253,47 @@ static void draw_offers(int64_t n, struct problem *problem)
         problem->vector[i] = draw(-size, size);
 }
 
+/*
+ * The file of the problem before it is spoiled, or of another one where it has none. In most of them a byte is changed, the order or the second tag is another, the
+ * end is cut off or moved, or all bytes are any
+ */
+static void draw_any_file(int64_t n, struct problem *problem)
+{
+    size_t at;
+    draw_file(n, problem);
+    at = (size_t)draw(0, (int64_t)problem->file_size - 1);
+    switch (draw(0, 9)) {
+    case 0:
+        problem->file[at] = (uint8_t)draw(0, 255);
+        break;
+    case 1:
+        problem->file[at] ^= (uint8_t)(1 << draw(0, 7));
+        break;
+    case 2:
+        problem->file[4] = (uint8_t)draw(0, 8);
+        break;
+    case 3:
+        problem->file[3] = (uint8_t)draw(0, 10);
+        break;
+    case 4:
+        problem->file_size = at;
+        break;
+    case 5:
+        problem->file_size += (size_t)draw(1, 20);
+        break;
+    case 6:
+        problem->file_size = (size_t)draw(4090, FILE_ROOM);
+        break;
+    case 7:
+        problem->file_size = (size_t)draw(0, 40);
+        for (size_t k = 0; k < problem->file_size; k++)
+            problem->file[k] = (uint8_t)(draw(0, 2) ? draw(0, 7) : draw(0, 255));
+        break;
+    default:
+        break;
+    }
+}
+
 void draw_any(int64_t n, struct problem *problem)
 {
     int64_t kind = draw(0, KINDS + 1);
@@ -257,6 +311,7 @@ void draw_any(int64_t n, struct problem *problem)
         problem->centre[draw(0, n - 1)] = draw(-HB_CENTRE_RANGE - 1, HB_CENTRE_RANGE + 1);
     draw_offers(n, problem);
     draw_any_sample(problem);
+    draw_any_file(n, problem);
     if (draw(0, 3) == 0)
         spoil(n, problem);
 }

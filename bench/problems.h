@@ -6,11 +6,12 @@
 
 #define PROBLEMS 64
 #define MAX_ENTRIES (HB_MAX_ORDER * HB_MAX_ORDER)
+#define FILE_ROOM 4100
 
 /*
- * The place among the problems of its kind and order; bounds; a factor and a vector that are offered for them; an ellipsoid; a sample, and an allowance. Where
- * sums are asked for they have the bounds and the linear terms, and the limit for a running limit. The processor stores the low byte first, so that
- * tables of int64_t are the library's bytes.
+ * The place among the problems of its kind and order; bounds; a factor and a vector that are offered for them; an ellipsoid; a sample, and an allowance; a
+ * summary file, and how many bytes of it there are. Where sums are asked for they have the bounds and the linear terms, and the limit for a running
+ * limit. The processor stores the low byte first, so that tables of int64_t are the library's bytes.
  */
 struct problem {
     int place;
@@ -24,6 +25,8 @@ struct problem {
     int64_t centre[HB_MAX_ORDER];
     hb_sample sample;
     int64_t allowance;
+    uint8_t file[FILE_ROOM];
+    size_t file_size;
 };
 
 /*

@@ -14,10 +14,10 @@
 #define SEED 20240229u
 #define STACK_BYTES 65536
 #define MAX_ENTRIES (HB_MAX_ORDER * HB_MAX_ORDER)
-#define ENTRIES 6
+#define ENTRIES 8
 #define KINDS 10
 #define LEAST_ANSWER (-2)
-#define ANSWERS (HB_REFUSED_FULL - LEAST_ANSWER + 1)
+#define ANSWERS (HB_REFUSED_FALLING - LEAST_ANSWER + 1)
 
 /* What the calls are made with. The processor stores the low byte first, so that tables of int64_t are the library's bytes. */
 struct input {
@@ -39,6 +39,11 @@ static struct input input;
 /* What gathering takes for sums: the bounds, the linear terms, and the limit for a running limit */
 static struct input sums;
 static int64_t factor[MAX_ENTRIES], vector[HB_MAX_ORDER], sides[2 * HB_MAX_ORDER], limit;
+
+/* The last summary file that was written, and how much of it is read; and what is read from it */
+static uint8_t file[HB_SUMMARY_BYTES(HB_MAX_ORDER)];
+static size_t file_size;
+static struct input held;
 static int64_t answer;
 
 /* Where the frame of the call's caller is */
@@ -98,6 +103,22 @@ static void call_read_sums(void)
                           (uint8_t *)&limit, HB_NUMBER_BYTES);
 }
 
+static void call_write_summary(void)
+{
+    frame = __builtin_frame_address(0);
+    answer = hb_write_summary(input.n, bytes(input.low), HB_TABLE_BYTES(input.n), bytes(input.high), HB_TABLE_BYTES(input.n),
+                              bytes(input.linear_low), HB_VECTOR_BYTES(input.n), bytes(input.linear_high), HB_VECTOR_BYTES(input.n),
+                              input.limit, bytes(input.centre), HB_VECTOR_BYTES(input.n), file, HB_SUMMARY_BYTES(input.n));
+}
+
+static void call_read_summary(void)
+{
+    frame = __builtin_frame_address(0);
+    answer = hb_read_summary(file, file_size, (uint8_t *)&held.n, sizeof held.n, (uint8_t *)held.low, sizeof held.low, (uint8_t *)held.high,
+                             sizeof held.high, (uint8_t *)held.linear_low, sizeof held.linear_low, (uint8_t *)held.linear_high,
+                             sizeof held.linear_high, (uint8_t *)&held.limit, sizeof held.limit, (uint8_t *)held.centre, sizeof held.centre);
+}
+
 /* An entry: its call, what the header says of its stack, the most that was measured at each order, and how often each answer was given. */
 struct entry {
     const char *name;
@@ -114,6 +135,8 @@ static struct entry entries[ENTRIES] = {
     {.name = "hb_box", .call = call_box, .allowed = HB_BOX_STACK},
     {.name = "hb_gather", .call = call_gather, .allowed = HB_GATHER_STACK},
     {.name = "hb_read_sums", .call = call_read_sums, .allowed = HB_READ_SUMS_STACK},
+    {.name = "hb_write_summary", .call = call_write_summary, .allowed = HB_WRITE_SUMMARY_STACK},
+    {.name = "hb_read_summary", .call = call_read_summary, .allowed = HB_READ_SUMMARY_STACK},
 };
 
 /* The stack that a call takes, seen by one paint: from the caller's frame down to the last byte that is not as it was painted */
@@ -278,7 +301,20 @@ static void offer(void)
     }
 }
 
-/* Many calls of each entry at one order. The judge's come first, since its factor and vector are offered to the tests. */
+/* The file that is read: the last one that was written, now and then with a byte changed, or with its end cut off */
+static void take_file(void)
+{
+    file_size = HB_SUMMARY_BYTES(input.n);
+    if (draw(0, 3) == 0)
+        file[draw(0, (int64_t)file_size - 1)] = (uint8_t)draw(0, 255);
+    if (draw(0, 9) == 0)
+        file_size = (size_t)draw(0, (int64_t)file_size);
+}
+
+/*
+ * Many calls of each entry at one order. The judge's come first, since its factor and vector are offered to the tests, and the writer's come before those
+ * that read its file.
+ */
 static void measure_order(int64_t n)
 {
     input.n = n;
@@ -292,8 +328,10 @@ static void measure_order(int64_t n)
         draw_terms(place % 3 != 0);
         draw_sample();
         for (int k = 0; k < ENTRIES; k++) {
+            if (entries[k].call == call_read_summary)
+                take_file();
             measure(&entries[k]);
-            if (k == 0)
+            if (entries[k].call == call_judge)
                 offer();
         }
     }
@@ -322,18 +360,18 @@ static void print_table(void)
 {
     printf("%-10s", "order");
     for (int k = 0; k < ENTRIES; k++)
-        printf(" %15s", entries[k].name);
+        printf(" %16s", entries[k].name);
     for (int64_t n = 1; n <= HB_MAX_ORDER; n++) {
         printf("\n%-10d", (int)n);
         for (int k = 0; k < ENTRIES; k++)
-            printf(" %15ld", entries[k].deepest[n]);
+            printf(" %16ld", entries[k].deepest[n]);
     }
     printf("\n%-10s", "greatest");
     for (int k = 0; k < ENTRIES; k++)
-        printf(" %15ld", greatest(&entries[k]));
+        printf(" %16ld", greatest(&entries[k]));
     printf("\n%-10s", "header");
     for (int k = 0; k < ENTRIES; k++)
-        printf(" %15ld", entries[k].allowed);
+        printf(" %16ld", entries[k].allowed);
     printf("\n\n");
 }
 

@@ -823,3 +823,215 @@ int64_t tuned_box(int64_t n, const uint8_t *low_bytes, size_t low_len, const uin
     }
     return 0;
 }
+
+/* An entry of a table in a file, and a length there */
+typedef int32_t narrow __attribute__((aligned(1), may_alias));
+typedef uint16_t length __attribute__((aligned(1), may_alias));
+
+enum { ORDER_TAG = 1, LOW_TAG, HIGH_TAG, LINEAR_LOW_TAG, LIMIT_TAG, CENTRE_TAG, LINEAR_HIGH_TAG };
+
+#define LONGEST_FILE 4096
+
+INLINED size_t file_size(int64_t n)
+{
+    return (size_t)(30 + 8 * n * n + 24 * n);
+}
+
+/* Checks 3 to 5, each pair read once */
+INLINED int tables_pass(int64_t n, const number *low, const number *high)
+{
+    struct seen seen = {0, 0};
+    for (int64_t j = 0; j < n; j++) {
+        for (int64_t i = 0; i < j; i++) {
+            see(&seen, low[j * n + i], high[j * n + i]);
+            see_mirror(&seen, low[j * n + i], low[i * n + j], high[j * n + i], high[i * n + j]);
+        }
+        see(&seen, low[j * n + j], high[j * n + j]);
+    }
+    return !refused(&seen);
+}
+
+/* A field's tag and length; the place of its content */
+INLINED uint8_t *put_head(uint8_t *at, int tag, int64_t size)
+{
+    at[0] = (uint8_t)tag;
+    *(length *)(at + 1) = (uint16_t)size;
+    return at + 3;
+}
+
+INLINED uint8_t *put_table(uint8_t *at, int tag, int64_t n, const number *table)
+{
+    narrow *to = (narrow *)put_head(at, tag, 4 * n * n);
+    for (int64_t k = 0; k < n * n; k++)
+        to[k] = (int32_t)table[k];
+    return (uint8_t *)(to + n * n);
+}
+
+INLINED uint8_t *put_list(uint8_t *at, int tag, int64_t count, const number *list)
+{
+    number *to = (number *)put_head(at, tag, 8 * count);
+    for (int64_t k = 0; k < count; k++)
+        to[k] = list[k];
+    return (uint8_t *)(to + count);
+}
+
+int64_t tuned_write_summary(int64_t n, const uint8_t *low_bytes, size_t low_len, const uint8_t *high_bytes, size_t high_len,
+                            const uint8_t *linear_low_bytes, size_t linear_low_len, const uint8_t *linear_high_bytes, size_t linear_high_len,
+                            int64_t limit, const uint8_t *centre_bytes, size_t centre_len, uint8_t *file, size_t file_len)
+{
+    const number *low = numbers(low_bytes), *high = numbers(high_bytes), *centre = numbers(centre_bytes);
+    const number *linear_low = numbers(linear_low_bytes), *linear_high = numbers(linear_high_bytes);
+    if (n < 1 || n > ORDER)
+        return 1;
+    size_t table = (size_t)(8 * n * n), entries = (size_t)(8 * n);
+    if (low_len != table || high_len != table || linear_low_len != entries || linear_high_len != entries || centre_len != entries ||
+        file_len != file_size(n))
+        return 2;
+    if (!terms_in_range(n, linear_low, linear_high, limit, centre))
+        return 3;
+    if (!tables_pass(n, low, high))
+        return refusal(n, low, high);
+    if (reversed(n, linear_low, linear_high))
+        return 16;
+    file = put_head(file, ORDER_TAG, 1);
+    *file++ = (uint8_t)n;
+    file = put_table(file, LOW_TAG, n, low);
+    file = put_table(file, HIGH_TAG, n, high);
+    file = put_list(file, LINEAR_LOW_TAG, n, linear_low);
+    file = put_list(file, LIMIT_TAG, 1, &limit);
+    file = put_list(file, CENTRE_TAG, n, centre);
+    put_list(file, LINEAR_HIGH_TAG, n, linear_high);
+    return 0;
+}
+
+/* Why a file has not the one form that is read: refusals 15, 10, 11, 12, 19, 13, 14 and 1 */
+static __attribute__((noinline, cold)) int64_t file_refusal(const uint8_t *file, size_t size)
+{
+    size_t sizes[LINEAR_HIGH_TAG + 1];
+    int tags = 0, last = 0;
+    int64_t n = 0;
+    if (size > LONGEST_FILE)
+        return 15;
+    for (size_t at = 0; at < size;) {
+        if (size - at < 3 || *(const length *)(file + at + 1) > size - at - 3)
+            return 10;
+        int tag = file[at];
+        if (tag < ORDER_TAG || tag > LINEAR_HIGH_TAG)
+            return 11;
+        if (tags >> tag & 1)
+            return 12;
+        if (tag < last)
+            return 19;
+        sizes[tag] = *(const length *)(file + at + 1);
+        if (tag == ORDER_TAG && sizes[tag] == 1)
+            n = file[at + 3];
+        tags |= 1 << tag;
+        last = tag;
+        at += 3 + sizes[tag];
+    }
+    if (tags != 0xFE)
+        return 13;
+    return sizes[ORDER_TAG] != 1 || (n >= 1 && n <= ORDER) ? 14 : 1;
+}
+
+/* Whether a field's head is this one; the place of its content */
+INLINED int head_is(const uint8_t *at, int tag, int64_t size)
+{
+    return at[0] == tag && *(const length *)(at + 1) == size;
+}
+
+/* Where the contents of a file of order n start */
+struct places {
+    const narrow *low;
+    const narrow *high;
+    const number *linear_low;
+    const number *limit;
+    const number *centre;
+    const number *linear_high;
+};
+
+/* Whether a file of the size for its order has the heads for it */
+INLINED int find_places(int64_t n, const uint8_t *file, struct places *places)
+{
+    int64_t table = 4 * n * n, list = 8 * n;
+    const uint8_t *low = file + 4, *high = low + 3 + table, *linear_low = high + 3 + table, *limit = linear_low + 3 + list;
+    const uint8_t *centre = limit + 11, *linear_high = centre + 3 + list;
+    places->low = (const narrow *)(low + 3);
+    places->high = (const narrow *)(high + 3);
+    places->linear_low = numbers(linear_low + 3);
+    places->limit = numbers(limit + 3);
+    places->centre = numbers(centre + 3);
+    places->linear_high = numbers(linear_high + 3);
+    return head_is(file, ORDER_TAG, 1) & head_is(low, LOW_TAG, table) & head_is(high, HIGH_TAG, table) &
+           head_is(linear_low, LINEAR_LOW_TAG, list) & head_is(limit, LIMIT_TAG, 8) & head_is(centre, CENTRE_TAG, list) &
+           head_is(linear_high, LINEAR_HIGH_TAG, list);
+}
+
+/* Checks 3 to 5 of the tables in a file */
+INLINED int held_tables_pass(int64_t n, const narrow *low, const narrow *high)
+{
+    struct seen seen = {0, 0};
+    for (int64_t j = 0; j < n; j++) {
+        for (int64_t i = 0; i < j; i++) {
+            see(&seen, low[j * n + i], high[j * n + i]);
+            see_mirror(&seen, low[j * n + i], low[i * n + j], high[j * n + i], high[i * n + j]);
+        }
+        see(&seen, low[j * n + j], high[j * n + j]);
+    }
+    return !refused(&seen);
+}
+
+/* Which of 3 to 5 it is */
+static __attribute__((noinline, cold)) int64_t held_refusal(int64_t n, const narrow *low, const narrow *high)
+{
+    int64_t wide_low[ORDER * ORDER], wide_high[ORDER * ORDER];
+    for (int64_t k = 0; k < n * n; k++) {
+        wide_low[k] = low[k];
+        wide_high[k] = high[k];
+    }
+    return refusal(n, wide_low, wide_high);
+}
+
+INLINED void give_table(uint8_t *to, int64_t n, const narrow *table)
+{
+    number *entries = (number *)to;
+    __builtin_memset(entries, 0, 8 * ORDER * ORDER);
+    for (int64_t k = 0; k < n * n; k++)
+        entries[k] = table[k];
+}
+
+INLINED void give_list(uint8_t *to, int64_t n, const number *list)
+{
+    number *entries = (number *)to;
+    __builtin_memset(entries, 0, 8 * ORDER);
+    for (int64_t k = 0; k < n; k++)
+        entries[k] = list[k];
+}
+
+int64_t tuned_read_summary(const uint8_t *file, size_t file_len, uint8_t *order, size_t order_len, uint8_t *low, size_t low_len, uint8_t *high,
+                           size_t high_len, uint8_t *linear_low, size_t linear_low_len, uint8_t *linear_high, size_t linear_high_len,
+                           uint8_t *limit, size_t limit_len, uint8_t *centre, size_t centre_len)
+{
+    const size_t table = 8 * ORDER * ORDER, list = 8 * ORDER;
+    struct places places;
+    if (order_len != 8 || low_len != table || high_len != table || linear_low_len != list || linear_high_len != list || limit_len != 8 ||
+        centre_len != list)
+        return 2;
+    int64_t n = file_len > 3 ? file[3] : 0;
+    if (n < 1 || n > ORDER || file_len != file_size(n) || !find_places(n, file, &places))
+        return file_refusal(file, file_len);
+    if (!terms_in_range(n, places.linear_low, places.linear_high, *places.limit, places.centre))
+        return 3;
+    if (!held_tables_pass(n, places.low, places.high))
+        return held_refusal(n, places.low, places.high);
+    if (reversed(n, places.linear_low, places.linear_high))
+        return 16;
+    *(number *)order = n;
+    give_table(low, n, places.low);
+    give_table(high, n, places.high);
+    give_list(linear_low, n, places.linear_low);
+    give_list(linear_high, n, places.linear_high);
+    *(number *)limit = *places.limit;
+    give_list(centre, n, places.centre);
+    return 0;
+}

@@ -25,4 +25,12 @@ int64_t tuned_box(int64_t n, const uint8_t *low, size_t low_len, const uint8_t *
                   size_t linear_low_len, const uint8_t *linear_high, size_t linear_high_len, int64_t limit, const uint8_t *centre,
                   size_t centre_len, uint8_t *sides, size_t sides_len);
 
+int64_t tuned_write_summary(int64_t n, const uint8_t *low, size_t low_len, const uint8_t *high, size_t high_len, const uint8_t *linear_low,
+                            size_t linear_low_len, const uint8_t *linear_high, size_t linear_high_len, int64_t limit, const uint8_t *centre,
+                            size_t centre_len, uint8_t *file, size_t file_len);
+
+int64_t tuned_read_summary(const uint8_t *file, size_t file_len, uint8_t *order, size_t order_len, uint8_t *low, size_t low_len, uint8_t *high,
+                           size_t high_len, uint8_t *linear_low, size_t linear_low_len, uint8_t *linear_high, size_t linear_high_len,
+                           uint8_t *limit, size_t limit_len, uint8_t *centre, size_t centre_len);
+
 #endif
