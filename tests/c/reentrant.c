@@ -32,7 +32,7 @@ struct problem {
 
 /* All that the functions answer and write for a problem: the answers of gathering are added up */
 struct result {
-    int64_t answers[6];
+    int64_t answers[8];
     int64_t low[HB_SAMPLE_ORDER * HB_SAMPLE_ORDER];
     int64_t high[HB_SAMPLE_ORDER * HB_SAMPLE_ORDER];
     int64_t linear_low[HB_SAMPLE_ORDER];
@@ -42,6 +42,14 @@ struct result {
     int64_t factor[N * N];
     int64_t vector[N];
     int64_t sides[2 * N];
+    uint8_t file[HB_SUMMARY_BYTES(N)];
+    int64_t order;
+    int64_t read_low[N * N];
+    int64_t read_high[N * N];
+    int64_t read_linear_low[N];
+    int64_t read_linear_high[N];
+    int64_t read_limit;
+    int64_t read_centre[N];
 };
 
 static struct problem problems[PROBLEMS];
@@ -74,6 +82,15 @@ static void call(const struct problem *problem, struct result *result)
                                       bytes(result->linear_low), sizeof result->linear_low, bytes(result->linear_high),
                                       sizeof result->linear_high, result->running_limit, 1000000, (uint8_t *)&result->limit,
                                       sizeof result->limit);
+    result->answers[6] = hb_write_summary(N, table, size, table, size, bytes(problem->linear_low), sizeof problem->linear_low,
+                                          bytes(problem->linear_high), sizeof problem->linear_high, 100000, bytes(problem->centre),
+                                          sizeof problem->centre, result->file, sizeof result->file);
+    result->answers[7] = hb_read_summary(result->file, sizeof result->file, (uint8_t *)&result->order, sizeof result->order,
+                                         (uint8_t *)result->read_low, sizeof result->read_low, (uint8_t *)result->read_high,
+                                         sizeof result->read_high, (uint8_t *)result->read_linear_low, sizeof result->read_linear_low,
+                                         (uint8_t *)result->read_linear_high, sizeof result->read_linear_high,
+                                         (uint8_t *)&result->read_limit, sizeof result->read_limit, (uint8_t *)result->read_centre,
+                                         sizeof result->read_centre);
 }
 
 /* Whether a problem's calls give what they gave alone */
@@ -152,6 +169,10 @@ int main(void)
     expect("gathered, and read", alone[0].answers[4] == HB_TAKEN && alone[0].answers[5] == HB_WRITTEN);
     expect("64 gathered, and 6 too many", alone[1].answers[4] == 6 * HB_REFUSED_FULL && alone[1].answers[5] == HB_WRITTEN);
     expect("all samples refused", alone[2].answers[4] == SAMPLES * HB_REFUSED_SAMPLE && alone[2].limit == 1000000);
+    for (int k = 0; k < PROBLEMS; k++)
+        expect("written, and read", alone[k].answers[6] == HB_WRITTEN && alone[k].answers[7] == HB_WRITTEN &&
+                                        memcmp(alone[k].read_low, problems[k].table, sizeof problems[k].table) == 0 &&
+                                        memcmp(alone[k].read_centre, problems[k].centre, sizeof problems[k].centre) == 0);
     memset(&action, 0, sizeof action);
     action.sa_handler = interrupt;
     action.sa_flags = SA_RESTART;

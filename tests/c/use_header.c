@@ -522,6 +522,188 @@ static void run_samples_to_box(void)
     }
 }
 
+/* Case P of the rules: 4 x^2 - 16 x <= 0, from the centre 2, and its file */
+static const uint8_t case_p[] = {1, 1, 0, 1,    2, 4, 0, 4, 0, 0, 0,    3, 4, 0, 4, 0, 0, 0,    4, 8, 0, 0xF8, 255, 255, 255, 255, 255, 255, 255,
+                                 5, 8, 0, 0, 0, 0, 0, 0, 0, 0, 0,    6, 8, 0, 2, 0, 0, 0, 0, 0, 0, 0,    7, 8, 0, 0xF8, 255, 255, 255, 255, 255, 255, 255};
+
+/* A call of the writer for case P, with some of it other, and its expected answer. */
+struct write_case {
+    const char *what;
+    int64_t n;
+    int64_t low;
+    int64_t high;
+    int64_t linear_low;
+    int64_t linear_high;
+    int64_t limit;
+    int64_t centre;
+    size_t centre_len;
+    size_t file_len;
+    int64_t expected;
+};
+
+#define WHOLE_FILE HB_SUMMARY_BYTES(1)
+#define NUMBER HB_NUMBER_BYTES
+#define HUGE_NUMBER ((int64_t)1 << 32)
+
+static const struct write_case write_cases[] = {
+    {"write case P", 1, 4, 4, -8, -8, 0, 2, NUMBER, WHOLE_FILE, HB_WRITTEN},
+    {"write it at order 0", 0, 4, 4, -8, -8, 0, 2, NUMBER, WHOLE_FILE, HB_REFUSED_ORDER},
+    {"write it at order 257", 257, 4, 4, -8, -8, 0, 2, NUMBER, WHOLE_FILE, HB_REFUSED_ORDER},
+    {"write it at order 2^32 + 1", HUGE_NUMBER + 1, 4, 4, -8, -8, 0, 2, NUMBER, WHOLE_FILE, HB_REFUSED_ORDER},
+    {"write it at the least order", INT64_MIN, 4, 4, -8, -8, 0, 2, NUMBER, WHOLE_FILE, HB_REFUSED_ORDER},
+    {"write it to a byte less", 1, 4, 4, -8, -8, 0, 2, NUMBER, WHOLE_FILE - 1, HB_REFUSED_LENGTH},
+    {"write it to a byte more", 1, 4, 4, -8, -8, 0, 2, NUMBER, WHOLE_FILE + 1, HB_REFUSED_LENGTH},
+    {"write it to no bytes", 1, 4, 4, -8, -8, 0, 2, NUMBER, 0, HB_REFUSED_LENGTH},
+    {"write it to a byte less, the limit beyond its range", 1, 4, 4, -8, -8, INT64_MAX, 2, NUMBER, WHOLE_FILE - 1, HB_REFUSED_LENGTH},
+    {"write it with a centre one byte short", 1, 4, 4, -8, -8, 0, 2, NUMBER - 1, WHOLE_FILE, HB_REFUSED_LENGTH},
+    {"write an entry that 4 bytes would hold", 1, HUGE_NUMBER + 4, HUGE_NUMBER + 4, -8, -8, 0, 2, NUMBER, WHOLE_FILE, HB_REFUSED_RANGE},
+    {"write an entry above its range", 1, 4, HB_ENTRY_RANGE + 1, -8, -8, 0, 2, NUMBER, WHOLE_FILE, HB_REFUSED_RANGE},
+    {"write the least entry", 1, INT64_MIN, 4, -8, -8, 0, 2, NUMBER, WHOLE_FILE, HB_REFUSED_RANGE},
+    {"write a linear term below its range", 1, 4, 4, -HB_LINEAR_RANGE - 1, -8, 0, 2, NUMBER, WHOLE_FILE, HB_REFUSED_RANGE},
+    {"write a limit above its range", 1, 4, 4, -8, -8, HB_LIMIT_RANGE + 1, 2, NUMBER, WHOLE_FILE, HB_REFUSED_RANGE},
+    {"write a centre beyond its range", 1, 4, 4, -8, -8, 0, HB_CENTRE_RANGE + 1, NUMBER, WHOLE_FILE, HB_REFUSED_RANGE},
+    {"write low above high", 1, 5, 4, -8, -8, 0, 2, NUMBER, WHOLE_FILE, HB_REFUSED_CROSSED},
+    {"write reversed linear terms", 1, 4, 4, -8, -9, 0, 2, NUMBER, WHOLE_FILE, HB_REFUSED_REVERSED},
+};
+
+static void run_write_case(const struct write_case *test)
+{
+    uint8_t low[NUMBER], high[NUMBER], linear_low[NUMBER], linear_high[NUMBER], centre[NUMBER], file[1 + WHOLE_FILE + 2];
+    int64_t answer;
+    hb_store_number(low, test->low);
+    hb_store_number(high, test->high);
+    hb_store_number(linear_low, test->linear_low);
+    hb_store_number(linear_high, test->linear_high);
+    hb_store_number(centre, test->centre);
+    memset(file, KEPT, sizeof file);
+    answer = hb_write_summary(test->n, low, NUMBER, high, NUMBER, linear_low, NUMBER, linear_high, NUMBER, test->limit, centre, test->centre_len,
+                              file + 1, test->file_len);
+    expect(test->what, answer, test->expected);
+    if (answer == HB_WRITTEN) {
+        expect("the file is written", memcmp(file + 1, case_p, WHOLE_FILE), 0);
+        expect("no byte beside it is", kept(file, 1) && kept(file + 1 + WHOLE_FILE, 2), 1);
+    } else {
+        expect("the file is kept", kept(file, sizeof file), 1);
+    }
+}
+
+/* What a file is read into, one byte of each buffer more */
+struct held {
+    uint8_t order[HB_NUMBER_BYTES + 1];
+    uint8_t low[HB_TABLE_BYTES(HB_MAX_ORDER) + 1];
+    uint8_t high[HB_TABLE_BYTES(HB_MAX_ORDER) + 1];
+    uint8_t linear_low[HB_VECTOR_BYTES(HB_MAX_ORDER) + 1];
+    uint8_t linear_high[HB_VECTOR_BYTES(HB_MAX_ORDER) + 1];
+    uint8_t limit[HB_NUMBER_BYTES + 1];
+    uint8_t centre[HB_VECTOR_BYTES(HB_MAX_ORDER) + 1];
+};
+
+/* Reads a file into buffers of their sizes, that of low by one byte more or less */
+static int64_t read_file(const uint8_t *file, size_t size, struct held *held, int more)
+{
+    memset(held, KEPT, sizeof *held);
+    return hb_read_summary(file, size, held->order, sizeof held->order - 1, held->low, sizeof held->low - 1 + (size_t)more, held->high,
+                           sizeof held->high - 1, held->linear_low, sizeof held->linear_low - 1, held->linear_high,
+                           sizeof held->linear_high - 1, held->limit, sizeof held->limit - 1, held->centre, sizeof held->centre - 1);
+}
+
+/* Whether a buffer begins with a number, has 0 behind it, and is not written past its end */
+static int begins_with(const uint8_t *buffer, size_t size, int64_t number)
+{
+    size_t k;
+    if (hb_load_number(buffer) != number || buffer[size - 1] != KEPT)
+        return 0;
+    for (k = HB_NUMBER_BYTES; k < size - 1; k++)
+        if (buffer[k] != 0)
+            return 0;
+    return 1;
+}
+
+static void run_read_summary(void)
+{
+    struct held held;
+    uint8_t file[sizeof case_p], longest[4097];
+    size_t k;
+    expect("read case P", read_file(case_p, sizeof case_p, &held, 0), HB_WRITTEN);
+    expect("its order", begins_with(held.order, sizeof held.order, 1), 1);
+    expect("its low", begins_with(held.low, sizeof held.low, 4), 1);
+    expect("its high", begins_with(held.high, sizeof held.high, 4), 1);
+    expect("its low terms", begins_with(held.linear_low, sizeof held.linear_low, -8), 1);
+    expect("its high terms", begins_with(held.linear_high, sizeof held.linear_high, -8), 1);
+    expect("its limit", begins_with(held.limit, sizeof held.limit, 0), 1);
+    expect("its centre", begins_with(held.centre, sizeof held.centre, 2), 1);
+    expect("judge what was read",
+           hb_judge(1, held.low, HB_TABLE_BYTES(1), held.high, HB_TABLE_BYTES(1), held.linear_low, HB_TABLE_BYTES(1), held.centre,
+                    HB_VECTOR_BYTES(1)),
+           HB_DEFINITE);
+    expect("its factor", hb_load_number(held.linear_low), 129007);
+    for (k = 0; k < 2; k++) {
+        expect("read it into a table of another size", read_file(case_p, sizeof case_p, &held, k ? 1 : -1), HB_REFUSED_LENGTH);
+        expect("nothing is written", kept((const uint8_t *)&held, sizeof held), 1);
+    }
+    expect("read a bad file into a table of another size", read_file(case_p, 1, &held, 1), HB_REFUSED_LENGTH);
+    for (k = 0; k < sizeof case_p; k++) {
+        int at_a_field = k == 0 || k == 4 || k == 11 || k == 18 || k == 29 || k == 40 || k == 51;
+        expect("read a part of it", read_file(case_p, k, &held, 0), at_a_field ? HB_REFUSED_ABSENT : HB_REFUSED_CUT);
+        expect("nothing is written", kept((const uint8_t *)&held, sizeof held), 1);
+    }
+    memset(longest, 0, sizeof longest);
+    expect("read 4097 bytes", read_file(longest, sizeof longest, &held, 0), HB_REFUSED_LONG);
+    expect("read 4096 bytes", read_file(longest, sizeof longest - 1, &held, 0), HB_REFUSED_TAG);
+    expect("read an empty file", read_file(NULL, 0, &held, 0), HB_REFUSED_ABSENT);
+    memcpy(file, case_p, sizeof file);
+    file[3] = 9;
+    expect("read an order of 9", read_file(file, sizeof file, &held, 0), HB_REFUSED_ORDER);
+    file[3] = 2;
+    expect("read an order of 2", read_file(file, sizeof file, &held, 0), HB_REFUSED_SIZE);
+    file[3] = 1;
+    file[8] = 1;
+    file[16] = 0x11;
+    expect("read an entry beyond its range", read_file(file, sizeof file, &held, 0), HB_REFUSED_RANGE);
+    file[16] = 0;
+    expect("read crossed bounds", read_file(file, sizeof file, &held, 0), HB_REFUSED_CROSSED);
+    file[8] = 0;
+    file[21] = 0xF9;
+    expect("read reversed linear terms", read_file(file, sizeof file, &held, 0), HB_REFUSED_REVERSED);
+    expect("nothing is written", kept((const uint8_t *)&held, sizeof held), 1);
+    file[4] = 3;
+    expect("read a tag twice", read_file(file, sizeof file, &held, 0), HB_REFUSED_AGAIN);
+    file[4] = 4;
+    expect("read a tag that falls", read_file(file, sizeof file, &held, 0), HB_REFUSED_FALLING);
+}
+
+/* Sizes of files, of every order; written from one table and one buffer of linear terms, then read, then written again */
+static void run_summaries(void)
+{
+    static const size_t sizes[] = {62, 110, 174, 254, 350, 462, 590, 734};
+    uint8_t table[HB_TABLE_BYTES(HB_MAX_ORDER)], terms[HB_VECTOR_BYTES(HB_MAX_ORDER)], file[HB_SUMMARY_BYTES(HB_MAX_ORDER)];
+    uint8_t again[HB_SUMMARY_BYTES(HB_MAX_ORDER)];
+    struct held held;
+    int64_t n, k;
+    for (n = 1; n <= HB_MAX_ORDER; n++) {
+        size_t size = HB_SUMMARY_BYTES(n), side = HB_TABLE_BYTES(n), vector = HB_VECTOR_BYTES(n);
+        expect("the size of a file", (int64_t)size, (int64_t)sizes[n - 1]);
+        for (k = 0; k < n * n; k++)
+            hb_store_number(table + HB_NUMBER_BYTES * k, (k / n + 1) * (k % n + 1) - 10);
+        for (k = 0; k < n; k++)
+            hb_store_number(terms + HB_NUMBER_BYTES * k, 500 * k - 2000);
+        expect("write a file", hb_write_summary(n, table, side, table, side, terms, vector, terms, vector, -n, terms, vector, file, size), HB_WRITTEN);
+        expect("read it", read_file(file, size, &held, 0), HB_WRITTEN);
+        expect("its order", hb_load_number(held.order), n);
+        expect("its limit", hb_load_number(held.limit), -n);
+        expect("its tables", memcmp(held.low, table, side) == 0 && memcmp(held.high, table, side) == 0, 1);
+        expect("its terms", memcmp(held.linear_low, terms, vector) == 0 && memcmp(held.linear_high, terms, vector) == 0, 1);
+        expect("write it again",
+               hb_write_summary(hb_load_number(held.order), held.low, side, held.high, side, held.linear_low, vector, held.linear_high, vector,
+                                hb_load_number(held.limit), held.centre, vector, again, size),
+               HB_WRITTEN);
+        expect("the same file", memcmp(file, again, size), 0);
+    }
+    expect("write from null buffers", hb_write_summary(1, NULL, 0, NULL, 0, NULL, 0, NULL, 0, 0, NULL, 0, NULL, 0), HB_REFUSED_LENGTH);
+    expect("the same and order 9", hb_write_summary(9, NULL, 0, NULL, 0, NULL, 0, NULL, 0, 0, NULL, 0, NULL, 0), HB_REFUSED_ORDER);
+    expect("read into null buffers", hb_read_summary(file, 62, NULL, 0, NULL, 0, NULL, 0, NULL, 0, NULL, 0, NULL, 0, NULL, 0), HB_REFUSED_LENGTH);
+}
+
 /* The version's numbers and its string are one version. */
 static void run_version(void)
 {
@@ -539,6 +721,10 @@ int main(void)
     run_gather();
     run_gather_refused();
     run_samples_to_box();
+    for (k = 0; k < sizeof write_cases / sizeof write_cases[0]; k++)
+        run_write_case(&write_cases[k]);
+    run_read_summary();
+    run_summaries();
     run_one_table();
     for (k = 0; k < sizeof box_cases / sizeof box_cases[0]; k++)
         run_box_case(&box_cases[k]);

@@ -7,6 +7,8 @@
 
 /* Writes what the program has to print for a file; its length. */
 size_t fuzz_expected(const uint8_t *file, size_t size, uint8_t *text, size_t room);
+/* Reads a file into the seven buffers of hb_read_summary, which have their sizes, one behind the other; the answer. */
+int64_t fuzz_read(const uint8_t *file, size_t size, uint8_t *problem);
 /* Puts right what refuses a file; its new length, the old where it has no room. */
 size_t fuzz_repair(uint8_t *file, size_t size, size_t room);
 /* Writes a generated file; its length, 0 where it has no room. */

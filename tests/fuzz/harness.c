@@ -1,7 +1,8 @@
 /*
  * A fuzz of summary files, for libFuzzer. Each file goes through the second implementation, in this process and with its coverage counted, and
  * through the program that HANKBOULDER_JUDGE names, as a child process. What the program prints has to be the same byte for byte, with nothing on
- * standard error, and its exit status 0.
+ * standard error, and its exit status 0. hb_read_summary, in this process too, has to answer as the second implementation does, and to leave the same
+ * bytes; and what it reads hb_write_summary has to write as the same file.
  */
 #define _GNU_SOURCE
 #include <errno.h>
@@ -16,6 +17,7 @@
 #include <unistd.h>
 
 #include "fuzz.h"
+#include "hankboulder.h"
 
 #define ROOM 65536
 #define KINDS 32
@@ -191,6 +193,48 @@ static int run(const uint8_t *data, size_t size, uint8_t *text, size_t *length) 
     return status;
 }
 
+/* What a file is read into, one behind the other */
+struct problem {
+    uint8_t order[HB_NUMBER_BYTES];
+    uint8_t low[HB_TABLE_BYTES(HB_MAX_ORDER)];
+    uint8_t high[HB_TABLE_BYTES(HB_MAX_ORDER)];
+    uint8_t linear_low[HB_VECTOR_BYTES(HB_MAX_ORDER)];
+    uint8_t linear_high[HB_VECTOR_BYTES(HB_MAX_ORDER)];
+    uint8_t limit[HB_NUMBER_BYTES];
+    uint8_t centre[HB_VECTOR_BYTES(HB_MAX_ORDER)];
+};
+
+/* Whether what was read is written as the same file */
+static bool written_again(const struct problem *read, const uint8_t *data, size_t size) {
+    uint8_t file[HB_SUMMARY_BYTES(HB_MAX_ORDER)];
+    int64_t n = hb_load_number(read->order);
+    if (size > sizeof file) {
+        return false;
+    }
+    int64_t answer = hb_write_summary(n, read->low, HB_TABLE_BYTES(n), read->high, HB_TABLE_BYTES(n), read->linear_low, HB_VECTOR_BYTES(n),
+                                      read->linear_high, HB_VECTOR_BYTES(n), hb_load_number(read->limit), read->centre, HB_VECTOR_BYTES(n), file, size);
+    return answer == HB_WRITTEN && memcmp(file, data, size) == 0;
+}
+
+static void compare_reading(const uint8_t *data, size_t size) {
+    struct problem read, expected;
+    memset(&read, 0x5A, sizeof read);
+    memset(&expected, 0x5A, sizeof expected);
+    int64_t answer = hb_read_summary(data, size, read.order, sizeof read.order, read.low, sizeof read.low, read.high, sizeof read.high, read.linear_low,
+                                     sizeof read.linear_low, read.linear_high, sizeof read.linear_high, read.limit, sizeof read.limit,
+                                     read.centre, sizeof read.centre);
+    int64_t expected_answer = fuzz_read(data, size, (uint8_t *)&expected);
+    if (answer != expected_answer || memcmp(&read, &expected, sizeof read) != 0) {
+        fprintf(stderr, "DIFFERENCE on %zu bytes: hb_read_summary answers %d, the second implementation %d\n", size, (int)answer,
+                (int)expected_answer);
+        abort();
+    }
+    if (answer == HB_WRITTEN && !written_again(&read, data, size)) {
+        fprintf(stderr, "DIFFERENCE on %zu bytes: hb_write_summary writes another file\n", size);
+        abort();
+    }
+}
+
 int LLVMFuzzerTestOneInput(const uint8_t *data, size_t size) {
     static uint8_t expected[ROOM], printed[ROOM];
     size_t length, expected_length = fuzz_expected(data, size, expected, ROOM - 1);
@@ -201,6 +245,7 @@ int LLVMFuzzerTestOneInput(const uint8_t *data, size_t size) {
                 (char *)printed, (char *)expected);
         abort();
     }
+    compare_reading(data, size);
     count_kind((char *)expected);
     return 0;
 }

@@ -48,14 +48,14 @@
 
 #define THREADS 2
 #define GUARD 32
-#define PAGE 4096
+#define PAGE 8192 /* two of the processor's, so that a file which is too long has room */
 /* Numbers are dealt to the threads in blocks of this many. */
 #define BLOCK 120
 #define PROGRESS 10 /* seconds */
 
-/* Answers are -2 to 9, and 16 to 18, orders 1 to 8 or out of range (0). */
+/* Answers are -2 to 19, orders 1 to 8 or out of range (0). */
 #define LEAST (-2)
-#define ANSWERS (HB_REFUSED_FULL - LEAST + 1)
+#define ANSWERS (HB_REFUSED_FALLING - LEAST + 1)
 #define ORDERS (HB_MAX_ORDER + 1)
 
 struct act {
@@ -90,6 +90,18 @@ static const struct act acts[LOAD_ACTS] = {
                       {HB_REFUSED_REVERSED, "reversed"},
                       {HB_REFUSED_FULL, "full"}}},
     [LOAD_READ_SUMS] = {"hb_read_sums", {{HB_WRITTEN, "written"}, REFUSED_1_TO_5, {HB_REFUSED_REVERSED, "reversed"}}},
+    [LOAD_WRITE_SUMMARY] = {"hb_write_summary", {{HB_WRITTEN, "written"}, REFUSED_1_TO_5, {HB_REFUSED_REVERSED, "reversed"}}},
+    [LOAD_READ_SUMMARY] = {"hb_read_summary",
+                           {{HB_WRITTEN, "written"},
+                            REFUSED_1_TO_5,
+                            {HB_REFUSED_CUT, "cut"},
+                            {HB_REFUSED_TAG, "tag"},
+                            {HB_REFUSED_AGAIN, "again"},
+                            {HB_REFUSED_ABSENT, "absent"},
+                            {HB_REFUSED_SIZE, "size"},
+                            {HB_REFUSED_LONG, "long"},
+                            {HB_REFUSED_REVERSED, "reversed"},
+                            {HB_REFUSED_FALLING, "falling"}}},
 };
 
 /* Calls by act, order and answer. */
@@ -230,6 +242,7 @@ static int64_t answered(const struct load_call *call, const struct place *lent) 
     hb_sample sample;
     memcpy(&sample, call->sample, sizeof sample);
     const struct place *low = &lent[0], *high = &lent[1], *third = &lent[2], *fourth = &lent[3], *fifth = &lent[4], *sixth = &lent[5];
+    const struct place *seventh = &lent[6], *eighth = &lent[7];
     switch (call->act) {
     case LOAD_JUDGE:
         return hb_judge(n, low->lent, low->length, high->lent, high->length, third->lent, third->length, fourth->lent, fourth->length);
@@ -243,6 +256,13 @@ static int64_t answered(const struct load_call *call, const struct place *lent) 
     case LOAD_READ_SUMS:
         return hb_read_sums(n, low->lent, low->length, high->lent, high->length, third->lent, third->length, fourth->lent, fourth->length,
                             call->running_limit, call->allowance, fifth->lent, fifth->length);
+    case LOAD_WRITE_SUMMARY:
+        return hb_write_summary(n, low->lent, low->length, high->lent, high->length, third->lent, third->length, fourth->lent, fourth->length,
+                                call->limit, fifth->lent, fifth->length, sixth->lent, sixth->length);
+    case LOAD_READ_SUMMARY: /* the file is the first */
+        return hb_read_summary(low->lent, low->length, high->lent, high->length, third->lent, third->length, fourth->lent, fourth->length,
+                               fifth->lent, fifth->length, sixth->lent, sixth->length, seventh->lent, seventh->length, eighth->lent,
+                               eighth->length);
     default:
         return hb_box(n, low->lent, low->length, high->lent, high->length, third->lent, third->length, fourth->lent, fourth->length,
                       call->limit, fifth->lent, fifth->length, sixth->lent, sixth->length);
@@ -259,6 +279,12 @@ static bool is_written(const struct load_call *call, size_t k) {
     }
     if (call->act == LOAD_READ_SUMS) {
         return call->answer == HB_WRITTEN && k == 4;
+    }
+    if (call->act == LOAD_WRITE_SUMMARY) {
+        return call->answer == HB_WRITTEN && k == 5;
+    }
+    if (call->act == LOAD_READ_SUMMARY) {
+        return call->answer == HB_WRITTEN && k > 0;
     }
     return call->act == LOAD_BOX && call->answer == HB_BOX && k == 5;
 }
@@ -381,22 +407,22 @@ static uint64_t of_order(counts met, size_t order) {
 /* Prints the calls by act and answer, and by order; whether each act gave each of its answers. */
 static bool print(counts met) {
     bool all = true;
-    printf("%-15s %-13s %6s %10s\n", "act", "answer", "number", "calls");
+    printf("%-16s %-13s %6s %10s\n", "act", "answer", "number", "calls");
     for (size_t act = 0; act < LOAD_ACTS; act++) {
         uint64_t total = 0;
         for (size_t k = 0; k < ANSWERS && acts[act].answers[k].word != NULL; k++) {
             int64_t answer = acts[act].answers[k].answer;
             uint64_t given = with_answer(met, act, answer);
-            printf("%-15s %-13s %6" PRId64 " %10" PRIu64 "\n", acts[act].name, acts[act].answers[k].word, answer, given);
+            printf("%-16s %-13s %6" PRId64 " %10" PRIu64 "\n", acts[act].name, acts[act].answers[k].word, answer, given);
             total += given;
             all = all && given > 0;
         }
-        printf("%-15s %-13s %6s %10" PRIu64 "\n", acts[act].name, "all", "", total);
+        printf("%-16s %-13s %6s %10" PRIu64 "\n", acts[act].name, "all", "", total);
     }
     for (size_t order = 1; order < ORDERS; order++) {
-        printf("order %-9zu %-13s %6s %10" PRIu64 "\n", order, "all", "", of_order(met, order));
+        printf("order %-10zu %-13s %6s %10" PRIu64 "\n", order, "all", "", of_order(met, order));
     }
-    printf("%-15s %-13s %6s %10" PRIu64 "\n", "other orders", "all", "", of_order(met, 0));
+    printf("%-16s %-13s %6s %10" PRIu64 "\n", "other orders", "all", "", of_order(met, 0));
     return all;
 }
 

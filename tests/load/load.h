@@ -5,10 +5,10 @@
 #include <stddef.h>
 #include <stdint.h>
 
-enum { LOAD_JUDGE, LOAD_TEST_FACTOR, LOAD_TEST_VECTOR, LOAD_BOX, LOAD_GATHER, LOAD_READ_SUMS, LOAD_ACTS };
+enum { LOAD_JUDGE, LOAD_TEST_FACTOR, LOAD_TEST_VECTOR, LOAD_BOX, LOAD_GATHER, LOAD_READ_SUMS, LOAD_WRITE_SUMMARY, LOAD_READ_SUMMARY, LOAD_ACTS };
 
 /* The most buffers that an act has. */
-#define LOAD_MOST 6
+#define LOAD_MOST 8
 
 /* A buffer: its bytes before the call and those expected after it. Both pointers are good if the length is 0 too, but have nothing to read. */
 struct load_buffer {
@@ -18,7 +18,8 @@ struct load_buffer {
 
 /*
  * A call: the act, its numbers, the answer expected, the bits of a sample's floats in their order, how many of its buffers are read (the first ones) and
- * how many of these are only read, all or none, and its buffers in the entry's order. What an act does not take is 0.
+ * how many of these are only read, all or none, and its buffers in the entry's order. What an act does not take is 0, but n of a summary that is read is
+ * the order that the file begins with.
  */
 struct load_call {
     int64_t act, n, limit, running_limit, allowance, answer;

@@ -13,7 +13,8 @@ use crate::variation::varied;
 /// The arguments of a call.
 #[derive(Clone, Debug, PartialEq, Eq)]
 pub struct Call {
-    /// The order
+    /// The order; in reading a summary, where it is not passed, the one that the
+    /// file begins with
     pub n: i64,
     /// The sample, of the act that has one
     pub sample: Sample,
@@ -36,6 +37,17 @@ impl Call {
     }
 }
 
+/// What an act reads, and so what is varied of a call.
+#[derive(Clone, Copy, Debug, PartialEq, Eq)]
+pub enum Inputs {
+    /// The numbers of the first so many buffers, and those that are passed
+    Numbers(usize),
+    /// The same, and those of the sample
+    Sampled(usize),
+    /// The bytes of the first buffer
+    File,
+}
+
 /// An act.
 pub struct Act {
     /// The name of the C entry
@@ -44,10 +56,8 @@ pub struct Act {
     pub answers: &'static [i64],
     /// Whether it can give an answer other than 1 at an order from 1 to 8
     pub possible: fn(i64, i64) -> bool,
-    /// How many of the buffers are read: the first ones
-    pub inputs: usize,
-    /// Whether it has a sample
-    pub sampled: bool,
+    /// What it reads
+    pub inputs: Inputs,
     /// A generated call, faulty ones among them
     pub generate: fn(&mut Generator) -> Call,
     /// The reference's outcome; leaves the buffers as they are after the call
@@ -187,7 +197,7 @@ impl Act {
                 VARIATIONS
             };
             for _ in 0..variations {
-                let call = varied(&call, self.inputs, self.sampled, &mut random);
+                let call = varied(&call, self.inputs, &mut random);
                 counts.add(call.n, self.agree(&call, random.index(8)));
             }
         }

@@ -6,7 +6,7 @@ use hankboulder_reference::generate::Generator;
 use hankboulder_reference::problem::{CENTRE_RANGE, ENTRY_RANGE, LIMIT_RANGE, LINEAR_RANGE};
 use hankboulder_reference::refusal::Refusal;
 
-use crate::act::{symmetric_at_1, Act, Call};
+use crate::act::{symmetric_at_1, Act, Call, Inputs};
 use crate::counts::{one_beyond, Detail, Kind, Outcome};
 use crate::guarded::Lent;
 use crate::numbers;
@@ -35,8 +35,7 @@ pub const BOX: Act = Act {
     name: "hb_box",
     answers: &[0, -1, 1, 2, 3, 4, 5, 16, 8, 9],
     possible: symmetric_at_1,
-    inputs: 5,
-    sampled: false,
+    inputs: Inputs::Numbers(5),
     generate,
     reference,
     library,

@@ -5,7 +5,7 @@ use hankboulder_reference::generate::Generator;
 use hankboulder_reference::problem::{ENTRY_RANGE, LIMIT_RANGE, LINEAR_RANGE};
 use hankboulder_reference::rides::{with_sample, Sample};
 
-use crate::act::{Act, Call};
+use crate::act::{Act, Call, Inputs};
 use crate::counts::{one_beyond, Detail, Kind, Outcome};
 use crate::guarded::Lent;
 use crate::numbers;
@@ -46,8 +46,7 @@ pub const GATHER: Act = Act {
     answers: &[0, 17, 1, 2, 3, 4, 5, 16, 18],
     // An order other than 4 is refused, at the latest by 2.
     possible: |order, answer| order == 4 || answer == 17 || answer == 2,
-    inputs: 5,
-    sampled: true,
+    inputs: Inputs::Sampled(5),
     generate,
     reference,
     library,

@@ -4,7 +4,7 @@ use hankboulder_reference::entries::{judge_code, judged, NEGATIVE, POSITIVE};
 use hankboulder_reference::generate::Generator;
 use hankboulder_reference::judge::Verdict;
 
-use crate::act::{symmetric_at_1, Act, Call};
+use crate::act::{symmetric_at_1, Act, Call, Inputs};
 use crate::counts::{Detail, Outcome};
 use crate::guarded::Lent;
 use crate::test_factor::TEST_FACTOR;
@@ -31,8 +31,7 @@ pub const JUDGE: Act = Act {
     // Factoring a table of order 1 ends where L is 1 or more, and where not, (1)
     // shows it.
     possible: |order, answer| symmetric_at_1(order, answer) && (order > 1 || answer != -2),
-    inputs: 2,
-    sampled: false,
+    inputs: Inputs::Numbers(2),
     generate,
     reference,
     library,

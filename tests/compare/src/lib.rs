@@ -14,12 +14,14 @@ pub mod gather;
 mod guarded;
 pub mod judge;
 mod offered;
+pub mod read_summary;
 pub mod read_sums;
 pub mod test_factor;
 pub mod test_vector;
 mod variation;
+pub mod write_summary;
 
-pub use act::{Act, Call};
+pub use act::{Act, Call, Inputs};
 pub use counts::{Counts, Detail, Kind, Outcome};
 pub use guarded::Lent;
 

@@ -5,7 +5,7 @@ use hankboulder_reference::generate::Generator;
 use hankboulder_reference::problem::{ENTRY_RANGE, LIMIT_RANGE, LINEAR_RANGE};
 use hankboulder_reference::rides::MOST_ALLOWANCE;
 
-use crate::act::{symmetric_at_1, Act, Call};
+use crate::act::{symmetric_at_1, Act, Call, Inputs};
 use crate::counts::{one_beyond, Detail, Kind, OfKind, Outcome};
 use crate::guarded::Lent;
 use crate::numbers;
@@ -35,8 +35,7 @@ pub const READ_SUMS: Act = Act {
     name: "hb_read_sums",
     answers: &[0, 1, 2, 3, 4, 5, 16],
     possible: symmetric_at_1,
-    inputs: 4,
-    sampled: false,
+    inputs: Inputs::Numbers(4),
     generate,
     reference,
     library,

@@ -2,7 +2,7 @@
 
 use hankboulder_reference::entries;
 
-use crate::act::{symmetric_at_1, Act, Call};
+use crate::act::{symmetric_at_1, Act, Call, Inputs};
 use crate::offered::{library, reference};
 
 extern "C" {
@@ -22,8 +22,7 @@ pub const TEST_VECTOR: Act = Act {
     name: "hb_test_vector",
     answers: &[0, -1, 1, 2, 3, 4, 5, 7],
     possible: symmetric_at_1,
-    inputs: 3,
-    sampled: false,
+    inputs: Inputs::Numbers(3),
     generate: |generator| {
         let call = generator.vector_call();
         Call::new(call.n, vec![call.low, call.high, call.vector])

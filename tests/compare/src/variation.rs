@@ -6,12 +6,44 @@ use hankboulder_reference::generate::numbers::{
 use hankboulder_reference::random::Random;
 use hankboulder_reference::rides::Sample;
 
-use crate::act::Call;
+use crate::act::{Call, Inputs};
+use crate::read_summary::of_file;
+
+/// The call with one of its inputs changed.
+pub fn varied(call: &Call, inputs: Inputs, random: &mut Random) -> Call {
+    match inputs {
+        Inputs::Numbers(count) => varied_number(call, count, false, random),
+        Inputs::Sampled(count) => varied_number(call, count, true, random),
+        Inputs::File => varied_file(call, random),
+    }
+}
+
+/// The call with a byte of its file changed, or the last ones cut off, or some more
+/// behind them; now and then an output of another size.
+fn varied_file(call: &Call, random: &mut Random) -> Call {
+    let (mut file, mut outputs) = (call.buffers[0].clone(), call.buffers[1..].to_vec());
+    let place = random.index(file.len().max(1));
+    let more = random.pick(&[1, 3, 700]);
+    match random.index(20) {
+        0 => file.truncate(place),
+        1 => file.extend(random.bytes(more)),
+        2 => {
+            let size = random.pick(&[0, 8, 64, 512, 513]);
+            let output = random.index(outputs.len());
+            outputs[output] = random.bytes(size);
+        }
+        _ if file.is_empty() => {}
+        3..=6 => file[place] = random.bits() as u8,
+        7..=10 => file[place] ^= 1 << random.index(8),
+        _ => file[place] = file[place].wrapping_add(random.pick(&[1, 255])),
+    }
+    of_file(file, outputs)
+}
 
 /// The call with one number changed in one of its inputs: the first buffers, the
 /// other numbers, and the sample where it has one. In a symmetric pair of places
 /// the other is mostly changed with it.
-pub fn varied(call: &Call, inputs: usize, sampled: bool, random: &mut Random) -> Call {
+fn varied_number(call: &Call, inputs: usize, sampled: bool, random: &mut Random) -> Call {
     let mut varied = call.clone();
     let others = call.numbers.len();
     let input = random.index(inputs + others + usize::from(sampled));

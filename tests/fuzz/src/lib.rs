@@ -8,6 +8,7 @@ mod repair;
 
 use std::slice;
 
+use hankboulder_reference::entries::read_summary;
 use hankboulder_reference::generate::Generator;
 use hankboulder_reference::program::output;
 
@@ -28,6 +29,27 @@ pub unsafe extern "C" fn fuzz_expected(
     // SAFETY: the caller's promise. No file has no bytes to read.
     let (file, text) = unsafe { (read(file, size), slice::from_raw_parts_mut(text, room)) };
     write(output(file).as_bytes(), text).expect("the text has room")
+}
+
+/// The sizes of the seven buffers that a file is read into.
+const SIZES: [usize; 7] = [8, 512, 512, 64, 64, 8, 64];
+
+/// Reads a file into the seven buffers, one behind the other; the answer.
+///
+/// # Safety
+///
+/// The file's bytes can be read, and as many bytes as the seven have be written.
+#[no_mangle]
+pub unsafe extern "C" fn fuzz_read(file: *const u8, size: usize, problem: *mut u8) -> i64 {
+    let room = SIZES.iter().sum();
+    // SAFETY: the caller's promise.
+    let (file, mut rest) = unsafe { (read(file, size), slice::from_raw_parts_mut(problem, room)) };
+    let [order, low, high, least, most, limit, centre] = SIZES.map(|size| {
+        let (buffer, behind) = std::mem::take(&mut rest).split_at_mut(size);
+        rest = behind;
+        buffer
+    });
+    read_summary(file, order, low, high, least, most, limit, centre)
 }
 
 /// Puts right what refuses a file; its new length, the old where it has no room.

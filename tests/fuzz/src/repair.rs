@@ -4,7 +4,7 @@ use hankboulder_reference::problem::{
     table_size, CENTRE_RANGE, ENTRY_RANGE, LIMIT_RANGE, LINEAR_RANGE, MAX_ORDER,
 };
 use hankboulder_reference::summary::{
-    decode, problem_fields, write_summary, NUMBER_WIDTH, TABLE_WIDTH, TAG_CENTRE, TAG_HIGH,
+    decode, file_of_fields, problem_fields, NUMBER_WIDTH, TABLE_WIDTH, TAG_CENTRE, TAG_HIGH,
     TAG_LIMIT, TAG_LINEAR_HIGH, TAG_LINEAR_LOW, TAG_LOW, TAG_ORDER,
 };
 
@@ -35,7 +35,7 @@ pub fn repaired(file: &[u8]) -> Vec<u8> {
         list(TAG_LIMIT, 1, LIMIT_RANGE)[0],
         &list(TAG_CENTRE, order, CENTRE_RANGE),
     );
-    write_summary(&fields)
+    file_of_fields(&fields)
 }
 
 /// The fields of a file, each tag once and the last one cut where the file ends.

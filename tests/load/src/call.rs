@@ -15,6 +15,8 @@ pub enum Act {
     Box = 3,
     Gather = 4,
     ReadSums = 5,
+    WriteSummary = 6,
+    ReadSummary = 7,
 }
 
 impl Act {
@@ -23,8 +25,9 @@ impl Act {
         match self {
             Act::Judge => 2,
             Act::TestFactor | Act::TestVector => 3,
-            Act::Box | Act::Gather => 5,
+            Act::Box | Act::Gather | Act::WriteSummary => 5,
             Act::ReadSums => 4,
+            Act::ReadSummary => 1,
         }
     }
 
@@ -38,11 +41,23 @@ impl Act {
 
     /// Whether its buffers have both ends of linear terms, after the tables.
     pub fn has_ends(self) -> bool {
-        matches!(self, Act::Box | Act::Gather | Act::ReadSums)
+        matches!(
+            self,
+            Act::Box | Act::Gather | Act::ReadSums | Act::WriteSummary
+        )
     }
 }
 
-/// What a call is passed besides its buffers. What its act does not take is 0.
+/// The order that a file begins with, and 0 where it does not begin with one.
+pub fn order_in(file: &[u8]) -> i64 {
+    match file {
+        [1, 1, 0, order, ..] => i64::from(*order),
+        _ => 0,
+    }
+}
+
+/// What a call is passed besides its buffers. What its act does not take is 0, but
+/// n of a summary that is read is the order that the file begins with.
 #[derive(Clone, Debug, Default)]
 #[allow(missing_docs)]
 pub struct Passed {
@@ -103,6 +118,26 @@ impl Call {
                 let sums = [call.low, call.high, call.linear_low, call.linear_high];
                 sums.into_iter().chain([call.limit]).collect()
             }
+            Act::WriteSummary => {
+                let call = generator.write_call();
+                (passed.n, passed.limit) = (call.n, call.limit);
+                let sums = [call.low, call.high, call.linear_low, call.linear_high];
+                sums.into_iter().chain([call.centre, call.file]).collect()
+            }
+            Act::ReadSummary => {
+                let call = generator.read_call();
+                passed.n = order_in(&call.file);
+                vec![
+                    call.file,
+                    call.order,
+                    call.low,
+                    call.high,
+                    call.linear_low,
+                    call.linear_high,
+                    call.limit,
+                    call.centre,
+                ]
+            }
         };
         Call {
             act,
@@ -131,6 +166,12 @@ impl Call {
             (Act::ReadSums, [low, high, least, most, limit]) => {
                 let (running, allowance) = (passed.running_limit, passed.allowance);
                 entries::read_sums(n, low, high, least, most, running, allowance, limit)
+            }
+            (Act::WriteSummary, [low, high, least, most, centre, file]) => {
+                entries::write_summary(n, low, high, least, most, passed.limit, centre, file)
+            }
+            (Act::ReadSummary, [file, order, low, high, least, most, limit, centre]) => {
+                entries::read_summary(file, order, low, high, least, most, limit, centre)
             }
             _ => unreachable!("each act has its number of buffers"),
         }

@@ -17,7 +17,7 @@ use hankboulder_reference::floats::bracket;
 use source::Source;
 
 /// The most buffers that an act has.
-const MOST: usize = 6;
+const MOST: usize = 8;
 
 /// A buffer of a call.
 #[derive(Clone, Copy)]

@@ -10,13 +10,15 @@ use crate::variation::varied;
 const GROUP: u64 = 12;
 
 /// The acts in turn, one for each group.
-const TURNS: [Act; 6] = [
+const TURNS: [Act; 8] = [
     Act::Judge,
     Act::TestFactor,
     Act::TestVector,
     Act::Box,
     Act::Gather,
     Act::ReadSums,
+    Act::WriteSummary,
+    Act::ReadSummary,
 ];
 
 /// The calls of a seed. A call depends on the seed and its number alone.

@@ -7,7 +7,7 @@ use hankboulder_reference::random::Random;
 use hankboulder_reference::rides::Sample;
 use hankboulder_reference::summary::NUMBER_WIDTH;
 
-use crate::call::{Act, Call};
+use crate::call::{order_in, Act, Call};
 
 /// Low and high, the buffers that must be symmetric.
 const TABLES: usize = 2;
@@ -19,6 +19,9 @@ const LINEAR_HIGH: usize = 3;
 /// The call with a change: mostly of one number of its inputs, now and then of
 /// the order, of lengths, or of all bytes of an input.
 pub fn varied(call: &Call, random: &mut Random) -> Call {
+    if call.act == Act::ReadSummary {
+        return varied_file(call, random);
+    }
     let mut varied = call.clone();
     match random.index(64) {
         0 => varied.passed.n = change_order(call.passed.n, random),
@@ -31,6 +34,25 @@ pub fn varied(call: &Call, random: &mut Random) -> Call {
         }
         _ => change_number(&mut varied, random),
     }
+    varied
+}
+
+/// The call with a change: mostly of one byte of its file, now and then of lengths,
+/// or of all bytes of the file.
+fn varied_file(call: &Call, random: &mut Random) -> Call {
+    let mut varied = call.clone();
+    let file = &mut varied.buffers[0];
+    let (length, place) = (file.len(), random.index(file.len().max(1)));
+    match random.index(64) {
+        0 => varied.buffers.iter_mut().for_each(Vec::clear),
+        1..=4 => change_length(&mut varied, random),
+        5 => *file = random.bytes(length),
+        _ if length == 0 => {}
+        6..=20 => file[place] = random.bits() as u8,
+        21..=40 => file[place] ^= 1 << random.index(8),
+        _ => file[place] = file[place].wrapping_add(random.pick(&[1, 255])),
+    }
+    varied.passed.n = order_in(&varied.buffers[0]);
     varied
 }
 
@@ -71,7 +93,7 @@ fn change_length(call: &mut Call, random: &mut Random) {
 fn change_passed(call: &mut Call, random: &mut Random) {
     let passed = &mut call.passed;
     match call.act {
-        Act::Box => passed.limit = changed(passed.limit, random),
+        Act::Box | Act::WriteSummary => passed.limit = changed(passed.limit, random),
         Act::ReadSums if random.one_in(2) => {
             passed.running_limit = changed(passed.running_limit, random);
         }

@@ -7,8 +7,8 @@ use std::path::PathBuf;
 use hankboulder_reference::cases::bytes;
 use hankboulder_reference::generate::RawProblem;
 use hankboulder_reference::summary::{
-    encode, write_summary, MAX_FILE, TABLE_WIDTH, TAG_CENTRE, TAG_HIGH, TAG_LIMIT, TAG_LINEAR_HIGH,
-    TAG_LINEAR_LOW, TAG_LOW, TAG_ORDER,
+    encode, file_of_fields, MAX_FILE, TABLE_WIDTH, TAG_CENTRE, TAG_HIGH, TAG_LIMIT,
+    TAG_LINEAR_HIGH, TAG_LINEAR_LOW, TAG_LOW, TAG_ORDER,
 };
 
 use crate::problem_file::{bounds, definite, ends, fields, file, thin, wide, Fields};
@@ -72,7 +72,7 @@ fn good() -> Fields {
 fn with(tag: u8, content: &[u8]) -> Vec<u8> {
     let mut fields = good();
     set(&mut fields, tag, content);
-    write_summary(&fields)
+    file_of_fields(&fields)
 }
 
 fn set(fields: &mut Fields, tag: u8, content: &[u8]) {
@@ -82,12 +82,12 @@ fn set(fields: &mut Fields, tag: u8, content: &[u8]) {
 
 /// The file of the good problem with bytes after it.
 fn followed_by(tail: &str) -> Vec<u8> {
-    [write_summary(&good()), bytes(tail)].concat()
+    [file_of_fields(&good()), bytes(tail)].concat()
 }
 
 /// The file of the good problem with bytes before it.
 fn led_by(head: &str) -> Vec<u8> {
-    [bytes(head), write_summary(&good())].concat()
+    [bytes(head), file_of_fields(&good())].concat()
 }
 
 /// 10, 11, 12, 13 and 19
@@ -99,7 +99,7 @@ fn cut_and_tag_refusals() -> Vec<Case> {
     set(&mut no_centre_and_long_order, TAG_ORDER, &[2, 0]);
     // The file of the time before tag 07
     let case_p = fields(&thin("[4]", &[-8], 0, &[2]));
-    let mut past_the_end = write_summary(&good());
+    let mut past_the_end = file_of_fields(&good());
     past_the_end.pop();
     vec![
         Case::new("refused-10-one-byte-left", followed_by("01")),
@@ -113,14 +113,14 @@ fn cut_and_tag_refusals() -> Vec<Case> {
         Case::new("refused-12-then-cut", led_by("06 0000 06 0000 01 FFFF")),
         Case::new("refused-12-linear-high-again", followed_by("07 0000")),
         Case::new("refused-13-empty-file", vec![]),
-        Case::new("refused-13-no-limit", write_summary(&no_limit)),
+        Case::new("refused-13-no-limit", file_of_fields(&no_limit)),
         Case::new(
             "refused-13-case-p-of-six-fields",
-            write_summary(&case_p[..6]),
+            file_of_fields(&case_p[..6]),
         ),
         Case::new(
             "refused-13-comes-before-14",
-            write_summary(&no_centre_and_long_order),
+            file_of_fields(&no_centre_and_long_order),
         ),
     ]
 }
@@ -145,7 +145,7 @@ fn size_refusals() -> Vec<Case> {
         Case::new("refused-01-order-255", with(TAG_ORDER, &[255])),
         Case::new(
             "refused-01-comes-before-14-of-others",
-            write_summary(&order_9),
+            file_of_fields(&order_9),
         ),
         Case::new("refused-14-low-short", with(TAG_LOW, &low[..15])),
         Case::new("refused-14-high-of-order-1", with(TAG_HIGH, &low[..4])),
@@ -157,7 +157,7 @@ fn size_refusals() -> Vec<Case> {
         Case::new("refused-14-linear-low-long", with(TAG_LINEAR_LOW, &[0; 24])),
         Case::new(
             "refused-14-comes-before-3",
-            write_summary(&beyond_and_short),
+            file_of_fields(&beyond_and_short),
         ),
     ]
 }
@@ -208,7 +208,7 @@ fn entry_refusals() -> Vec<Case> {
 /// 15, and the greatest size that passes it
 fn long_files() -> Vec<Case> {
     let grown = |size: usize| {
-        let missing = size - write_summary(&good()).len();
+        let missing = size - file_of_fields(&good()).len();
         with(TAG_HIGH, &vec![0; 4 * TABLE_WIDTH + missing])
     };
     vec![
@@ -304,10 +304,10 @@ fn listed() -> Vec<Case> {
     let tags = |name: &str, fields: &str| Case::new(name, bytes(fields));
     vec![
         Case::of("case-p", &case_p),
-        Case::new("refused-19-case-p-falling", write_summary(&falling)),
+        Case::new("refused-19-case-p-falling", file_of_fields(&falling)),
         Case::new(
             "refused-19-case-p-low-and-high-exchanged",
-            write_summary(&exchanged),
+            file_of_fields(&exchanged),
         ),
         tags("refused-12-comes-before-19", "01 0000 02 0000 01 0000"),
         tags("refused-19-comes-before-13", "01 0000 03 0000 02 0000"),

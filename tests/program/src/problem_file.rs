@@ -2,7 +2,7 @@
 
 use hankboulder_reference::cases::numbers;
 use hankboulder_reference::generate::RawProblem;
-use hankboulder_reference::summary::{problem_fields, write_summary};
+use hankboulder_reference::summary::{file_of_fields, problem_fields};
 
 /// The fields of a file in the order they stand: tag and content.
 pub type Fields = Vec<(u8, Vec<u8>)>;
@@ -78,5 +78,5 @@ pub fn fields(problem: &RawProblem) -> Fields {
 
 /// The file of a problem, tags rising.
 pub fn file(problem: &RawProblem) -> Vec<u8> {
-    write_summary(&fields(problem))
+    file_of_fields(&fields(problem))
 }

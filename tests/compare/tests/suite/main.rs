@@ -6,6 +6,8 @@ mod boxes;
 mod generated;
 mod refusals;
 mod rides;
+mod shown;
+mod summaries;
 mod support;
 mod two_ends;
 mod vectors;

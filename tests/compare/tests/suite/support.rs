@@ -5,6 +5,7 @@ use hankboulder_compare::judge::JUDGE;
 use hankboulder_compare::read_sums::READ_SUMS;
 use hankboulder_compare::test_factor::TEST_FACTOR;
 use hankboulder_compare::test_vector::TEST_VECTOR;
+use hankboulder_compare::write_summary::WRITE_SUMMARY;
 use hankboulder_compare::{bytes, Act, Call};
 use hankboulder_reference::generate::RawProblem;
 use hankboulder_reference::random::Random;
@@ -55,7 +56,7 @@ impl FactorTest {
 pub type Caller = fn(&FactorTest) -> Call;
 
 /// Every act on bounds of any order.
-pub const ACTS: [(&Act, Caller); 5] = [
+pub const ACTS: [(&Act, Caller); 6] = [
     (&TEST_FACTOR, FactorTest::call),
     (&TEST_VECTOR, |test| {
         let ones = vec![1; test.order];
@@ -73,6 +74,18 @@ pub const ACTS: [(&Act, Caller); 5] = [
             numbers: vec![0, 0],
             ..call_on(&test.low, &test.high, &others)
         }
+    }),
+    (&WRITE_SUMMARY, |test| {
+        let zeros = vec![0; test.order];
+        write_call(&RawProblem {
+            order: test.order,
+            low: test.low.clone(),
+            high: test.high.clone(),
+            linear_low: zeros.clone(),
+            linear_high: zeros.clone(),
+            limit: 0,
+            centre: zeros,
+        })
     }),
 ];
 
@@ -117,6 +130,18 @@ pub fn problem_call(problem: &RawProblem) -> Call {
         numbers: vec![problem.limit],
         ..call_on(&problem.low, &problem.high, &others)
     }
+}
+
+/// The place of the file in a call of the writer
+pub const FILE: usize = 5;
+
+/// A call of the writer, whose file holds random bytes.
+pub fn write_call(problem: &RawProblem) -> Call {
+    let order = problem.order;
+    let size = 30 + 8 * order * order + 24 * order;
+    let mut call = problem_call(problem);
+    call.buffers[FILE] = Random::new(size as u64).bytes(size);
+    call
 }
 
 /// A call on bounds, with the buffers that follow them.

@@ -4,7 +4,7 @@
 use hankboulder_program::problem_file::{definite, fields, file, Fields};
 use hankboulder_program::Program;
 use hankboulder_reference::program::output;
-use hankboulder_reference::summary::write_summary;
+use hankboulder_reference::summary::file_of_fields;
 
 use crate::support::expect_all_refused;
 
@@ -32,11 +32,11 @@ fn one_problem_with_its_fields_in_every_order() {
         "{text}"
     );
     let rising = fields(&problem);
-    Program::under_test().expect(&write_summary(&rising), &text);
+    Program::under_test().expect(&file_of_fields(&rising), &text);
     let all = arrangements(&rising).into_iter();
     let others: Vec<Fields> = all.filter(|fields| *fields != rising).collect();
     assert_eq!(others.len(), 5039);
-    expect_all_refused(others.iter().map(|fields| write_summary(fields)), 19);
+    expect_all_refused(others.iter().map(|fields| file_of_fields(fields)), 19);
 }
 
 #[test]
@@ -47,15 +47,15 @@ fn each_pair_of_fields_exchanged_at_every_order() {
         for (first, second) in (1..7).flat_map(|second| (0..second).map(move |f| (f, second))) {
             let mut fields = rising.clone();
             fields.swap(first, second);
-            files.push(write_summary(&fields));
+            files.push(file_of_fields(&fields));
             // Just the two of them, and the tags alone exchanged
-            files.push(write_summary(&[
+            files.push(file_of_fields(&[
                 fields[first].clone(),
                 fields[second].clone(),
             ]));
             let mut fields = rising.clone();
             (fields[first].0, fields[second].0) = (rising[second].0, rising[first].0);
-            files.push(write_summary(&fields));
+            files.push(file_of_fields(&fields));
         }
     }
     expect_all_refused(files, 19);

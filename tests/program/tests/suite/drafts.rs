@@ -3,7 +3,7 @@
 
 use hankboulder_program::problem_file::{definite, fields, Fields};
 use hankboulder_reference::summary::{
-    encode, write_summary, TAG_CENTRE, TAG_HIGH, TAG_LIMIT, TAG_LINEAR_HIGH, TAG_LINEAR_LOW,
+    encode, file_of_fields, TAG_CENTRE, TAG_HIGH, TAG_LIMIT, TAG_LINEAR_HIGH, TAG_LINEAR_LOW,
     TAG_LOW, TAG_ORDER,
 };
 
@@ -166,7 +166,7 @@ pub fn written(drafts: &[Draft]) -> Vec<u8> {
     let mut past_end = vec![];
     for draft in drafts {
         let start = file.len();
-        file.extend(write_summary(&[(draft.tag, draft.content.clone())]));
+        file.extend(file_of_fields(&[(draft.tag, draft.content.clone())]));
         match draft.head {
             Head::Whole => {}
             Head::CutAfter(count) => {

@@ -4,7 +4,7 @@
 use hankboulder_program::problem_file::{definite, fields, file};
 use hankboulder_program::{on_threads, Program};
 use hankboulder_reference::generate::RawProblem;
-use hankboulder_reference::summary::{write_summary, TAG_ORDER};
+use hankboulder_reference::summary::{file_of_fields, TAG_ORDER};
 
 use crate::support::expect_all_refused;
 
@@ -107,7 +107,7 @@ fn refusal_16_at_every_term() {
 fn with(order: usize, tag: u8, content: Vec<u8>) -> Vec<u8> {
     let mut fields = fields(&definite(order));
     fields[usize::from(tag - TAG_ORDER)].1 = content;
-    write_summary(&fields)
+    file_of_fields(&fields)
 }
 
 #[test]
@@ -123,7 +123,7 @@ fn refusal_11_of_every_other_tag() {
         for place in [0, 7] {
             let mut fields = fields(&definite(2));
             fields.insert(place, (tag, vec![]));
-            files.push(write_summary(&fields));
+            files.push(file_of_fields(&fields));
         }
     }
     expect_all_refused(files, 11);

@@ -7,7 +7,7 @@ use hankboulder_program::problem_file::{definite, fields, file};
 use hankboulder_program::Program;
 use hankboulder_reference::program::output;
 use hankboulder_reference::summary::{
-    write_summary, MAX_FILE, TAG_HIGH, TAG_LINEAR_HIGH, TAG_LINEAR_LOW, TAG_LOW, TAG_ORDER,
+    file_of_fields, MAX_FILE, TAG_HIGH, TAG_LINEAR_HIGH, TAG_LINEAR_LOW, TAG_LOW, TAG_ORDER,
 };
 
 use crate::drafts::Fault::{
@@ -120,12 +120,12 @@ fn a_field_with_the_tag_of_an_earlier_one_is_12_unless_a_tag_falls_before() {
             let falls_before = |place: usize| (1..place).contains(&first);
             fields[later].0 = fields[earlier].0;
             let number = if falls_before(later) { 19 } else { 12 };
-            files.push((write_summary(&fields), number));
+            files.push((file_of_fields(&fields), number));
             // A bad tag that stands twice is 11.
             fields[earlier].0 = 0x47;
             fields[later].0 = 0x47;
             let number = if falls_before(earlier) { 19 } else { 11 };
-            files.push((write_summary(&fields), number));
+            files.push((file_of_fields(&fields), number));
         }
     }
     expect_refused(&files);
@@ -152,9 +152,9 @@ fn a_length_that_reaches_the_end_is_not_cut() {
 #[test]
 fn every_shorter_part_of_a_file_is_10_or_13() {
     let good = fields(&definite(2));
-    let file = write_summary(&good);
+    let file = file_of_fields(&good);
     let starts: Vec<usize> = (0..FIELDS)
-        .map(|count| write_summary(&good[..count]).len())
+        .map(|count| file_of_fields(&good[..count]).len())
         .collect();
     let number = |length: &usize| if starts.contains(length) { 13 } else { 10 };
     let lengths = 0..file.len();

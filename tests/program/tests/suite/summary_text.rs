@@ -97,7 +97,7 @@ fn without_comments(text: &str) -> String {
 
 #[test]
 fn the_examples_belong_together() {
-    for name in ["ellipse", "saddle"] {
+    for name in ["ellipse", "saddle", "ride"] {
         let read = |end: &str| fs::read(example(&format!("{name}.{end}"))).expect("an example");
         let read_text = |end: &str| String::from_utf8(read(end)).expect("a text");
         let summary = read("summary");
@@ -106,6 +106,30 @@ fn the_examples_belong_together() {
         assert_eq!(shown.text(), without_comments(&read_text("txt")));
         assert_eq!(run("hex", &summary).text(), read_text("hex"));
         Program::under_test().expect(&summary, &read_text("expected"));
+    }
+}
+
+/// A file that is named is read as one on standard input is; a name that is none is
+/// said.
+#[test]
+fn a_file_may_be_named() {
+    let named = |command: &str, name: &str| {
+        let done = Command::new("python3")
+            .arg(example("summary.py"))
+            .args([command, name])
+            .stdin(Stdio::null())
+            .output()
+            .expect("python3 is there");
+        let status = done.status.code().expect("the script ends by itself");
+        Done::new(status, done.stdout, done.stderr)
+    };
+    let path = |end: &str| example(&format!("ellipse.{end}")).display().to_string();
+    for (command, end) in [("show", "summary"), ("hex", "summary"), ("make", "txt")] {
+        let given = fs::read(path(end)).expect("an example");
+        assert_eq!(named(command, &path(end)), run(command, &given));
+        let missing = named(command, "no such file");
+        assert!(!missing.passed && missing.printed.is_empty());
+        assert_eq!(missing.message, "no such file: No such file or directory\n");
     }
 }
 
