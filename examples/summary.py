@@ -1,11 +1,13 @@
 #!/usr/bin/env python3
-"""Summary files, which the program "judge" reads, from text and back.
+"""Summary files, which the library writes and reads and the program "judge" reads, from text and back.
 
-    python3 examples/summary.py make < problem.txt > problem.summary
-    python3 examples/summary.py show < problem.summary > problem.txt
-    python3 examples/summary.py hex < problem.summary
+    python3 examples/summary.py show problem.summary
+    python3 examples/summary.py hex problem.summary
+    python3 examples/summary.py make problem.txt > problem.summary
 
-`make` writes the file of a problem, `show` prints the problem of a file, and `hex` lists a file's bytes, a line for each field.
+`show` prints the problem of a file, `hex` lists a file's bytes, a line for each field, and `make` writes the file of a problem. Without a
+name they read standard input. What `show` prints, `make` takes. `make` writes the bytes that hb_write_summary writes, and the numbers that
+`show` prints are those that hb_read_summary reads.
 
 The text form is this. `#` starts a comment, and empty lines are passed over. All numbers are whole.
 
@@ -330,9 +332,9 @@ def note(problem):
         print(f"note: the judge will answer {refusal}", file=sys.stderr)
 
 
-def make():
+def make(given):
     try:
-        text = sys.stdin.buffer.read().decode()
+        text = given.decode()
     except UnicodeDecodeError:
         raise TextError(1, "this is not a text") from None
     problem = parse(text)
@@ -340,14 +342,13 @@ def make():
     sys.stdout.buffer.write(write(problem))
 
 
-def show():
-    problem = read(sys.stdin.buffer.read())
+def show(file):
+    problem = read(file)
     note(problem)
     print(text_of(problem), end="")
 
 
-def hex_listing():
-    file = sys.stdin.buffer.read()
+def hex_listing(file):
     lines, refused = listing(file)
     print("".join(line + "\n" for line in lines), end="")
     if refused:
@@ -358,15 +359,29 @@ def hex_listing():
 COMMANDS = {"make": make, "show": show, "hex": hex_listing}
 
 
+def contents(names):
+    """The bytes of the named file, or of standard input."""
+    if not names:
+        return sys.stdin.buffer.read()
+    with open(names[0], "rb") as file:
+        return file.read()
+
+
 def main(arguments):
     if arguments == ["--help"]:
         print(__doc__, end="")
         return 0
-    if len(arguments) != 1 or arguments[0] not in COMMANDS:
-        print("summary.py: it takes one word, make, show or hex; summary.py --help says more", file=sys.stderr)
+    if len(arguments) not in (1, 2) or arguments[0] not in COMMANDS:
+        print("summary.py: it takes make, show or hex, and the name of a file or none; summary.py --help says more", file=sys.stderr)
         return 2
+    command, *names = arguments
     try:
-        COMMANDS[arguments[0]]()
+        given = contents(names)
+    except OSError as error:
+        print(f"{' '.join(names)}: {error.strerror}", file=sys.stderr)
+        return 1
+    try:
+        COMMANDS[command](given)
     except (Refused, TextError) as error:
         print(error, file=sys.stderr)
         return 1
