@@ -44,7 +44,12 @@ abbrev caseP : ℤ → ℤ → ℤ → ℤ → ℕ → Call
 caseP n l b c k =
     record { order = n; low = l ∷ []; high = pos 4 ∷ []; linear-low = negsuc 7 ∷ []; linear-high = b ∷ []; limit = pos 0; centre = c ∷ []; size = k }
 
--- and its file
+-- M = [m], a = −8 and c = 2: W34 to W37
+abbrev worked : ℤ → ℤ → ℤ → ℕ → Call
+worked n m α k =
+    record { order = n; low = m ∷ []; high = m ∷ []; linear-low = negsuc 7 ∷ []; linear-high = negsuc 7 ∷ []; limit = α; centre = pos 2 ∷ []; size = k }
+
+-- the file of W34, case P
 abbrev fileP : List ℕ
 fileP =
     1 ∷ 1 ∷ 0 ∷ 1
@@ -75,7 +80,11 @@ tooLarge = pos (entryRange + 1)
 
 abbrev lines : List Line
 lines =
-    record { call = caseP (pos 1) (pos 4) (negsuc 7) (pos 2) 62; expected = record { answer = Passed; file = fileP } }
+    -- W34 to W37, as the rules state them
+    record { call = worked (pos 1) (pos 4) (pos 0) 62; expected = record { answer = Passed; file = fileP } }
+    ∷ refused Order (worked (pos 257) (pos 4) (pos 0) 62)
+    ∷ refused Range (worked (pos 1) (pos (2 ^ 32 + 4)) (pos 0) 62)
+    ∷ refused Length (worked (pos 1) (pos 4) (pos (2 ^ 54 + 1)) 61)
     -- 1 comes before 2
     ∷ refused Order (caseP (pos 0) (pos 4) (negsuc 7) (pos 2) 62)
     ∷ refused Order (caseP (pos (greatestOrder + 1)) (pos 4) (negsuc 7) (pos 2) 0)

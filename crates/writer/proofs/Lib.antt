@@ -1,3 +1,4 @@
 pub mod Fields
 pub mod Acting
+mod Again
 mod Examples

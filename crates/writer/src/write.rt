@@ -106,13 +106,14 @@ pub fn write_checked(problem: Problem, file: &mut [u8]) -> Checked
         (file .entry))) ⌝ }
 {
     let checked = check_problem(problem);
-    match checked {
-        Checked::Passed => {
-            write_file(problem, file);
-            Checked::Passed
-        }
-        Checked::Refused(r) => Checked::Refused(r),
+    let passed = match checked {
+        Checked::Passed => true,
+        Checked::Refused(_) => false,
+    };
+    if passed {
+        write_file(problem, file);
     }
+    checked
 }
 
 // The summary file of a problem of any numbers at all: n is an order or not, and each slice has any length. Refused by the first of the
