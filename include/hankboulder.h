@@ -14,8 +14,8 @@
  * In a buffer each number is HB_NUMBER_BYTES = 8 bytes: signed, two's complement, low byte first, whatever the processor's own byte order is. A table or
  * a factor has n * n numbers, row by row (the entry of row i and column j, counted from 0, starts at byte 8 * (i * n + j)), so it is HB_TABLE_BYTES(n)
  * bytes long. A vector, an end of the linear terms and a centre have n, and are HB_VECTOR_BYTES(n) bytes long. The sides of a box have
- * 2 * n (the low and the high of side 0, those of side 1, and so on), and are HB_SIDES_BYTES(n) bytes long. A running limit that is lent, and a
- * limit that is written, are HB_NUMBER_BYTES long. hb_load_number and hb_store_number, below, read and store one number on any processor. Where the
+ * 2 * n (the low and the high of side 0, those of side 1, and so on), and are HB_SIDES_BYTES(n) bytes long. A running limit that is lent, a
+ * limit that is written and an order that is written are HB_NUMBER_BYTES long. hb_load_number and hb_store_number, below, read and store one number on any processor. Where the
  * processor stores the low byte first, an array of int64_t has this form already and is passed as it is:
  *
  *     int64_t low[4] = {2, 1, 1, 2};
@@ -42,8 +42,8 @@
  * - Every call returns, with one of the numbers that the function's comment lists. Any contents, any lengths and any n are answered: what is wrong with
  *   them is named by a refusal.
  * - Lengths are in bytes. A pointer must point to as many readable bytes as its length says, and writable ones where it is not const. It may be null
- *   where the length is 0: that is an empty buffer, and is refused by HB_REFUSED_LENGTH if n is good and no earlier check fails (an empty file by
- *   HB_REFUSED_ABSENT).
+ *   where the length is 0: that is an empty buffer, and is refused by HB_REFUSED_LENGTH if n is good and no earlier check fails (in
+ *   hb_read_summary an empty file by HB_REFUSED_ABSENT).
  * - Pointers need no alignment.
  * - The buffers of one call must not overlap: nothing is promised where they do. There are two exceptions, both of buffers that are only
  *   read, so const: low and high may be the same table, and linear_low and linear_high the same buffer. hb_gather and hb_read_summary write all of

@@ -1,5 +1,5 @@
 // The library from Rattle: the acts and the residual on small problems, a sample gathered into running sums and these read, a summary file
-// and its fields, and a function whose own contract rests on the judge's. What is printed is held to the file stdout.
+// written, read, and its fields, and a function whose own contract rests on the judge's. What is printed is held to the file stdout.
 ghost use mathlib.Core.Path.{_≡_};
 ghost use mathlib.Core.Bool.{true};
 ghost use Prim.Native.Nat.{_≤_};
@@ -316,6 +316,30 @@ fn read_summary() {
     print_reading(summary::problem::read(&file[..61]));
 }
 
+// The summary file of 4x² - 16x ≤ 0 around 2, written from its numbers. The same around 2^12 + 1 is refused by 3, with the file kept. Then
+// it is read.
+fn write_summary() {
+    let matrix = [4i64; 1];
+    let linear = [-8i64; 1];
+    let centre = [2i64; 1];
+    let far = [4097i64; 1];
+    let mut file = [5u8; 62];
+    let written = writer::write::write(
+        1,
+        &matrix,
+        &matrix,
+        &linear,
+        &linear,
+        0,
+        &centre,
+        &mut file,
+    );
+    print_checked(b"write", written);
+    let refused = writer::write::write(1, &matrix, &matrix, &linear, &linear, 0, &far, &mut file);
+    print_checked(b"write", refused);
+    print_reading(summary::problem::read(&file));
+}
+
 // The limit and the ends of the first linear term of a problem that was read, or the number by which its file is refused.
 fn print_reading(reading: Reading) {
     let checked = reading.checked;
@@ -356,5 +380,6 @@ fn main() {
     gathered();
     promised();
     read_summary();
+    write_summary();
     read_fields();
 }

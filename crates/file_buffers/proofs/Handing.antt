@@ -68,9 +68,9 @@ module _ (s : List ℕ) (b : Parts) where
   handing-sized e = rw (e, readSummary)
 
   module _ (z : partsRoomy b ≡ true) where
-    pub handing-refused : (r : Refusal) → reading s .checked ≡ Checked.Refused r → record { answer = Checked.Refused r; parts = b } ≡ readSummary s b
+    pub handing-refused : {k : Checked} (r : Refusal) → k ≡ reading s .checked → k ≡ Checked.Refused r → record { answer = k; parts = b } ≡ readSummary s b
     unfolding readSummary handed
-    handing-refused r e = rw (z, readSummary, e, handed)
+    handing-refused r f e = rw (z, readSummary, ← f, e, handed)
 
     handing-passed : reading s .checked ≡ Checked.Passed → record { answer = Checked.Passed; parts = stored (reading s .problem) } ≡ readSummary s b
     unfolding readSummary handed
@@ -81,9 +81,9 @@ module _ (s : List ℕ) (b : Parts) where
     handing-read p e = rw (z, readSummary) (ap (λ (r : Reading). handed r b) e)
 
     -- buffers that were written from what was read
-    pub handing-written : {r : Reading} {d : Parts} → r ≡ reading s → r .checked ≡ Checked.Passed → d ≡ stored (r .problem) → record { answer = Checked.Passed; parts = d } ≡ readSummary s b
+    pub handing-written : {r : Reading} {d : Parts} → r ≡ reading s → r .checked ≡ Checked.Passed → d ≡ stored (r .problem) → record { answer = r .checked; parts = d } ≡ readSummary s b
     handing-written {r} {d} f e g =
-        ap (λ (x : Parts). record { answer = Checked.Passed; parts = x }) (g ∙ ap (λ (x : Reading). stored (x .problem)) f)
+        ap (λ (k : Checked). record { answer = k; parts = d }) e ∙ ap (λ (x : Parts). record { answer = Checked.Passed; parts = x }) (g ∙ ap (λ (x : Reading). stored (x .problem)) f)
         ∙ handing-passed (sym (ap (λ (x : Reading). x .checked) f) ∙ e)
 
 -- a call that is not refused: the file is accepted, and its problem is stored

@@ -1,4 +1,4 @@
--- R15 and R17 of docs/RULES.md: the problem of a summary file in seven buffers of bytes, 8 bytes for each number.
+-- R15, R17 and R25 of docs/RULES.md: the problem of a summary file in seven buffers of bytes, 8 bytes for each number.
 use mathlib.Core.Path.{_≡_}
 use mathlib.Core.Bool.{Bool, true, false, _&&_}
 use mathlib.Core.List.{List, _++_}
@@ -40,7 +40,7 @@ pub record Handed : Type 0 where
   pub answer : Checked
   pub parts : Parts
 
--- ---- 2: tables and vectors have the size of the greatest order, order and limit that of one number
+-- ---- R25.1, 2: tables and vectors have the size of the greatest order, order and limit that of one number
 unfoldable pub roomy : ℕ → Lengths → ℕ → ℕ → Bool
 roomy n lengths α c =
     constraintSized (record { table = tableRoom * bytes w64; vector = greatestOrder * bytes w64 }) lengths
@@ -56,7 +56,7 @@ partsRoomy b =
 abbrev pub inFront : ℕ → ℕ → List ℤ → List ℕ
 inFront room k x = bytesOf w64 x k ++ replicate ((room - k) * bytes w64) 0
 
--- a problem in buffers of the greatest order
+-- R25.3: a problem in buffers of the greatest order
 unfoldable pub partsOf : Problem → Parts
 partsOf p =
     let c = p .constraint in
@@ -70,7 +70,7 @@ partsOf p =
     (bytesOfNumber (c .limit))
     (inFront greatestOrder n (p .centre))
 
--- a problem that was read is stored, or all buffers are kept
+-- R25.3, R25.4: a problem that was read is stored, or all buffers are kept
 unfoldable pub handed : Reading → Parts → Handed
 handed r b =
     elim (r .checked) [
@@ -78,7 +78,7 @@ handed r b =
       | Checked.Refused e ↦ record { answer = Checked.Refused e; parts = b }
     ]
 
--- a file read into buffers: 2 of the buffers, then what the file gives
+-- R25.2: a file read into buffers: 2 of the buffers, then what the file gives
 unfoldable pub readSummary : List ℕ → Parts → Handed
 readSummary s b = elim (partsRoomy b) [ true ↦ handed (reading s) b | false ↦ record { answer = Checked.Refused Length; parts = b } ]
 

@@ -1,4 +1,4 @@
-// A summary file, read into buffers of bytes.
+// A summary file, read into buffers of bytes: R25 of docs/RULES.md.
 ghost use mathlib.Core.Path.{_≡_};
 ghost use Rattle.file_buffers.specs.Parts.{parts, roomy, Handed, readSummary};
 use crate::storing::store_bounds;
@@ -52,15 +52,16 @@ pub fn read_summary(
     }
     let reading = summary::problem::read(file);
     let checked = reading.checked;
-    match checked {
-        Checked::Passed => {
-            let problem = reading.problem;
-            let constraint = problem.constraint;
-            store_bounds(constraint, low, high);
-            store_linear(constraint.linear, from, to);
-            store_others(problem, order, limit, centre);
-            Checked::Passed
-        }
-        Checked::Refused(r) => Checked::Refused(r),
+    let passed = match checked {
+        Checked::Passed => true,
+        Checked::Refused(_) => false,
+    };
+    if passed {
+        let problem = reading.problem;
+        let constraint = problem.constraint;
+        store_bounds(constraint, low, high);
+        store_linear(constraint.linear, from, to);
+        store_others(problem, order, limit, centre);
     }
+    checked
 }

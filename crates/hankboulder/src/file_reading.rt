@@ -1,4 +1,4 @@
-// R15 of docs/RULES.md, the entry for C that reads a summary file.
+// R15 and R25 of docs/RULES.md, the entry for C that reads a summary file.
 ghost use mathlib.Core.Path.{_≡_};
 ghost use Rattle.file_buffers.specs.Parts.{parts};
 ghost use Rattle.hankboulder.specs.Entries.{ReadSummaryResult, readSummaryEntry};
