@@ -200,10 +200,13 @@ int main(int count, char **arguments)
     read_file(kept.file, sizeof kept.file - 1, &problem);
 
     /* For a workshop: the file as it is, which the program "judge" reads */
-    FILE *file = count > 1 ? fopen(arguments[1], "wb") : NULL;
-    if (file) {
-        fwrite(kept.file, 1, sizeof kept.file, file);
-        fclose(file);
+    if (count > 1) {
+        FILE *file = fopen(arguments[1], "wb");
+        size_t size = file ? fwrite(kept.file, 1, sizeof kept.file, file) : 0;
+        if (!file || fclose(file) != 0 || size != sizeof kept.file) {
+            printf("the file is not written\n");
+            return 1;
+        }
     }
     return 0;
 }

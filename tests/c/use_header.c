@@ -676,8 +676,8 @@ static void run_read_summary(void)
 static void run_summaries(void)
 {
     static const size_t sizes[] = {62, 110, 174, 254, 350, 462, 590, 734};
-    uint8_t table[HB_TABLE_BYTES(HB_MAX_ORDER)], terms[HB_VECTOR_BYTES(HB_MAX_ORDER)], file[HB_SUMMARY_BYTES(HB_MAX_ORDER)];
-    uint8_t again[HB_SUMMARY_BYTES(HB_MAX_ORDER)];
+    uint8_t table[HB_TABLE_BYTES(HB_MAX_ORDER)], terms[HB_VECTOR_BYTES(HB_MAX_ORDER)], centre[HB_VECTOR_BYTES(HB_MAX_ORDER)];
+    uint8_t file[HB_SUMMARY_BYTES(HB_MAX_ORDER)], again[HB_SUMMARY_BYTES(HB_MAX_ORDER)];
     struct held held;
     int64_t n, k;
     for (n = 1; n <= HB_MAX_ORDER; n++) {
@@ -685,14 +685,17 @@ static void run_summaries(void)
         expect("the size of a file", (int64_t)size, (int64_t)sizes[n - 1]);
         for (k = 0; k < n * n; k++)
             hb_store_number(table + HB_NUMBER_BYTES * k, (k / n + 1) * (k % n + 1) - 10);
-        for (k = 0; k < n; k++)
+        for (k = 0; k < n; k++) {
             hb_store_number(terms + HB_NUMBER_BYTES * k, 500 * k - 2000);
-        expect("write a file", hb_write_summary(n, table, side, table, side, terms, vector, terms, vector, -n, terms, vector, file, size), HB_WRITTEN);
+            hb_store_number(centre + HB_NUMBER_BYTES * k, 1000 - 300 * k);
+        }
+        expect("write a file", hb_write_summary(n, table, side, table, side, terms, vector, terms, vector, -n, centre, vector, file, size), HB_WRITTEN);
         expect("read it", read_file(file, size, &held, 0), HB_WRITTEN);
         expect("its order", hb_load_number(held.order), n);
         expect("its limit", hb_load_number(held.limit), -n);
         expect("its tables", memcmp(held.low, table, side) == 0 && memcmp(held.high, table, side) == 0, 1);
         expect("its terms", memcmp(held.linear_low, terms, vector) == 0 && memcmp(held.linear_high, terms, vector) == 0, 1);
+        expect("its centre", memcmp(held.centre, centre, vector), 0);
         expect("write it again",
                hb_write_summary(hb_load_number(held.order), held.low, side, held.high, side, held.linear_low, vector, held.linear_high, vector,
                                 hb_load_number(held.limit), held.centre, vector, again, size),

@@ -316,8 +316,8 @@ fn read_summary() {
     print_reading(summary::problem::read(&file[..61]));
 }
 
-// The summary file of 4x² - 16x ≤ 0 around 2, written from its numbers. The same around 2^12 + 1 is refused by 3, with the file kept. Then
-// it is read.
+// The summary file of 4x² - 16x ≤ 0 around 2, written from its numbers. The same around 2^12 + 1 is refused by 3, with the file kept.
+// Then it is read.
 fn write_summary() {
     let matrix = [4i64; 1];
     let linear = [-8i64; 1];

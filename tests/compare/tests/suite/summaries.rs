@@ -205,7 +205,8 @@ fn refusal_2_for_every_other_size_of_every_buffer_of_the_writer() {
     for order in 1..=8 {
         let good = write_call(&good(order));
         for (place, buffer) in good.buffers.iter().enumerate() {
-            let sizes = (0..=1000).chain([4096, 4097, 65_536]);
+            // One whose low 16 bits are the right size is among them
+            let sizes = (0..=1000).chain([4096, 4097, 65_536, buffer.len() + 65_536]);
             for other in sizes.filter(|other| *other != buffer.len()) {
                 let mut call = good.clone();
                 call.buffers[place] = vec![0xC3; other];
@@ -390,7 +391,8 @@ fn refusal_2_for_every_other_size_of_an_output() {
     let good = hexadecimal(CASE_P);
     let files = [good, vec![], vec![0xFF; 4097], vec![1, 2, 3]];
     for (place, size) in SIZES.into_iter().enumerate() {
-        for other in (0..=600).chain([4096]).filter(|other| *other != size) {
+        let sizes = (0..=600).chain([4096, 65_536, size + 65_536]);
+        for other in sizes.filter(|other| *other != size) {
             for file in &files {
                 let mut outputs = unwritten();
                 outputs[place] = vec![0xC3; other];
@@ -439,6 +441,9 @@ fn refusals_of_listed_files() {
         expect([&case_p[..], &vec![7; more]].concat(), 10);
     }
     expect([&case_p[..], &[7, 0, 0]].concat(), 12);
+    // A length whose low 16 bits are those of a good file
+    expect([&case_p[..], &vec![7; 65_536]].concat(), 15);
+    expect([&case_p[..], &vec![0; 65_536]].concat(), 15);
 }
 
 /// Every byte of a file changed to every other value: the same answer and outputs as
