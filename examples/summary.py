@@ -6,8 +6,8 @@
     python3 examples/summary.py make problem.txt > problem.summary
 
 `show` prints the problem of a file, `hex` lists a file's bytes, a line for each field, and `make` writes the file of a problem. Without a
-name they read standard input. What `show` prints, `make` takes. `make` writes the bytes that hb_write_summary writes, and the numbers that
-`show` prints are those that hb_read_summary reads.
+name they read standard input. What `show` prints, `make` takes. For a problem that is not refused `make` writes the bytes that
+hb_write_summary writes, and the numbers that `show` prints are those that hb_read_summary reads.
 
 The text form is this. `#` starts a comment, and empty lines are passed over. All numbers are whole.
 
