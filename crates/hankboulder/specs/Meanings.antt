@@ -81,7 +81,7 @@ pub record ReadMeaning (n : ℤ) (l u a b : List ℕ) (α K r : ℤ) (s : List �
   pub allows : r ≡ pos 0 → (g v : ℤ) → pos 1 ≤ℤ v → g ≤ℤ (K *ℤ v) → (X : ℕ → ℤ) (p : ℤ) → pos 1 ≤ℤ p →
       Explained (spelledWith n l u a b α) g v X p → Allowed (spelledWith n l u a b (numberOf s)) X p
 
--- of a file s that is read into buffers; d: the buffers as they are left
+-- of a file s that is read into buffers; d: the buffers as they are left, with `from` and `to` for linear_low and linear_high
 pub record ReadSummaryMeaning (s : List ℕ) (d : Parts) (r : ℤ) : Type 0 where
   -- 0, all buffers are written: the file is accepted, and its problem is the one that the fronts of the buffers spell
   pub problem : r ≡ pos 0 → reading s ≡ record { checked = Passed; problem = problemIn d }
