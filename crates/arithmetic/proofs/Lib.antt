@@ -1,4 +1,4 @@
 pub mod Between
-pub mod Extremes
+pub mod Signs
 pub mod Products
 pub mod Quotients

@@ -1,28 +1,14 @@
-// Numbers of 64 bits: the smaller, the greater, |x|, sums of products, and quotients and roots that are rounded up.
+// Numbers of 64 bits: |x|, sums of products, and quotients and roots that are rounded up.
 ghost use mathlib.Core.Path.{_≡_};
 ghost use Prim.Native.Nat.{_^_};
 ghost use lib.IntN.{pos, _*ℤ_};
 ghost use lib.Signed.{_≤ℤ_};
-ghost use Rattle.integers.specs.Numbers.{Within, absℤ, minℤ, maxℤ};
+ghost use Rattle.integers.specs.Numbers.{Within, absℤ};
 ghost use Rattle.integers.specs.Sum.{sum};
 ghost use Rattle.integers.specs.Division.{ceilDiv};
 ghost use Rattle.integers.specs.Root.{leastRoot};
 ghost use Rattle.tables.specs.Matrix.{nth};
 ghost use Rattle.arithmetic.specs.Contracts.{boundRange, ProductTerms};
-
-// The smaller of two numbers.
-pub fn smaller(x: i64, y: i64) -> i64
-    ensures { λ r. ⌜ r ≡ minℤ x y ⌝ }
-{
-    if x <= y { x } else { y }
-}
-
-// The greater of two numbers.
-pub fn greater(x: i64, y: i64) -> i64
-    ensures { λ r. ⌜ r ≡ maxℤ x y ⌝ }
-{
-    if x <= y { y } else { x }
-}
 
 // |x|
 pub fn absolute(x: i64) -> i64

@@ -24,7 +24,7 @@ use Rattle.tables.proofs.Checks.{all-at, le-of}
 use Rattle.vectors.specs.Least.{leastMember, leastValue}
 use Rattle.vectors.specs.LeastShares.{Asked}
 use Rattle.vectors.proofs.Showing.{least-by}
-use Rattle.arithmetic.proofs.Extremes.{within-min}
+use Rattle.integers.proofs.Extremes.{within-min}
 use Rattle.arithmetic.proofs.Products.{two-within}
 use Rattle.centre.specs.Centre.{leastSum, lowGradient, gradient, atCentre}
 use Rattle.centre.specs.Contracts.{rowTermRange, linearTermRange, formTermRange, LinearTerms, Centred, Factors, TermFactors}

@@ -13,8 +13,8 @@ ghost use Rattle.tables.specs.Problem.{endsOf};
 ghost use Rattle.centre.specs.Centre.{leastSum, gradient, atCentre};
 ghost use Rattle.centre.specs.Contracts.{LinearTerms, Centred, Factors, TermFactors};
 use arithmetic::absolute;
-use arithmetic::greater;
-use arithmetic::smaller;
+use integers::greater;
+use integers::smaller;
 use tables::GRADIENT_RANGE;
 use tables::Vector;
 

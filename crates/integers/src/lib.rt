@@ -1,10 +1,25 @@
-// Floor division and whole root of signed 64-bit numbers, R1.1 and R1.3 of docs/RULES.md.
+// Signed 64-bit numbers: the smaller and the greater of two, floor division and whole root, R1.1 and R1.3 of docs/RULES.md.
 ghost use mathlib.Core.Path.{_≡_};
 ghost use Prim.Native.Nat.{_+_, _*_, _^_, _/_, _≤_, _<_};
 ghost use lib.IntN.{pos};
 ghost use lib.Signed.{_≤ℤ_, mag};
+ghost use Rattle.integers.specs.Numbers.{minℤ, maxℤ};
 ghost use Rattle.integers.specs.Division.{floorDiv};
 ghost use Rattle.integers.specs.Root.{wholeRoot};
+
+// The smaller of two numbers.
+pub fn smaller(x: i64, y: i64) -> i64
+    ensures { λ r. ⌜ r ≡ minℤ x y ⌝ }
+{
+    if x <= y { x } else { y }
+}
+
+// The greater of two numbers.
+pub fn greater(x: i64, y: i64) -> i64
+    ensures { λ r. ⌜ r ≡ maxℤ x y ⌝ }
+{
+    if x <= y { y } else { x }
+}
 
 // a / d rounded down toward minus infinity. The machine rounds toward zero: where a is negative, -1 - a is divided, and the quotient is
 // taken off -1.

@@ -12,7 +12,7 @@ ghost use Rattle.lookahead.specs.LeastSums.{shareAfter, leastShares, Sha
 use crate::ahead::OTHER_SIGN_START;
 use crate::ahead::Pairs;
 use crate::ahead::row_entry;
-use arithmetic::smaller;
+use integers::smaller;
 
 // What an entry would add if it were 1, and if it were -1.
 pub struct Share {

@@ -26,7 +26,7 @@ use Rattle.tables.specs.Buffers.{Filled}
 use Rattle.arithmetic.specs.Contracts.{boundRange, ProductTerms}
 use Rattle.sides.specs.Contracts.{differenceRange, halfRange, Near, SidesIn, boxIn}
 use Rattle.arithmetic.proofs.Quotients.{within-ceil, within-root}
-use Rattle.arithmetic.proofs.Extremes.{within-min}
+use Rattle.integers.proofs.Extremes.{within-min}
 use Rattle.arithmetic.proofs.Products.{terms-within, two-within}
 
 -- ---- B and B2

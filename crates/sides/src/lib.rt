@@ -15,7 +15,7 @@ ghost use Rattle.sides.specs.Contracts.{differenceRange, Near, SidesRead
 use arithmetic::ceil_div;
 use arithmetic::least_root;
 use arithmetic::product_sum;
-use arithmetic::smaller;
+use integers::smaller;
 use tables::GREATEST_ORDER;
 use tables::Sides;
 use tables::Vector;

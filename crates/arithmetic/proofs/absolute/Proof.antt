@@ -3,7 +3,7 @@ use mathlib.Core.Path.{_∙_}
 use native.Mathlib.Omega.{arith}
 use Rattle.integers.proofs.Machine.{clean, lt-yes, lt-no, fits-literal}
 use Rattle.arithmetic.proofs.Quotients.{fits-minus}
-use Rattle.arithmetic.proofs.Extremes.{abs-of-negative, abs-of-nonneg}
+use Rattle.arithmetic.proofs.Signs.{abs-of-negative, abs-of-nonneg}
 use Rattle.arithmetic.proofs.absolute.Statement.{statement}
 use Rattle.arithmetic.proofs.absolute.Tie as tie
 

@@ -11,7 +11,7 @@ use Rattle.integers.specs.Sum.{sum}
 use Rattle.integers.proofs.Machine.{clean, clean-element, clean-result, within-more, fits-within}
 use Rattle.integers.proofs.Sums.{sum-zero, sum-suc}
 use Rattle.tables.specs.Matrix.{nth}
-use Rattle.arithmetic.proofs.Extremes.{within-min, within-max}
+use Rattle.integers.proofs.Extremes.{within-min, within-max}
 use Rattle.centre.specs.Centre.{lowGradient, highGradient, gradient}
 use Rattle.centre.proofs.Magnitudes.{picked, low-factors, high-factors, picked-fits, picked-row}
 use Rattle.centre.proofs.gradient.Statement.{statement}

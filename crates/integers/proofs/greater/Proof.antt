@@ -1,9 +1,9 @@
 -- By the test.
 use mathlib.Core.Path.{_∙_}
 use Rattle.integers.proofs.Machine.{clean}
-use Rattle.arithmetic.proofs.Extremes.{max-first, max-second}
-use Rattle.arithmetic.proofs.greater.Statement.{statement}
-use Rattle.arithmetic.proofs.greater.Tie as tie
+use Rattle.integers.proofs.Extremes.{max-first, max-second}
+use Rattle.integers.proofs.greater.Statement.{statement}
+use Rattle.integers.proofs.greater.Tie as tie
 
 pub greater-spec : {M : Type 1} → statement M
 greater-spec =

@@ -1,9 +1,9 @@
 -- By the test.
 use mathlib.Core.Path.{_∙_}
 use Rattle.integers.proofs.Machine.{clean}
-use Rattle.arithmetic.proofs.Extremes.{min-first, min-second}
-use Rattle.arithmetic.proofs.smaller.Statement.{statement}
-use Rattle.arithmetic.proofs.smaller.Tie as tie
+use Rattle.integers.proofs.Extremes.{min-first, min-second}
+use Rattle.integers.proofs.smaller.Statement.{statement}
+use Rattle.integers.proofs.smaller.Tie as tie
 
 pub smaller-spec : {M : Type 1} → statement M
 smaller-spec =
