@@ -8,17 +8,20 @@ use lib.IntN.{ℤ, pos, negsuc, natAbs}
 use lib.Signed.{_≤ℤ_, leZ}
 use lib.ListN.{length, take, drop, replicate, length-append, length-drop, length-replicate, replicate-append-replicate}
 use lib.Seq.{take-all, drop-at}
+use Rattle.integers.specs.Numbers.{minℤ, maxℤ}
 use Rattle.integers.proofs.Parts.{≤-out}
 use Rattle.tables.specs.Ranges.{greatestOrder, tableRoom, entryRange}
 use Rattle.tables.specs.Matrix.{Matrix, nth, at}
-use Rattle.tables.specs.Checks.{all, within, allWithin, tablesWithin, nowhereCrossed, same, symmetric, boundsChecks, firstRefusal, orderOk, orderOf, entryChecks}
-use Rattle.tables.specs.Entering.{Exact, Blank, Over, Laid, Entered, doorChecks, entered}
+use Rattle.tables.specs.Checks.{Check, all, within, allWithin, tablesWithin, nowhereCrossed, boundsChecks, firstRefusal, orderOk, orderOf, entryChecks}
+use Rattle.tables.specs.Mending.{mendedBy, mendedLow, mendedHigh}
+use Rattle.tables.specs.Entering.{Exact, Blank, Rooms, Over, Laid, Mended, Held, Entered, doorChecks, entered}
 use Rattle.tables.specs.declared.Refusal.{Refusal}
 use Rattle.tables.specs.declared.Refusal.the-variants.{Order, Length}
 use Rattle.tables.specs.declared.Checked.{Checked}
 use Rattle.tables.specs.declared.Checked.the-variants.{Passed, Refused}
 use Rattle.tables.proofs.Matrix.{nth-padded, at-padded, table-fits}
-use Rattle.tables.proofs.Checks.{false-of, first-passes, first-refuses, first-none, first-passed, rest-passed, more-checks, no-more-checks, order-of, passed-bounds, and-left}
+use Rattle.tables.proofs.MendedTables.{mended-over}
+use Rattle.tables.proofs.Checks.{false-of, first-passes, first-refuses, first-none, first-passed, rest-passed, more-checks, no-more-checks, order-of, passed-bounds, mended-passed, and-left}
 use Rattle.tables.proofs.Answers.{after-refused, after-passed, after-means, prefix-passed}
 
 -- ---- a list of numbers with zeros behind it
@@ -72,10 +75,6 @@ pub crossed-same : (m : ℕ) (x x′ y y′ : List ℤ) → nth x′ ≡ nth x �
 unfolding nowhereCrossed
 crossed-same m x x′ y y′ p q = ap₂ (λ (f g : ℕ → ℤ). all m (λ i. leZ (f i) (g i))) p q
 
-symmetric-padded : (n : ℕ) {x x′ : List ℤ} → Padded x x′ → symmetric n x′ ≡ symmetric n x
-unfolding symmetric
-symmetric-padded n p = ap (λ (M : Matrix). all n (λ i. all i (λ j. same (M i j) (M j i)))) (padded-at p n)
-
 -- where check 3 passes the other numbers pass, and so do the bounds alone
 others-within : (others : Bool) (n : ℕ) (l u : List ℤ) → firstRefusal (boundsChecks others n l u) ≡ Passed → others ≡ true
 unfolding boundsChecks
@@ -86,10 +85,27 @@ unfolding boundsChecks
 others-passed true n l u e = e
 others-passed false n l u e = cc (first-passed _ _ e)
 
+-- with the act's other numbers
+pub bounds-mended : (others : Bool) (n : ℕ) (l u : List ℤ) → n * n ≤ length l → n * n ≤ length u → firstRefusal (boundsChecks others n l u) ≡ Passed →
+    firstRefusal (boundsChecks others n (mendedLow n l) (mendedHigh n u)) ≡ Passed
+bounds-mended true n l u h k e = mended-passed n l u h k e
+bounds-mended false n l u h k e = absurd (false≢true (others-within false n l u e))
+
+-- and so is it with the mended tables
+pub mended-padded : (m : ℤ → ℤ → ℤ) (n : ℕ) {x x′ : List ℤ} → Padded x x′ → length x ≡ n * n → Padded (mendedBy m n x) (mendedBy m n x′)
+mended-padded m n {x} p e = record { rest = p .rest; list = ap (mendedBy m n) (p .list) ∙ mended-over m n x (zeros (p .rest)) e (at-padded n x (p .rest)) }
+
 module _ {l u l′ u′ : List ℤ} (p : Padded l l′) (q : Padded u u′) where
-  pub checks-padded : (others : Bool) (n : ℕ) → boundsChecks others n l′ u′ ≡ boundsChecks others n l u
+  pub checks-padded : (others : Bool) (n : ℕ) → length l ≡ n * n → length u ≡ n * n → boundsChecks others n l′ u′ ≡ boundsChecks others n l u
   unfolding boundsChecks tablesWithin
-  checks-padded others n = rw (range-same entryRange (n * n) l l′ (padded-nth p), range-same entryRange (n * n) u u′ (padded-nth q), crossed-same (n * n) l l′ u u′ (padded-nth p) (padded-nth q), symmetric-padded n p, symmetric-padded n q)
+  checks-padded others n h k =
+      rw (
+        range-same entryRange (n * n) l l′ (padded-nth p),
+        range-same entryRange (n * n) u u′ (padded-nth q),
+        crossed-same (n * n) l l′ u u′ (padded-nth p) (padded-nth q),
+        crossed-same (n * n) (mendedLow n l) (mendedLow n l′) (mendedHigh n u) (mendedHigh n u′)
+            (padded-nth (mended-padded maxℤ n p h)) (padded-nth (mended-padded minℤ n q k)),
+      )
 
 -- what checks 1 and 2 say
 pub entry-passed : (n : ℤ) (sized : Bool) → firstRefusal (entryChecks n sized) ≡ Passed → (orderOk n ≡ true) × (sized ≡ true)
@@ -132,34 +148,44 @@ order-given n h = go (orderOk n) refl
 pub order-fits : {m : ℕ} (n : ℤ) → m ≡ orderOf n → m * m ≤ tableRoom
 order-fits n e = rw e (table-fits (order-small n))
 
--- ---- checks 1 to 5 of what was laid into the scratch tables
-pub entered-laid : (n : ℤ) (sized others : Bool) {l u l′ u′ : List ℤ} {r : Checked} → Exact (orderOf n) sized (length l) (length u) → Laid (orderOf n) sized l u l′ u′ →
-    r ≡ firstRefusal (doorChecks n sized others l′ u′) → Entered n sized others l u r l′ u′
-entered-laid n sized others {l} {u} {l′} {u′} {r} x p a = go (firstRefusal (entryChecks n sized)) refl
+-- where checks in front of others pass, the others decide
+pub mended-after : (cs : List Check) {ds : List Check} {n : ℕ} {l u : List ℤ} {r : Checked} {l′ u′ : List ℤ} → firstRefusal cs ≡ Passed →
+    Mended ds n l u r l′ u′ → Mended (cs ++ ds) n l u r l′ u′
+mended-after cs {ds} e m = record { answered = m .answered ∙ sym (more-checks cs ds e); low-size = m .low-size; high-size = m .high-size; low = m .low; high = m .high }
+
+-- ---- checks 1 to 5 of what was laid into the scratch tables l₀ and u₀, and these mended in their place
+pub entered-laid : (n : ℤ) (sized others : Bool) {l u l₀ u₀ l′ u′ : List ℤ} {r : Checked} → Exact (orderOf n) sized (length l) (length u) → Laid (orderOf n) sized l u l₀ u₀ →
+    Mended (doorChecks n sized others l₀ u₀) (orderOf n) l₀ u₀ r l′ u′ → Entered n sized others l u r l′ u′
+entered-laid n sized others {l} {u} {l₀} {u₀} {l′} {u′} {r} x p a = go (firstRefusal (entryChecks n sized)) refl
   where
+    rooms : Rooms l′ u′
+    rooms = record { low-size = a .low-size ∙ p .rooms .low-size; high-size = a .high-size ∙ p .rooms .high-size }
+
     go : (c : Checked) → firstRefusal (entryChecks n sized) ≡ c → Entered n sized others l u r l′ u′
     go (Refused k) e =
-        rw (a ∙ no-more-checks (entryChecks n sized) (boundsChecks others (orderOf n) l′ u′) k e)
-        (record { answered = sym (no-more-checks (entryChecks n sized) (boundsChecks others (orderOf n) l u) k e); rooms = p .rooms; held = λ s. absurd (false≢true cc) })
+        rw (a .answered ∙ no-more-checks (entryChecks n sized) (boundsChecks others (orderOf n) l₀ u₀) k e)
+        (record { answered = sym (no-more-checks (entryChecks n sized) (boundsChecks others (orderOf n) l u) k e); rooms = rooms; held = λ s. absurd (false≢true cc) })
     go Passed e =
         let z = entry-passed n sized e .1 in
         let h = table-fits (order-small n) in
         let v = over-padded (x z .0) h (p .low z) in
         let w = over-padded (x z .1) h (p .high z) in
-        let b = a ∙ more-checks (entryChecks n sized) _ e in
+        let b = a .answered ∙ more-checks (entryChecks n sized) _ e in
+        let vm = mended-padded maxℤ (orderOf n) v (x z .0) in
+        let wm = mended-padded minℤ (orderOf n) w (x z .1) in
         record {
-          answered = b ∙ ap firstRefusal (checks-padded v w others (orderOf n)) ∙ sym (more-checks (entryChecks n sized) _ e);
-          rooms = p .rooms;
-          held = λ s. record {
+          answered = b ∙ ap firstRefusal (checks-padded v w others (orderOf n) (x z .0) (x z .1)) ∙ sym (more-checks (entryChecks n sized) _ e);
+          rooms = rooms;
+          held = λ s. rw (a .low s, a .high s) (record {
             tables = record {
               order = order-small n;
-              low-length = omega (arith, x z .0, padded-length v);
-              high-length = omega (arith, x z .1, padded-length w);
-              bounds = passed-bounds (orderOf n) l′ u′ (others-passed _ (orderOf n) l′ u′ (sym b ∙ s));
+              low-length = omega (arith, ap length (sym (a .low s)) ∙ rooms .low-size);
+              high-length = omega (arith, ap length (sym (a .high s)) ∙ rooms .high-size);
+              bounds = passed-bounds (orderOf n) l₀ u₀ (others-passed _ (orderOf n) l₀ u₀ (sym b ∙ s));
             };
-            low = padded-at v (orderOf n);
-            high = padded-at w (orderOf n);
-          };
+            low = padded-at vm (orderOf n);
+            high = padded-at wm (orderOf n);
+          });
         }
 
 -- ---- what holds where checks 1 to 5 pass

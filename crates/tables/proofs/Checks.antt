@@ -1,5 +1,6 @@
 -- Laws of the checks: of &&, of `all`, of each test and of `firstRefusal`; and that tables pass exactly where they are bounds.
 use mathlib.Core.Path.{_≡_, refl, sym, ap, _∙_, subst}
+use mathlib.Core.Logic.{_⊎_, inl, inr}
 use mathlib.Core.Bool.{Bool, true, false, false≢true, not, _&&_}
 use mathlib.Core.List.{List, [], _∷_, _++_}
 use Prim.Native.Nat.{ℕ, zero, suc, _+_, _*_, _^_, _/_, _%_, _≤_, _<_}
@@ -8,21 +9,27 @@ use native.Mathlib.Numerals.{add-one}
 use native.Mathlib.Omega.{arith}
 use lib.Dec.{T, eqb}
 use lib.IntN.{ℤ, pos, negsuc, negℤ, natAbs, _-ℤ_, +ℤ-idl}
+use lib.ListN.{length}
 use lib.Signed.{_≤ℤ_, _<ℤ_, leZ, ltZ, mag, nonNeg, ≤ℤ-refl, clashℤ}
 use mir.Syntax.{w64}
 use mir.Val.{Fits, SFits, toZ, ofZ}
 use borrow.Author.Tests.{leb-true, le-leb, eqb-true, eq-eqb, not-true, not-false}
-use Rattle.integers.specs.Numbers.{Within}
+use Rattle.integers.specs.Numbers.{Within, minℤ, maxℤ}
+use Rattle.integers.proofs.Order.{min-by, max-by, min-≤ʳ, ≤-maxˡ, max-≤}
 use Rattle.integers.proofs.Parts.{≤ℤ-antisym, ≤ℤ-trans, pos-nonneg, ≤-out, leZ-true, leZ-false}
 use Rattle.integers.proofs.Machine.{within-neg, within-in, within-low, within-high, fits, lt-yes, lt-no, same-bits, as-usize}
 use Rattle.tables.specs.Ranges.{greatestOrder, entryRange, linearRange}
 use Rattle.tables.specs.Matrix.{nth, at}
-use Rattle.tables.specs.Checks.{all, Check, firstRefusal, orderOk, sizesOk, within, allWithin, linearWithin, tablesWithin, nowhereCrossed, same, symmetric, boundsChecks, tableChecks}
-use Rattle.tables.specs.Pairs.{pairBounded, tablesBounded}
+use Rattle.tables.specs.Checks.{all, Check, firstRefusal, orderOk, sizesOk, within, allWithin, linearWithin, tablesWithin, nowhereCrossed, same, checkRange, checkCrossed, checkLopsided, boundsChecks, tableChecks}
+use Rattle.tables.specs.Mending.{mendedLow, mendedHigh, Symmetric}
+use Rattle.tables.specs.Entering.{lowBounds, highBounds}
+use Rattle.tables.specs.Pairs.{entryBounded, pairEven, pairMeets, pairBounded, tablesBounded}
 use Rattle.tables.specs.Bounds.{Bounds}
 use Rattle.tables.specs.declared.Refusal.{Refusal}
+use Rattle.tables.specs.declared.Refusal.the-variants.{Range}
 use Rattle.tables.specs.declared.Checked.the-variants.{Passed, Refused}
 use Rattle.tables.proofs.Matrix.{inside, row-inside, column-inside, nth-at}
+use Rattle.tables.proofs.MendedTables.{greater-pairing, smaller-pairing, at-mended, mended-symmetric, mended-twice}
 
 -- ---- tests
 pub true-of : (a : Bool) → T a → a ≡ true
@@ -204,22 +211,6 @@ module _ (n : ℕ) (t : List ℤ) where
   range-of b f =
       all-of _ (n * n) (λ k h. rw (nth-at n k t) (within-true (record { size = f (k / n) (k % n) (row-inside n k h) (column-inside n k h) })))
 
-  symmetric-at : symmetric n t ≡ true → (i j : ℕ) → i < n → j < n → at n t i j ≡ at n t j i
-  unfolding symmetric
-  symmetric-at e i j h k = go (decLt j i) (decLt i j)
-    where
-      below : (i j : ℕ) → i < n → j < i → at n t i j ≡ at n t j i
-      below i j h q = same-of (at n t i j) (at n t j i) (all-at _ i (all-at _ n e i h) j q)
-
-      go : Dec (j < i) → Dec (i < j) → at n t i j ≡ at n t j i
-      go (yes q) d = below i j h q
-      go (no q) (yes d) = sym (below j i k d)
-      go (no q) (no d) = let e : i ≡ j = omega arith in rw e
-
-  symmetric-of : ((i j : ℕ) → i < n → j < n → at n t i j ≡ at n t j i) → symmetric n t ≡ true
-  unfolding symmetric
-  symmetric-of f = all-of _ n (λ i h. all-of _ i (λ j k. same-true (f i j h (omega arith))))
-
 module _ (n : ℕ) (l u : List ℤ) where
   ordered-at : nowhereCrossed (n * n) l u ≡ true → (i j : ℕ) → i < n → j < n → at n l i j ≤ℤ at n u i j
   unfolding nowhereCrossed at
@@ -229,82 +220,195 @@ module _ (n : ℕ) (l u : List ℤ) where
   unfolding nowhereCrossed
   ordered-of f = all-of _ (n * n) (λ k h. rw (nth-at n k l, nth-at n k u) (leZ-true (f (k / n) (k % n) (row-inside n k h) (column-inside n k h))))
 
-  -- ---- tables that pass are bounds, and bounds pass
-  pub passed-bounds : firstRefusal (tableChecks n l u) ≡ Passed → Bounds n (at n l) (at n u)
+-- where the act's other numbers are not in their ranges, 3 is the first to fail
+pub others-outside : (n : ℕ) (l u : List ℤ) → firstRefusal (boundsChecks false n l u) ≡ Refused Range
+unfolding boundsChecks
+others-outside n l u = first-refuses (checkRange false) (checkCrossed n l u ∷ checkLopsided n l u ∷ []) refl
+
+-- ---- tables that pass: the mended ones are bounds
+module _ (n : ℕ) (l u : List ℤ) where
+  pub passed-bounds : firstRefusal (tableChecks n l u) ≡ Passed → Bounds n (lowBounds n l) (highBounds n u)
   unfolding boundsChecks tablesWithin
   passed-bounds e =
       let e₁ = rest-passed _ _ e in
       let range = first-passed _ _ e in
-      let sides = first-passed _ _ (rest-passed _ _ e₁) in
+      let low = range-at n l entryRange (and-left _ _ range) in
+      let high = range-at n u entryRange (and-right (allWithin entryRange (n * n) l) _ range) in
       record {
-        low-range = range-at n l entryRange (and-left _ _ range);
-        high-range = range-at n u entryRange (and-right (allWithin entryRange (n * n) l) _ range);
-        ordered = ordered-at (first-passed _ _ e₁);
-        low-symmetric = symmetric-at n l (and-left _ _ sides);
-        high-symmetric = symmetric-at n u (and-right (symmetric n l) _ sides);
+        low-range = λ i j h k. rw (at-mended maxℤ n l i j h k)
+            (max-by (at n l i j) (at n l j i) (λ z. natAbs z ≤ entryRange) (λ q. low j i k h) (λ q. low i j h k));
+        high-range = λ i j h k. rw (at-mended minℤ n u i j h k)
+            (min-by (at n u i j) (at n u j i) (λ z. natAbs z ≤ entryRange) (λ q. high i j h k) (λ q. high j i k h));
+        ordered = ordered-at n (mendedLow n l) (mendedHigh n u) (first-passed _ _ (rest-passed _ _ e₁));
+        low-symmetric = mended-symmetric maxℤ n greater-pairing l;
+        high-symmetric = mended-symmetric minℤ n smaller-pairing u;
       }
 
-  pub bounds-passed : Bounds n (at n l) (at n u) → firstRefusal (tableChecks n l u) ≡ Passed
-  unfolding boundsChecks tablesWithin firstRefusal
-  bounds-passed b =
-      rw (
-        range-of n l entryRange (b .low-range),
-        range-of n u entryRange (b .high-range),
-        ordered-of (b .ordered),
-        symmetric-of n l (b .low-symmetric),
-        symmetric-of n u (b .high-symmetric),
-      )
+-- what passes is, mended, passed again
+pub mended-passed : (n : ℕ) (l u : List ℤ) → n * n ≤ length l → n * n ≤ length u → firstRefusal (tableChecks n l u) ≡ Passed →
+    firstRefusal (tableChecks n (mendedLow n l) (mendedHigh n u)) ≡ Passed
+unfolding boundsChecks tablesWithin firstRefusal
+mended-passed n l u h k e =
+    let b = passed-bounds n l u e in
+    rw (
+      mended-twice maxℤ n greater-pairing l h,
+      mended-twice minℤ n smaller-pairing u k,
+      range-of n (mendedLow n l) entryRange (b .low-range),
+      range-of n (mendedHigh n u) entryRange (b .high-range),
+      ordered-of n (mendedLow n l) (mendedHigh n u) (b .ordered),
+    )
+
+-- ---- checks 3 and 4 at one place
+entry-low : (l u : ℤ) → entryBounded l u ≡ true → negℤ (pos entryRange) ≤ℤ l
+unfolding entryBounded
+entry-low l u e = le-of _ _ (and-left (leZ (negℤ (pos entryRange)) l) _ e)
+
+entry-high : (l u : ℤ) → entryBounded l u ≡ true → u ≤ℤ pos entryRange
+unfolding entryBounded
+entry-high l u e = le-of _ _ (and-left (leZ u (pos entryRange)) _ (and-right (leZ (negℤ (pos entryRange)) l) _ e))
+
+entry-ordered : (l u : ℤ) → entryBounded l u ≡ true → l ≤ℤ u
+unfolding entryBounded
+entry-ordered l u e = le-of _ _ (and-right (leZ u (pos entryRange)) _ (and-right (leZ (negℤ (pos entryRange)) l) _ e))
+
+entry-of : {l u : ℤ} → negℤ (pos entryRange) ≤ℤ l → u ≤ℤ pos entryRange → l ≤ℤ u → entryBounded l u ≡ true
+unfolding entryBounded
+entry-of h k o = and-of (leZ-true h) (and-of (leZ-true k) (leZ-true o))
+
+-- ---- a pair that passes 3, 4 and 5
+pub record PairFits (l lt u ut : ℤ) : Type 0 where
+  pub here : entryBounded l u ≡ true
+  pub there : entryBounded lt ut ≡ true
+  pub across : l ≤ℤ ut
+  pub back : lt ≤ℤ u
+
+pair-turned : {l lt u ut : ℤ} → PairFits l lt u ut → PairFits lt l ut u
+pair-turned p = record { here = p .there; there = p .here; across = p .back; back = p .across }
+
+module _ (l lt u ut : ℤ) where
+  meets-fits : pairMeets l lt u ut ≡ true → PairFits l lt u ut
+  unfolding pairMeets
+  meets-fits e =
+      let f = and-right (entryBounded l u) _ e in
+      let g = and-right (entryBounded lt ut) _ f in
+      record {
+        here = and-left (entryBounded l u) _ e;
+        there = and-left (entryBounded lt ut) _ f;
+        across = le-of _ _ (and-left (leZ l ut) _ g);
+        back = le-of _ _ (and-right (leZ l ut) _ g);
+      }
+
+  even-equal : pairEven l lt u ut ≡ true → (l ≡ lt) × (u ≡ ut)
+  unfolding pairEven
+  even-equal e = (same-of l lt (and-left (same l lt) _ e), same-of u ut (and-right (same l lt) _ e))
+
+  -- what the pass finds of a pair: the halves agree, or they need not
+  pair-split : (even : Bool) → pairBounded even l lt u ut ≡ true →
+      ((pairEven l lt u ut ≡ true) × (entryBounded l u ≡ true)) ⊎ ((even ≡ false) × (pairMeets l lt u ut ≡ true))
+  unfolding pairBounded
+  pair-split even e = go (pairEven l lt u ut) even refl e
+    where
+      go : (b even : Bool) → pairEven l lt u ut ≡ b →
+          elim b as (λ z. Bool) [ true ↦ entryBounded l u | false ↦ elim even as (λ z. Bool) [ true ↦ false | false ↦ pairMeets l lt u ut ] ] ≡ true →
+          ((pairEven l lt u ut ≡ true) × (entryBounded l u ≡ true)) ⊎ ((even ≡ false) × (pairMeets l lt u ut ≡ true))
+      go true even q f = inl (q, f)
+      go false true q f = absurd (false≢true f)
+      go false false q f = inr (refl, f)
+
+  pair-fits : (even : Bool) → pairBounded even l lt u ut ≡ true → PairFits l lt u ut
+  pair-fits even e = go (pair-split even e)
+    where
+      go : ((pairEven l lt u ut ≡ true) × (entryBounded l u ≡ true)) ⊎ ((even ≡ false) × (pairMeets l lt u ut ≡ true)) → PairFits l lt u ut
+      go (inl p) =
+          let q = even-equal (p .0) in
+          let o = entry-ordered l u (p .1) in
+          record { here = p .1; there = rw (← q .0, ← q .1) (p .1); across = rw (← q .1) o; back = rw (← q .0) o }
+      go (inr p) = meets-fits (p .1)
+
+  pair-even : pairBounded true l lt u ut ≡ true → (l ≡ lt) × (u ≡ ut)
+  pair-even e = go (pair-split true e)
+    where
+      go : ((pairEven l lt u ut ≡ true) × (entryBounded l u ≡ true)) ⊎ ((true ≡ false) × (pairMeets l lt u ut ≡ true)) → (l ≡ lt) × (u ≡ ut)
+      go (inl p) = even-equal (p .0)
+      go (inr p) = absurd (false≢true (sym (p .0)))
+
+  pair-of : PairFits l lt u ut → pairBounded false l lt u ut ≡ true
+  unfolding pairBounded pairMeets
+  pair-of p = go (pairEven l lt u ut)
+    where
+      go : (b : Bool) → elim b as (λ z. Bool) [ true ↦ entryBounded l u | false ↦ pairMeets l lt u ut ] ≡ true
+      go true = p .here
+      go false = and-of (p .here) (and-of (p .there) (and-of (leZ-true (p .across)) (leZ-true (p .back))))
 
 -- ---- tables of which each pair passes
-module _ (n : ℕ) (l u : List ℤ) (e : tablesBounded n l u ≡ true) where
-  -- what is asked of the entries at (i, j) and (j, i), for j ≤ i
-  pub record Pair (i j : ℕ) : Type 0 where
-    pub low : negℤ (pos entryRange) ≤ℤ at n l i j
-    pub high : at n u i j ≤ℤ pos entryRange
-    pub ordered : at n l i j ≤ℤ at n u i j
-    pub low-same : same (at n l i j) (at n l j i) ≡ true
-    pub high-same : same (at n u i j) (at n u j i) ≡ true
+module _ (n : ℕ) (l u : List ℤ) where
+  abbrev bounded-at : Bool → ℕ → ℕ → Bool
+  bounded-at even i j = pairBounded even (at n l i j) (at n l j i) (at n u i j) (at n u j i)
 
-  pair : (i j : ℕ) → i < n → j ≤ i → Pair i j
-  unfolding tablesBounded pairBounded
-  pair i j h k =
-      let a = all-at _ (suc i) (all-at _ n e i h) j (omega arith) in
-      let b = and-right (leZ (negℤ (pos entryRange)) (at n l i j)) _ a in
-      let c = and-right (leZ (at n u i j) (pos entryRange)) _ b in
-      let d = and-right (leZ (at n l i j) (at n u i j)) _ c in
-      record {
-        low = le-of _ _ (and-left _ _ a);
-        high = le-of _ _ (and-left _ _ b);
-        ordered = le-of _ _ (and-left _ _ c);
-        low-same = and-left _ _ d;
-        high-same = and-right (same (at n l i j) (at n l j i)) _ d;
-      }
+  module _ (even : Bool) (e : tablesBounded n even l u ≡ true) where
+    pair-at : (i j : ℕ) → i < n → j ≤ i → bounded-at even i j ≡ true
+    unfolding tablesBounded
+    pair-at i j h k = all-at _ (suc i) (all-at _ n e i h) j (omega arith)
 
-  low-same : (i j : ℕ) → i < n → j < n → at n l i j ≡ at n l j i
-  unfolding symmetric
-  low-same = symmetric-at n l (all-of _ n (λ i h. all-of _ i (λ j k. pair i j h (omega arith) .low-same)))
+    fits-at : (i j : ℕ) → i < n → j < n → PairFits (at n l i j) (at n l j i) (at n u i j) (at n u j i)
+    fits-at i j h k = go (decLt i j)
+      where
+        go : Dec (i < j) → PairFits (at n l i j) (at n l j i) (at n u i j) (at n u j i)
+        go (yes d) = pair-turned (pair-fits _ _ _ _ even (pair-at j i k (omega arith)))
+        go (no d) = pair-fits _ _ _ _ even (pair-at i j h (omega arith))
 
-  high-same : (i j : ℕ) → i < n → j < n → at n u i j ≡ at n u j i
-  unfolding symmetric
-  high-same = symmetric-at n u (all-of _ n (λ i h. all-of _ i (λ j k. pair i j h (omega arith) .high-same)))
+    pub bounded-passed : firstRefusal (tableChecks n l u) ≡ Passed
+    unfolding boundsChecks tablesWithin firstRefusal
+    bounded-passed =
+        rw (
+          range-of n l entryRange (λ i j h k. let f = fits-at i j h k .here in
+              within-in (entry-low _ _ f) (≤ℤ-trans (entry-ordered _ _ f) (entry-high _ _ f)) .size),
+          range-of n u entryRange (λ i j h k. let f = fits-at i j h k .here in
+              within-in (≤ℤ-trans (entry-low _ _ f) (entry-ordered _ _ f)) (entry-high _ _ f) .size),
+          ordered-of n l u (λ i j h k. entry-ordered _ _ (fits-at i j h k .here)),
+          ordered-of n (mendedLow n l) (mendedHigh n u) left,
+        )
+      where
+        left : (i j : ℕ) → i < n → j < n → lowBounds n l i j ≤ℤ highBounds n u i j
+        left i j h k =
+            let p = fits-at i j h k in
+            rw (at-mended maxℤ n l i j h k, at-mended minℤ n u i j h k)
+            (min-by (at n u i j) (at n u j i) (λ z. maxℤ (at n l i j) (at n l j i) ≤ℤ z)
+            (λ q. max-≤ (entry-ordered _ _ (p .here)) (p .back)) (λ q. max-≤ (p .across) (entry-ordered _ _ (p .there))))
 
-  -- so what holds of the bounds up to the diagonal holds of all
-  each : (P : ℤ → ℤ → Type 0) → ((i j : ℕ) → Pair i j → P (at n l i j) (at n u i j)) → (i j : ℕ) → i < n → j < n → P (at n l i j) (at n u i j)
-  each P f i j h k = go (decLt i j)
+  -- where the halves have to agree, they do
+  pub bounded-symmetric : tablesBounded n true l u ≡ true → Symmetric n l u
+  bounded-symmetric e = record { low = λ i j h k. agree i j h k .0; high = λ i j h k. agree i j h k .1 }
     where
-      go : Dec (i < j) → P (at n l i j) (at n u i j)
-      go (yes d) = rw (low-same i j h k, high-same i j h k) (f j i (pair j i k (omega arith)))
-      go (no d) = f i j (pair i j h (omega arith))
+      agree : (i j : ℕ) → i < n → j < n → (at n l i j ≡ at n l j i) × (at n u i j ≡ at n u j i)
+      agree i j h k = go (decLt i j)
+        where
+          go : Dec (i < j) → (at n l i j ≡ at n l j i) × (at n u i j ≡ at n u j i)
+          go (yes d) = let q = pair-even _ _ _ _ (pair-at true e j i k (omega arith)) in (sym (q .0), sym (q .1))
+          go (no d) = pair-even _ _ _ _ (pair-at true e i j h (omega arith))
 
-  pub bounded-passed : firstRefusal (tableChecks n l u) ≡ Passed
-  bounded-passed =
-      bounds-passed n l u (record {
-        low-range = each (λ x y. natAbs x ≤ entryRange) (λ i j p. within-in (p .low) (≤ℤ-trans (p .ordered) (p .high)) .size);
-        high-range = each (λ x y. natAbs y ≤ entryRange) (λ i j p. within-in (≤ℤ-trans (p .low) (p .ordered)) (p .high) .size);
-        ordered = each (λ x y. x ≤ℤ y) (λ i j p. p .ordered);
-        low-symmetric = low-same;
-        high-symmetric = high-same;
-      })
+  -- tables that pass are such tables
+  pub passed-bounded : firstRefusal (tableChecks n l u) ≡ Passed → tablesBounded n false l u ≡ true
+  unfolding boundsChecks tablesWithin tablesBounded
+  passed-bounded e = all-of _ n (λ i h. all-of _ (suc i) (λ j k. pair-of _ _ _ _ (fits i j h (omega arith))))
+    where
+      range : (allWithin entryRange (n * n) l && allWithin entryRange (n * n) u) ≡ true
+      range = first-passed _ _ e
+
+      place : (i j : ℕ) → i < n → j < n → entryBounded (at n l i j) (at n u i j) ≡ true
+      place i j h k =
+          entry-of (within-low (record { size = range-at n l entryRange (and-left _ _ range) i j h k }))
+          (within-high (record { size = range-at n u entryRange (and-right (allWithin entryRange (n * n) l) _ range) i j h k }))
+          (ordered-at n l u (first-passed _ _ (rest-passed _ _ e)) i j h k)
+
+      across : (i j : ℕ) → i < n → j < n → at n l i j ≤ℤ at n u j i
+      across i j h k =
+          let mended = ordered-at n (mendedLow n l) (mendedHigh n u) (first-passed _ _ (rest-passed _ _ (rest-passed _ _ e))) i j h k in
+          ≤ℤ-trans (≤-maxˡ (at n l i j) (at n l j i))
+          (≤ℤ-trans (rw (at-mended maxℤ n l i j h k, at-mended minℤ n u i j h k) at mended) (min-≤ʳ (at n u i j) (at n u j i)))
+
+      fits : (i j : ℕ) → i < n → j < n → PairFits (at n l i j) (at n l j i) (at n u i j) (at n u j i)
+      fits i j h k = record { here = place i j h k; there = place j i k h; across = across i j h k; back = across j i k h }
 
 -- tests that are equal at each index
 pub all-ext : (n : ℕ) (p q : ℕ → Bool) → ((i : ℕ) → i < n → p i ≡ q i) → all n p ≡ all n q

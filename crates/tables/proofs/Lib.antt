@@ -1,4 +1,6 @@
 pub mod Matrix
+pub mod MendedTables
+pub mod Joining
 pub mod Buffers
 pub mod Checks
 pub mod CheckedTables

@@ -1,14 +1,18 @@
 -- Laws of problems: the sizes of their buffers, and the door of an act on a constraint.
-use mathlib.Core.Path.{_≡_, refl, sym, ap, _∙_}
+use mathlib.Core.Path.{_≡_, refl, sym, ap, _∙_, subst}
 use mathlib.Core.Bool.{Bool, true}
 use mathlib.Core.List.{List, _++_, append-assoc}
 use lib.Dec.{eqb}
+use Prim.Native.Nat.{_*_, _≤_}
 use lib.IntN.{ℤ}
+use lib.ListN.{length}
 use borrow.Author.Tests.{eqb-true}
+use Rattle.integers.specs.Numbers.{minℤ, maxℤ}
+use Rattle.tables.specs.Mending.{Symmetric}
 use Rattle.tables.specs.Checks.{Check, sizesOk, orderOk, orderOf, entryChecks, boundsChecks, firstRefusal}
 use Rattle.tables.specs.Answers.{after}
 use Rattle.tables.specs.Entering.{Entered, entered}
-use Rattle.tables.specs.Problem.{constraintSized, problemWithin, constraintEnds, problemChecks, constraintEntered}
+use Rattle.tables.specs.Problem.{constraintSized, problemWithin, constraintEnds, problemChecks, constraintEntered, mendedProblem}
 use Rattle.tables.specs.declared.Refusal.{Refusal}
 use Rattle.tables.specs.declared.Checked.{Checked}
 use Rattle.tables.specs.declared.Checked.the-variants.{Passed, Refused}
@@ -17,8 +21,9 @@ use Rattle.tables.specs.declared.problem.Problem.{Problem}
 use Rattle.tables.specs.declared.problem.Sizes.{Sizes}
 use Rattle.tables.specs.declared.problem.Lengths.{Lengths}
 use Rattle.tables.proofs.Checks.{sizes-of, and-left, and-right, more-checks, no-more-checks}
-use Rattle.tables.proofs.Answers.{after-refused, after-passed, after-means}
-use Rattle.tables.proofs.Admission.{Behind, entry-passes, entered-refused, entered-passed, entered-means}
+use Rattle.tables.proofs.MendedTables.{greater-pairing, smaller-pairing, symmetric-mended, mended-twice, both-symmetric}
+use Rattle.tables.proofs.Answers.{after-refused, after-passed, after-means, prefix-passed}
+use Rattle.tables.proofs.Admission.{Behind, entry-passes, bounds-mended, entered-refused, entered-passed, entered-means}
 
 -- each buffer has its size
 pub constraint-sizes-of : (z : Sizes) (b : Lengths) → constraintSized z b ≡ true →
@@ -74,3 +79,33 @@ unfolding constraintEntered entered
 constraint-sized refused n sized others c a o z e =
     let bounds = boundsChecks others (c .order) (c .low) (c .high) in
     rw (← e) (ap (λ (k : Checked). after refused k (after refused (firstRefusal (constraintEnds c)) a)) (more-checks (entryChecks n sized) bounds (entry-passes n o z)) ∙ sym (after-both refused bounds (constraintEnds c) a))
+
+-- ---- a problem that passes, mended, passes again
+pub problem-mended : (p : Problem) → let c = p .constraint in c .order * c .order ≤ length (c .low) → c .order * c .order ≤ length (c .high) →
+    firstRefusal (problemChecks p) ≡ Passed → firstRefusal (problemChecks (mendedProblem p)) ≡ Passed
+problem-mended p h k e =
+    let c = p .constraint in
+    let bounds = boundsChecks (problemWithin p) (c .order) (c .low) (c .high) in
+    let passed = prefix-passed bounds (constraintEnds c) e in
+    more-checks _ (constraintEnds c) (bounds-mended (problemWithin p) (c .order) (c .low) (c .high) h k passed)
+    ∙ sym (more-checks bounds (constraintEnds c) passed) ∙ e
+
+-- a problem whose tables are symmetric is mended already
+pub symmetric-problem : (p : Problem) → let c = p .constraint in c .order * c .order ≤ length (c .low) → c .order * c .order ≤ length (c .high) →
+    Symmetric (c .order) (c .low) (c .high) → mendedProblem p ≡ p
+symmetric-problem p h k s =
+    let c = p .constraint in
+    rw (symmetric-mended maxℤ (c .order) greater-pairing (c .low) h (s .low), symmetric-mended minℤ (c .order) smaller-pairing (c .high) k (s .high)) refl
+
+-- and one that is mended already has symmetric tables
+pub mended-problem-symmetric : (p : Problem) → mendedProblem p ≡ p → Symmetric (p .constraint .order) (p .constraint .low) (p .constraint .high)
+mended-problem-symmetric p e =
+    let c = p .constraint in
+    subst (λ (q : Problem). Symmetric (c .order) (q .constraint .low) (q .constraint .high)) e (both-symmetric (c .order) (c .low) (c .high))
+
+-- mending twice is mending once
+pub mended-problem-twice : (p : Problem) → let c = p .constraint in c .order * c .order ≤ length (c .low) → c .order * c .order ≤ length (c .high) →
+    mendedProblem (mendedProblem p) ≡ mendedProblem p
+mended-problem-twice p h k =
+    let c = p .constraint in
+    rw (mended-twice maxℤ (c .order) greater-pairing (c .low) h, mended-twice minℤ (c .order) smaller-pairing (c .high) k) refl

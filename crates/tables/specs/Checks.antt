@@ -6,7 +6,8 @@ use lib.Dec.{leb, eqb}
 use lib.IntN.{ℤ, pos, natAbs}
 use lib.Signed.{leZ}
 use Rattle.tables.specs.Ranges.{greatestOrder, entryRange, linearRange, limitRange, centreRange}
-use Rattle.tables.specs.Matrix.{nth, at}
+use Rattle.tables.specs.Matrix.{nth}
+use Rattle.tables.specs.Mending.{mendedLow, mendedHigh}
 use Rattle.tables.specs.declared.Refusal.{Refusal}
 use Rattle.tables.specs.declared.Refusal.the-variants.{Order, Length, Range, Crossed, Lopsided, Reversed}
 use Rattle.tables.specs.declared.Checked.{Checked}
@@ -46,19 +47,12 @@ within b x = leb (natAbs x) b
 unfoldable pub allWithin : ℕ → ℕ → List ℤ → Bool
 allWithin b m x = all m (λ k. within b (nth x k))
 
--- 4 and 16, R4.4 and R4.16: none of the first m numbers of l is above that of u
+-- 4, 5 and 16, R4.4, R4.5 and R4.16: none of the first m numbers of l is above that of u
 unfoldable pub nowhereCrossed : ℕ → List ℤ → List ℤ → Bool
 nowhereCrossed m l u = all m (λ k. leZ (nth l k) (nth u k))
 
 unfoldable pub same : ℤ → ℤ → Bool
 same x y = leZ x y && leZ y x
-
--- 5, R4.5: row i, left of the diagonal, is column i above it
-abbrev pub rowSymmetric : ℕ → List ℤ → ℕ → Bool
-rowSymmetric n t i = all i (λ j. same (at n t i j) (at n t j i))
-
-unfoldable pub symmetric : ℕ → List ℤ → Bool
-symmetric n t = all n (rowSymmetric n t)
 
 -- ---- what check 3 asks
 -- the first m numbers of both tables are in the range of entries
@@ -87,8 +81,9 @@ checkRange within = record { passes = within; otherwise = Range }
 abbrev pub checkCrossed : ℕ → List ℤ → List ℤ → Check
 checkCrossed n l u = record { passes = nowhereCrossed (n * n) l u; otherwise = Crossed }
 
+-- 5, R4.5: no pair of the mended tables is left without a number
 abbrev pub checkLopsided : ℕ → List ℤ → List ℤ → Check
-checkLopsided n l u = record { passes = symmetric n l && symmetric n u; otherwise = Lopsided }
+checkLopsided n l u = record { passes = nowhereCrossed (n * n) (mendedLow n l) (mendedHigh n u); otherwise = Lopsided }
 
 abbrev pub checkReversed : ℕ → List ℤ → List ℤ → Check
 checkReversed n a b = record { passes = nowhereCrossed n a b; otherwise = Reversed }
@@ -97,7 +92,7 @@ checkReversed n a b = record { passes = nowhereCrossed n a b; otherwise = Revers
 unfoldable pub entryChecks : ℤ → Bool → List Check
 entryChecks n sized = checkOrder n ∷ checkLength sized ∷ []
 
--- 3, 4 and 5, of bounds l and u of order n: `others` says whether the act's other numbers are in their ranges
+-- 3 and 4 of bounds l and u of order n as they are handed in, and 5 of the mended ones: `others` says whether the act's other numbers are in their ranges
 unfoldable pub boundsChecks : Bool → ℕ → List ℤ → List ℤ → List Check
 boundsChecks others n l u = checkRange (others && tablesWithin (n * n) l u) ∷ checkCrossed n l u ∷ checkLopsided n l u ∷ []
 

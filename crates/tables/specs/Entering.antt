@@ -8,6 +8,7 @@ use lib.IntN.{ℤ, pos}
 use lib.ListN.{length, drop, replicate}
 use Rattle.tables.specs.Ranges.{tableRoom}
 use Rattle.tables.specs.Matrix.{Matrix, at}
+use Rattle.tables.specs.Mending.{mendedLow, mendedHigh}
 use Rattle.tables.specs.Checks.{Check, orderOf, firstRefusal, entryChecks, boundsChecks}
 use Rattle.tables.specs.Answers.{after}
 use Rattle.tables.specs.Bounds.{CheckedTables}
@@ -15,12 +16,12 @@ use Rattle.tables.specs.declared.Refusal.{Refusal}
 use Rattle.tables.specs.declared.Checked.{Checked}
 use Rattle.tables.specs.declared.Checked.the-variants.{Passed}
 
--- the bounds that everything below reads, from the tables as they are handed in
+-- the bounds that everything below reads: those of the mended tables
 abbrev pub lowBounds : ℕ → List ℤ → Matrix
-lowBounds n l = at n l
+lowBounds n l = at n (mendedLow n l)
 
 abbrev pub highBounds : ℕ → List ℤ → Matrix
-highBounds n u = at n u
+highBounds n u = at n (mendedHigh n u)
 
 -- R5.2: checks 1 to 5
 abbrev pub doorChecks : ℤ → Bool → Bool → List ℤ → List ℤ → List Check
@@ -53,6 +54,14 @@ pub record Laid (n : ℕ) (sized : Bool) (l u l′ u′ : List ℤ) : Type 0 whe
   pub rooms : Rooms l′ u′
   pub low : sized ≡ true → Over (n * n) l l′
   pub high : sized ≡ true → Over (n * n) u u′
+
+-- the first refusal r of checks of tables l and u of order n, and where nothing is refused these tables mended, in their place
+pub record Mended (checks : List Check) (n : ℕ) (l u : List ℤ) (r : Checked) (l′ u′ : List ℤ) : Type 0 where
+  pub answered : r ≡ firstRefusal checks
+  pub low-size : length l′ ≡ length l
+  pub high-size : length u′ ≡ length u
+  pub low : r ≡ Passed → l′ ≡ mendedLow n l
+  pub high : r ≡ Passed → u′ ≡ mendedHigh n u
 
 -- scratch tables of order n that hold the bounds of l and u, which passed the checks
 pub record Held (n : ℕ) (l u l′ u′ : List ℤ) : Type 0 where

@@ -1,5 +1,6 @@
 pub mod Ranges
 pub mod Matrix
+pub mod Mending
 pub mod Members
 pub mod Buffers
 pub mod Refusals

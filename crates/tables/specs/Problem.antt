@@ -6,6 +6,7 @@ use Prim.Native.Nat.{ℕ}
 use lib.Dec.{eqb}
 use lib.IntN.{ℤ}
 use Rattle.tables.specs.Matrix.{nth}
+use Rattle.tables.specs.Mending.{mendedLow, mendedHigh}
 use Rattle.tables.specs.Members.{Ends}
 use Rattle.tables.specs.Checks.{Check, sizesOk, termsWithin, boundsChecks, endsChecks, firstRefusal}
 use Rattle.tables.specs.Answers.{after}
@@ -29,6 +30,14 @@ endsOf a b = record { low = nth a; high = nth b }
 
 abbrev pub endsIn : Constraint → Ends
 endsIn c = endsOf (c .linear .low) (c .linear .high)
+
+-- R2.10: the same with the mended tables
+abbrev pub mendedConstraint : Constraint → Constraint
+mendedConstraint c =
+    constraintOf (c .order) (mendedLow (c .order) (c .low)) (mendedHigh (c .order) (c .high)) (c .linear .low) (c .linear .high) (c .limit)
+
+abbrev pub mendedProblem : Problem → Problem
+mendedProblem p = record { constraint = mendedConstraint (p .constraint); centre = p .centre }
 
 -- the sizes of the buffers of a constraint: bounds l and u, linear terms from a to b
 abbrev pub lengthsOf : ℕ → ℕ → ℕ → ℕ → Lengths

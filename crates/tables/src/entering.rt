@@ -4,12 +4,12 @@ ghost use Prim.Native.Nat.{_*_, _≤_};
 ghost use lib.ListN.{length};
 ghost use Rattle.tables.specs.Checks.{orderOf, firstRefusal, entryChecks, boundsChecks};
 ghost use Rattle.tables.specs.Ranges.{greatestOrder, tableRoom};
-ghost use Rattle.tables.specs.Entering.{doorChecks, Exact, Blank, Rooms, Laid, Entered};
+ghost use Rattle.tables.specs.Entering.{doorChecks, Exact, Blank, Rooms, Laid, Mended, Entered};
 use crate::Checked;
 use crate::Refusal;
 use crate::Table;
-use crate::check_bounds;
 use crate::copy_numbers;
+use crate::mending::mend_bounds;
 use crate::order_ok;
 
 // The order of a call: n, or 0 where n is no order.
@@ -35,20 +35,20 @@ pub fn check_entry(n: i64, sized: bool) -> Checked
     Checked::Refused(Refusal::Length)
 }
 
-// Checks 3 to 5 of bounds of order n that stand in l and u: for an act that has made checks 1 and 2. `within` says whether the call's
-// other numbers are in their ranges.
-pub fn check_laid(n: usize, within: bool, l: &Table, u: &Table) -> Checked
+// Checks 3 to 5 of bounds of order n that stand in l and u, and then these bounds mended: for an act that has made checks 1 and 2. `within`
+// says whether the call's other numbers are in their ranges.
+pub fn check_laid(n: usize, within: bool, l: &mut Table, u: &mut Table) -> Checked
     requires { ⌜ (n ≤ greatestOrder) × (n * n ≤ tableRoom) × Rooms (now l) (now u) ⌝ }
-    ensures { λ r. ⌜ r ≡ firstRefusal (boundsChecks within n (now (l .entry)) (now (u .entry))) ⌝ }
+    ensures { λ r. ⌜ Mended (boundsChecks within n (now (l .entry)) (now (u .entry))) n (now (l .entry)) (now (u .entry)) r (now (l .exit)) (now (u .exit)) ⌝ }
 {
-    check_bounds(n, within, l, u)
+    mend_bounds(n, within, l, u)
 }
 
-// Checks 1 to 5 of a call whose bounds stand in l and u, each over the whole input before the next. `sized` says whether all buffers of
-// the call have their sizes, `within` whether its other numbers are in their ranges.
-fn check_door(n: i64, sized: bool, within: bool, l: &Table, u: &Table) -> Checked
+// Checks 1 to 5 of a call whose bounds stand in l and u, each over the whole input before the next; and then these bounds mended. `sized`
+// says whether all buffers of the call have their sizes, `within` whether its other numbers are in their ranges.
+fn check_door(n: i64, sized: bool, within: bool, l: &mut Table, u: &mut Table) -> Checked
     requires { ⌜ Rooms (now l) (now u) ⌝ }
-    ensures { λ r. ⌜ r ≡ firstRefusal (doorChecks n sized within (now (l .entry)) (now (u .entry))) ⌝ }
+    ensures { λ r. ⌜ Mended (doorChecks n sized within (now (l .entry)) (now (u .entry))) (orderOf n) (now (l .entry)) (now (u .entry)) r (now (l .exit)) (now (u .exit)) ⌝ }
 {
     let checked = check_entry(n, sized);
     if let Checked::Refused(r) = checked {
@@ -68,7 +68,7 @@ fn copy_bounds(n: usize, sized: bool, low: &[i64], high: &[i64], l: &mut Table, 
     }
 }
 
-// Enters with bounds as numbers: they go into l and u, and then checks 1 to 5 are made.
+// Enters with bounds as numbers: they go into l and u, checks 1 to 5 are made, and what passes is mended there.
 pub fn enter(
     n: i64,
     sized: bool,

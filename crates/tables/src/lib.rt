@@ -1,6 +1,6 @@
 // Bounded symmetric matrices, R2, R4 and R5 of docs/RULES.md: refusals, and the checks 1 to 5 and 16 of a problem.
 ghost use mathlib.Core.Path.{_≡_};
-ghost use mathlib.Core.Bool.{true, _&&_};
+ghost use mathlib.Core.Bool.{true, false, _&&_};
 ghost use mathlib.Core.List.{_++_};
 ghost use Prim.Native.Nat.{_*_, _≤_, _<_};
 ghost use lib.IntN.{pos, natAbs};
@@ -11,11 +11,12 @@ ghost use Rattle.tables.specs.Ranges.{greatestOrder};
 ghost use Rattle.tables.specs.Refusals.{refusalNumber};
 ghost use Rattle.tables.specs.Answers.{answerCode};
 ghost use Rattle.tables.specs.Checks.{orderOk, sizesOk, within, allWithin, tablesWithin};
-ghost use Rattle.tables.specs.Checks.{linearWithin, termsWithin, nowhereCrossed, rowSymmetric, symmetric, boundsChecks, endsChecks};
+ghost use Rattle.tables.specs.Checks.{linearWithin, termsWithin, nowhereCrossed, boundsChecks, endsChecks};
 ghost use Rattle.tables.specs.Checks.{firstRefusal};
-ghost use Rattle.tables.specs.Pairs.{pairBounded, rowBounded, tablesBounded};
+ghost use Rattle.tables.specs.Pairs.{entryBounded, pairEven, pairMeets, pairBounded, rowBounded, tablesBounded};
 
 pub mod entering;
+pub mod mending;
 pub mod problem;
 
 // Orders are from 1 to this (R2.1).
@@ -212,36 +213,6 @@ pub fn nowhere_crossed(low: &[i64], high: &[i64], count: usize) -> bool
     true
 }
 
-// Whether row i of a table of order n, left of the diagonal, is column i above it.
-fn row_symmetric(n: usize, t: &[i64], i: usize) -> bool
-    requires { ⌜ (n ≤ greatestOrder) × (i < n) × (n * n ≤ length (now t)) ⌝ }
-    ensures { λ r. ⌜ r ≡ rowSymmetric n (now (t .entry)) i ⌝ }
-{
-    let mut j = 0;
-    while j < i {
-        if t[i * n + j] != t[j * n + i] {
-            return false;
-        }
-        j += 1;
-    }
-    true
-}
-
-// Whether a table of order n is symmetric.
-pub fn symmetric(n: usize, t: &[i64]) -> bool
-    requires { ⌜ (n ≤ greatestOrder) × (n * n ≤ length (now t)) ⌝ }
-    ensures { λ r. ⌜ r ≡ symmetric n (now (t .entry)) ⌝ }
-{
-    let mut i = 0;
-    while i < n {
-        if !row_symmetric(n, t, i) {
-            return false;
-        }
-        i += 1;
-    }
-    true
-}
-
 // Whether the first numbers of both tables, count of them, are within the range of entries.
 pub fn entries_within(low: &[i64], high: &[i64], count: usize) -> bool
     requires { ⌜ (count ≤ length (now low)) × (count ≤ length (now high)) ⌝ }
@@ -253,42 +224,27 @@ pub fn entries_within(low: &[i64], high: &[i64], count: usize) -> bool
     all_within(high, count, ENTRY_RANGE)
 }
 
-// Whether both tables of order n are symmetric.
-fn both_symmetric(n: usize, low: &[i64], high: &[i64]) -> bool
-    requires { ⌜ (n ≤ greatestOrder) × (n * n ≤ length (now low)) × (n * n ≤ length (now high)) ⌝ }
-    ensures { λ r. ⌜ r ≡ (symmetric n (now (low .entry)) && symmetric n (now (high .entry))) ⌝ }
-{
-    if !symmetric(n, low) {
-        return false;
-    }
-    symmetric(n, high)
-}
-
-// The first of the checks 3, 4 and 5 that fails (R5.6).
+// The first of the checks 3, 4 and 5 that fails (R5.6), of tables of which one does.
 fn find_refusal(n: usize, low: &[i64], high: &[i64]) -> Checked
-    requires { ⌜ (n ≤ greatestOrder) × (n * n ≤ length (now low)) × (n * n ≤ length (now high)) ⌝ }
+    requires { ⌜ (n ≤ greatestOrder) × (n * n ≤ length (now low)) × (n * n ≤ length (now high))
+        × (tablesBounded n false (now low) (now high) ≡ false) ⌝ }
     ensures { λ r. ⌜ r ≡ firstRefusal (boundsChecks true n (now (low .entry)) (now (high .entry))) ⌝ }
 {
     let count = n * n;
     let entries = entries_within(low, high, count);
     let ordered = nowhere_crossed(low, high, count);
-    let mirrored = both_symmetric(n, low, high);
     if !entries {
         return Checked::Refused(Refusal::Range);
     }
     if !ordered {
         return Checked::Refused(Refusal::Crossed);
     }
-    if !mirrored {
-        return Checked::Refused(Refusal::Lopsided);
-    }
-    Checked::Passed
+    Checked::Refused(Refusal::Lopsided)
 }
 
-// Whether bounds l and u at (i, j), with lt and ut at (j, i), pass checks 3, 4 and 5: not below -2^20, not above 2^20, not crossed, and
-// symmetric.
-fn pair_bounded(l: i64, lt: i64, u: i64, ut: i64) -> bool
-    ensures { λ r. ⌜ r ≡ pairBounded l lt u ut ⌝ }
+// Whether bounds l and u at one place pass checks 3 and 4: not below -2^20, not above 2^20, and not crossed.
+fn entry_bounded(l: i64, u: i64) -> bool
+    ensures { λ r. ⌜ r ≡ entryBounded l u ⌝ }
 {
     if l < -ENTRY_RANGE {
         return false;
@@ -296,22 +252,55 @@ fn pair_bounded(l: i64, lt: i64, u: i64, ut: i64) -> bool
     if ENTRY_RANGE < u {
         return false;
     }
-    if u < l {
-        return false;
-    }
+    l <= u
+}
+
+// Whether the halves agree: bounds l and u at (i, j), and lt and ut at (j, i).
+fn pair_even(l: i64, lt: i64, u: i64, ut: i64) -> bool
+    ensures { λ r. ⌜ r ≡ pairEven l lt u ut ⌝ }
+{
     l == lt && u == ut
 }
 
+// Whether both places pass checks 3 and 4, and the pair check 5: neither low is above the high at the other place.
+fn pair_meets(l: i64, lt: i64, u: i64, ut: i64) -> bool
+    ensures { λ r. ⌜ r ≡ pairMeets l lt u ut ⌝ }
+{
+    if !entry_bounded(l, u) {
+        return false;
+    }
+    if !entry_bounded(lt, ut) {
+        return false;
+    }
+    if ut < l {
+        return false;
+    }
+    lt <= u
+}
+
+// Whether the pair passes checks 3, 4 and 5; with `even`, also whether the halves agree.
+fn pair_bounded(even: bool, l: i64, lt: i64, u: i64, ut: i64) -> bool
+    ensures { λ r. ⌜ r ≡ pairBounded even l lt u ut ⌝ }
+{
+    if pair_even(l, lt, u, ut) {
+        return entry_bounded(l, u);
+    }
+    if even {
+        return false;
+    }
+    pair_meets(l, lt, u, ut)
+}
+
 // Whether row i, up to the diagonal, and column i pass them.
-fn row_bounded(n: usize, low: &[i64], high: &[i64], i: usize) -> bool
+fn row_bounded(n: usize, even: bool, low: &[i64], high: &[i64], i: usize) -> bool
     requires { ⌜ (n ≤ greatestOrder) × (i < n) × (n * n ≤ length (now low)) × (n * n ≤ length (now high)) ⌝ }
-    ensures { λ r. ⌜ r ≡ rowBounded n (now (low .entry)) (now (high .entry)) i ⌝ }
+    ensures { λ r. ⌜ r ≡ rowBounded n even (now (low .entry)) (now (high .entry)) i ⌝ }
 {
     let mut j = 0;
     while j <= i {
         let l = entry(n, low, i, j);
         let u = entry(n, high, i, j);
-        if !pair_bounded(l, entry(n, low, j, i), u, entry(n, high, j, i)) {
+        if !pair_bounded(even, l, entry(n, low, j, i), u, entry(n, high, j, i)) {
             return false;
         }
         j += 1;
@@ -320,13 +309,13 @@ fn row_bounded(n: usize, low: &[i64], high: &[i64], i: usize) -> bool
 }
 
 // Whether tables of order n pass them: each pair (i, j) and (j, i) is looked at once.
-fn tables_bounded(n: usize, low: &[i64], high: &[i64]) -> bool
+fn tables_bounded(n: usize, even: bool, low: &[i64], high: &[i64]) -> bool
     requires { ⌜ (n ≤ greatestOrder) × (n * n ≤ length (now low)) × (n * n ≤ length (now high)) ⌝ }
-    ensures { λ r. ⌜ r ≡ tablesBounded n (now (low .entry)) (now (high .entry)) ⌝ }
+    ensures { λ r. ⌜ r ≡ tablesBounded n even (now (low .entry)) (now (high .entry)) ⌝ }
 {
     let mut i = 0;
     while i < n {
-        if !row_bounded(n, low, high, i) {
+        if !row_bounded(n, even, low, high, i) {
             return false;
         }
         i += 1;
@@ -334,17 +323,28 @@ fn tables_bounded(n: usize, low: &[i64], high: &[i64]) -> bool
     true
 }
 
-// Checks 3, 4 and 5 of bounds of order n, and of an act whose other numbers are in their ranges or not. Which check fails is looked for
-// only where one does.
+// Checks 3, 4 and 5 of tables of order n whose halves may differ. Which check fails is looked for only where one does.
+fn check_apart(n: usize, low: &[i64], high: &[i64]) -> Checked
+    requires { ⌜ (n ≤ greatestOrder) × (n * n ≤ length (now low)) × (n * n ≤ length (now high)) ⌝ }
+    ensures { λ r. ⌜ r ≡ firstRefusal (boundsChecks true n (now (low .entry)) (now (high .entry))) ⌝ }
+{
+    if tables_bounded(n, false, low, high) {
+        return Checked::Passed;
+    }
+    find_refusal(n, low, high)
+}
+
+// Checks 3, 4 and 5 of bounds of order n, and of an act whose other numbers are in their ranges or not. Halves that agree are looked at
+// first.
 pub fn check_bounds(n: usize, within: bool, low: &[i64], high: &[i64]) -> Checked
     requires { ⌜ (n ≤ greatestOrder) × (n * n ≤ length (now low)) × (n * n ≤ length (now high)) ⌝ }
     ensures { λ r. ⌜ r ≡ firstRefusal (boundsChecks within n (now (low .entry)) (now (high .entry))) ⌝ }
 {
     if within {
-        if tables_bounded(n, low, high) {
+        if tables_bounded(n, true, low, high) {
             return Checked::Passed;
         }
-        return find_refusal(n, low, high);
+        return check_apart(n, low, high);
     }
     Checked::Refused(Refusal::Range)
 }

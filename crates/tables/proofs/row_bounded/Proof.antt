@@ -13,15 +13,15 @@ use Rattle.tables.proofs.row_bounded.Statement.{statement}
 use Rattle.tables.proofs.row_bounded.Tie as tie
 
 abbrev Inv-loop : tie.InvT-loop
-Inv-loop n l u i j₀ j = (j ≤ suc i) × (all j (λ j. pairBounded (at n l i j) (at n l j i) (at n u i j) (at n u j i)) ≡ true)
+Inv-loop n even l u i j₀ j = (j ≤ suc i) × (all j (λ j. pairBounded even (at n l i j) (at n l j i) (at n u i j) (at n u j i)) ≡ true)
 
 abbrev μ-loop : tie.MeasureT-loop
-μ-loop n l u i j₀ j = suc i - j
+μ-loop n even l u i j₀ j = suc i - j
 
 -- what the call asked of the pair
 found : (c : tie.After-pair-bounded Inv-loop μ-loop) → let a = c .before .before .before .before .before .before .before .args in
     let j = c .before .before .before .before .before .before .loop .j in
-    c .pair-bounded .result ≡ pairBounded (at (a .n) (a .low .now) (a .i) j) (at (a .n) (a .low .now) j (a .i)) (at (a .n) (a .high .now) (a .i) j) (at (a .n) (a .high .now) j (a .i))
+    c .pair-bounded .result ≡ pairBounded (a .even) (at (a .n) (a .low .now) (a .i) j) (at (a .n) (a .low .now) j (a .i)) (at (a .n) (a .high .now) (a .i) j) (at (a .n) (a .high .now) j (a .i))
 found c =
     let d = c .before in
     rw (

@@ -1,6 +1,6 @@
 -- The loop's invariant: the first i rows pass. The measure is how many are left.
 use mathlib.Core.Path.{_≡_, sym}
-use mathlib.Core.Bool.{true}
+use mathlib.Core.Bool.{Bool, true}
 use Prim.Native.Nat.{_-_, _≤_}
 use native.Mathlib.Omega.{arith}
 use Rattle.tables.specs.Checks.{all}
@@ -10,10 +10,14 @@ use Rattle.tables.proofs.tables_bounded.Statement.{statement}
 use Rattle.tables.proofs.tables_bounded.Tie as tie
 
 abbrev Inv-loop : tie.InvT-loop
-Inv-loop n l u i₀ i = (i ≤ n) × (all i (rowBounded n l u) ≡ true)
+Inv-loop n even l u i₀ i = (i ≤ n) × (all i (rowBounded n even l u) ≡ true)
 
 abbrev μ-loop : tie.MeasureT-loop
-μ-loop n l u i₀ i = n - i
+μ-loop n even l u i₀ i = n - i
+
+-- what row i gives
+abbrev row : tie.At-loop Inv-loop μ-loop → Bool
+row c = let a = c .before .args in rowBounded (a .n) (a .even) (a .low .now) (a .high .now) (c .loop .i)
 
 pub tables-bounded-spec : {M : Type 1} → statement M
 unfolding tablesBounded
@@ -26,13 +30,13 @@ tables-bounded-spec =
     -- return false
     (λ c.
     let l = c .before .before .before .loop in
-    sym (all-false _ _ (l .i) (c .before .before .loop-test .taken) (call-false (c .before .row-bounded .ensures) (c .if1 .taken))))
+    sym (all-false _ _ (l .i) (c .before .before .loop-test .taken) (call-false {t = row (c .before .before .before)} (c .before .row-bounded .ensures) (c .if1 .taken))))
     -- i + 1, the measure, the invariant again
     (λ c. omega arith)
     (λ c. omega arith)
     (λ c.
     let l = c .before .before .before .loop in
-    (omega arith, all-more _ (l .i) (l .inv .1) (call-true (c .before .row-bounded .ensures) (c .if1 .left))))
+    (omega arith, all-more _ (l .i) (l .inv .1) (call-true {t = row (c .before .before .before)} (c .before .row-bounded .ensures) (c .if1 .left))))
     -- return true
     (λ c.
     let e : c .before .loop .i ≡ c .before .before .args .n = omega arith in
