@@ -10,11 +10,12 @@ use mir.Syntax.{w64}
 use Rattle.words.specs.Numbers.{numbersOf}
 use Rattle.words.proofs.Laws.{length-numbersOf}
 use Rattle.tables.specs.Ranges.{linearRange, centreRange}
-use Rattle.tables.specs.Checks.{linearWithin, termsWithin, orderOf, firstRefusal, boundsChecks, endsChecks}
-use Rattle.tables.specs.Entering.{Laid, Entered, doorChecks}
+use Rattle.tables.specs.Checks.{linearWithin, termsWithin, orderOf, firstRefusal, entryChecks, boundsChecks, endsChecks}
+use Rattle.tables.specs.Entering.{Laid, Mended, Entered}
 use Rattle.tables.specs.declared.Checked.{Checked}
-use Rattle.tables.proofs.Checks.{call-true, more-checks}
-use Rattle.tables.proofs.Admission.{zeros, Padded, laid-zeros, range-same, crossed-same, entry-passes, order-given, entered-laid}
+use Rattle.tables.specs.declared.Checked.the-variants.{Passed}
+use Rattle.tables.proofs.Checks.{call-true}
+use Rattle.tables.proofs.Admission.{zeros, Padded, laid-zeros, range-same, crossed-same, entry-passes, order-given, mended-after, entered-laid}
 use Rattle.buffers.specs.Buffers.{tableOf, vectorOf, Terms}
 
 -- k numbers laid over zeros
@@ -25,17 +26,16 @@ module _ {room k : ℕ} (s : List ℕ) {o o′ : List ℤ} (b : o ≡ zeros room
   pub loaded-room : length o′ ≡ room
   loaded-room = ap length q ∙ rw (length-append, length-numbersOf, length-drop, b, length-replicate) (omega arith)
 
--- checks 1 to 5 of the bounds that were loaded are those of the bounds that the buffers spell
-came-loaded : {n n′ : ℤ} {m : ℕ} {sized sized′ others : Bool} (l u : List ℕ) {l′ u′ : List ℤ} {r : Checked} → m ≡ orderOf n → n′ ≡ n → sized′ ≡ sized →
-    Laid m sized′ (tableOf m l) (tableOf m u) l′ u′ → r ≡ firstRefusal (doorChecks n′ sized′ others l′ u′) →
+-- where n is an order and the buffers have their sizes, checks 3 to 5 are all that is left to ask, and those of the bounds that were loaded are those
+-- of the bounds that the buffers spell
+pub came-sized : {n : ℤ} {m : ℕ} {sized sized′ others : Bool} (l u : List ℕ) {l₀ u₀ l′ u′ : List ℤ} {r : Checked} → m ≡ orderOf n → (m ≡ 0 → ⊥) → sized′ ≡ sized → not sized′ ≡ false →
+    Laid m sized′ (tableOf m l) (tableOf m u) l₀ u₀ → Mended (boundsChecks others m l₀ u₀) m l₀ u₀ r l′ u′ →
     Entered n sized others (tableOf (orderOf n) l) (tableOf (orderOf n) u) r l′ u′
-came-loaded l u e f g p a = entered-laid _ _ _ (λ s. (length-numbersOf w64 l _, length-numbersOf w64 u _)) (rw (← e, ← g) p) (rw (← f, ← g) a)
-
--- where n is an order and the buffers have their sizes, checks 3 to 5 are all that is left to ask
-pub came-sized : {n : ℤ} {m : ℕ} {sized sized′ others : Bool} (l u : List ℕ) {l′ u′ : List ℤ} {r : Checked} → m ≡ orderOf n → (m ≡ 0 → ⊥) → sized′ ≡ sized → not sized′ ≡ false →
-    Laid m sized′ (tableOf m l) (tableOf m u) l′ u′ → r ≡ firstRefusal (boundsChecks others m l′ u′) →
-    Entered n sized others (tableOf (orderOf n) l) (tableOf (orderOf n) u) r l′ u′
-came-sized {n} l u e h g t p a = came-loaded l u e refl g p ((rw e at a) ∙ sym (more-checks _ _ (entry-passes n (order-given n (λ z. h (e ∙ z))) (call-true refl t))))
+came-sized {n} {sized} {others} l u {l₀} {u₀} {l′} {u′} {r} e h g t p a =
+    let passed : firstRefusal (entryChecks n sized) ≡ Passed = entry-passes n (order-given n (λ z. h (e ∙ z))) (sym g ∙ call-true refl t) in
+    let laid : Laid (orderOf n) sized (tableOf (orderOf n) l) (tableOf (orderOf n) u) l₀ u₀ = rw (← e, ← g) p in
+    let mended : Mended (boundsChecks others (orderOf n) l₀ u₀) (orderOf n) l₀ u₀ r l′ u′ = rw (← e) a in
+    entered-laid n sized others (λ s. (length-numbersOf w64 l _, length-numbersOf w64 u _)) laid (mended-after (entryChecks n sized) passed mended)
 
 -- check 3 of the numbers that were loaded is that of the numbers that the buffers spell
 pub terms-spelled : (n : ℕ) (sized : Bool) (a b c : List ℕ) (x y z : List ℤ) (α : ℤ) {r sized′ : Bool} {m : ℕ} {β : ℤ} → r ≡ (sized′ && termsWithin m x y β z) → sized′ ≡ sized → m ≡ n → β ≡ α →

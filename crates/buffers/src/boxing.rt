@@ -102,7 +102,7 @@ pub fn enclose(
     let mut l = [0i64; TABLE_ROOM];
     let mut u = [0i64; TABLE_ROOM];
     load_bounds(m, sized, low, high, &mut l, &mut u);
-    let checked = check_laid(m, within, &l, &u);
+    let checked = check_laid(m, within, &mut l, &mut u);
     if let Checked::Refused(r) = checked {
         return BoxAnswer::Refused(r);
     }

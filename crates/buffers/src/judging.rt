@@ -78,7 +78,7 @@ pub fn judge(n: i64, low: &[u8], high: &[u8], factor: &mut [u8], vector: &mut [u
     let mut l = [0i64; TABLE_ROOM];
     let mut u = [0i64; TABLE_ROOM];
     load_bounds(m, sized, low, high, &mut l, &mut u);
-    let checked = check_laid(m, true, &l, &u);
+    let checked = check_laid(m, true, &mut l, &mut u);
     if let Checked::Refused(r) = checked {
         return Verdict::Refused(r);
     }

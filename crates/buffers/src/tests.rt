@@ -33,7 +33,7 @@ pub fn test_factor(n: i64, low: &[u8], high: &[u8], factor: &[u8]) -> Answer
     let mut l = [0i64; TABLE_ROOM];
     let mut u = [0i64; TABLE_ROOM];
     load_bounds(m, sized, low, high, &mut l, &mut u);
-    let checked = check_laid(m, true, &l, &u);
+    let checked = check_laid(m, true, &mut l, &mut u);
     if let Checked::Refused(r) = checked {
         return Answer::Refused(r);
     }
@@ -59,7 +59,7 @@ pub fn test_vector(n: i64, low: &[u8], high: &[u8], vector: &[u8]) -> Answer
     let mut l = [0i64; TABLE_ROOM];
     let mut u = [0i64; TABLE_ROOM];
     load_bounds(m, sized, low, high, &mut l, &mut u);
-    let checked = check_laid(m, true, &l, &u);
+    let checked = check_laid(m, true, &mut l, &mut u);
     if let Checked::Refused(r) = checked {
         return Answer::Refused(r);
     }

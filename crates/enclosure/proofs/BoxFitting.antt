@@ -8,7 +8,7 @@ use native.Mathlib.Decide.{decLt}
 use lib.IntN.{ℤ, pos, _+ℤ_}
 use lib.Signed.{leZ}
 use lib.ListN.{length}
-use Rattle.integers.specs.Numbers.{Within}
+use Rattle.integers.specs.Numbers.{Within, minℤ, maxℤ}
 use Rattle.integers.specs.Division.{ceilDiv}
 use Rattle.integers.specs.Root.{leastRoot}
 use Rattle.integers.proofs.Machine.{within-+, within--}
@@ -19,6 +19,7 @@ use Rattle.tables.specs.Problem.{constraintOf, problemOf, endsOf}
 use Rattle.tables.proofs.Buffers.{Small}
 use Rattle.tables.proofs.Matrix.{length-tabulate, nth-tabulate}
 use Rattle.tables.proofs.Checks.{passed-bounds}
+use Rattle.tables.proofs.MendedTables.{mended-length}
 use Rattle.tables.proofs.Admission.{order-small}
 use Rattle.tables.proofs.Problems.{constraint-means}
 use Rattle.cholesky.proofs.Lists.{nth-past}
@@ -133,5 +134,10 @@ boxing-fitting n sized l u a b α c h i j m o =
     constraint-means refused n sized _ (constraintOf k l u a b α) _ (Fitting k) (λ r. tt)
     (λ d.
     boxed-fitting
-    (centred k a b α c (d .within) (record { order = order-small n; low-length = h; high-length = i; bounds = passed-bounds k l u (d .tables) }) j m o)
+    (centred k a b α c (d .within) (record {
+      order = order-small n;
+      low-length = omega (arith, mended-length maxℤ k l h);
+      high-length = omega (arith, mended-length minℤ k u i);
+      bounds = passed-bounds k l u (d .tables);
+    }) j m o)
     (limit-within k a b α c (d .within)))

@@ -1,45 +1,52 @@
 // An entry that only the bench calls: factoring with its checks, over numbers.
 ghost use mathlib.Core.Path.{_≡_};
-ghost use Prim.Native.Nat.{_*_, _≤_};
-ghost use lib.ListN.{length};
-ghost use Rattle.tables.specs.Ranges.{greatestOrder};
-ghost use Rattle.tables.specs.Checks.{firstRefusal, tableChecks};
-ghost use Rattle.hankboulder_bench.specs.Timed.{endsCode, timed};
+ghost use Rattle.tables.specs.Matrix.{at};
+ghost use Rattle.tables.specs.Bounds.{CheckedTables};
+ghost use Rattle.tables.specs.Answers.{yesOrNo, answerCode};
+ghost use Rattle.cholesky.specs.Factoring.{factored};
+ghost use Rattle.hankboulder_bench.specs.Timed.{factoring};
+use tables::Answer;
 use tables::Checked;
-use tables::GREATEST_ORDER;
+use tables::Refusal;
+use tables::TABLE_ROOM;
+use tables::entering::enter;
+use tables::entering::order_of;
 
-// Checks 3 to 5, and factoring: 0 where it ends, -1 where it stops, else the refusal's number.
-fn ends_code(n: usize, low: &[i64], high: &[i64]) -> i64
-    requires { ⌜ (n ≤ greatestOrder) × (n * n ≤ length (now low)) × (n * n ≤ length (now high)) ⌝ }
-    ensures { λ r.
-        ⌜ r ≡ endsCode n (now (low .entry)) (now (high .entry))
-        (firstRefusal (tableChecks n (now (low .entry)) (now (high .entry)))) ⌝ }
+// Whether factoring ends.
+fn ends(n: usize, low: &[i64], high: &[i64]) -> Answer
+    requires { ⌜ CheckedTables n (now low) (now high) ⌝ }
+    ensures { λ r. ⌜ r ≡ yesOrNo (factored n (at n (now (low .entry))) (at n (now (high .entry))) .ends) ⌝ }
 {
-    let checked = tables::check_bounds(n, true, low, high);
-    if let Checked::Refused(r) = checked {
-        return tables::refusal_number(r) as i64;
-    }
     if cholesky::problem::ends(n, low, high) {
-        0
+        Answer::Yes
     } else {
-        -1
+        Answer::No
     }
 }
 
-// The same of any n and any lengths: 2 where n is above the greatest order, or a table has fewer than n² numbers.
-#[no_mangle]
-pub extern "C" fn hb_bench_factor(n: usize, low: &[i64], high: &[i64]) -> i64
-    ensures { λ r. ⌜ r ≡ timed n (now (low .entry)) (now (high .entry)) ⌝ }
+// Checks 1 to 5, and factoring, of any n and any lengths.
+fn factor(n: i64, low: &[i64], high: &[i64]) -> Answer
+    ensures { λ r. ⌜ r ≡ factoring n (now (low .entry)) (now (high .entry)) ⌝ }
 {
-    if GREATEST_ORDER < n {
-        return 2;
+    let m = order_of(n);
+    if m == 0 {
+        return Answer::Refused(Refusal::Order);
     }
-    let count = n * n;
-    if low.len() < count {
-        return 2;
+    let size = m * m;
+    let sized = tables::sizes_ok(size, size, low.len(), high.len(), high.len());
+    let mut l = [0i64; TABLE_ROOM];
+    let mut u = [0i64; TABLE_ROOM];
+    let checked = enter(n, sized, true, low, high, &mut l, &mut u);
+    if let Checked::Refused(r) = checked {
+        return Answer::Refused(r);
     }
-    if high.len() < count {
-        return 2;
-    }
-    ends_code(n, low, high)
+    ends(m, &l, &u)
+}
+
+// The answer's number: 0 where factoring ends, -1 where it stops, else the refusal's.
+#[no_mangle]
+pub extern "C" fn hb_bench_factor(n: i64, low: &[i64], high: &[i64]) -> i64
+    ensures { λ r. ⌜ r ≡ answerCode (factoring n (now (low .entry)) (now (high .entry))) ⌝ }
+{
+    tables::answer_code(factor(n, low, high))
 }

@@ -17,7 +17,7 @@ use Rattle.tables.specs.Matrix.{Matrix, at, table, gram}
 use Rattle.tables.specs.Members.{Member}
 use Rattle.tables.specs.Checks.{all, firstRefusal, orderOf, sizesOk}
 use Rattle.tables.specs.Answers.{after, yesOrNo}
-use Rattle.tables.specs.Entering.{doorChecks, entered}
+use Rattle.tables.specs.Entering.{lowBounds, highBounds, doorChecks, entered}
 use Rattle.tables.specs.declared.Checked.{Checked}
 use Rattle.tables.specs.declared.Checked.the-variants.{Passed, Refused}
 use Rattle.tables.specs.declared.Answer.{Answer}
@@ -58,8 +58,8 @@ pub in-order : (n : ℤ) (sized : Bool) (l u f a b : List ℤ) → factorTested 
 unfolding factorTested factorAnswer tabling tabled entered after
 in-order n sized l u f a b =
     let k = orderOf n in
-    go (firstRefusal (doorChecks n sized true l u)) (firstRefusal (checkFactor k (at k f) ∷ [])) (tables k (at k l) (at k u) (at k f))
-    (ap yesOrNo (rows-of-tables k (at k f) (at k l) (at k u)))
+    go (firstRefusal (doorChecks n sized true l u)) (firstRefusal (checkFactor k (at k f) ∷ [])) (tables k (lowBounds k l) (highBounds k u) (at k f))
+    (ap yesOrNo (rows-of-tables k (at k f) (lowBounds k l) (highBounds k u)))
   where
     go : (c d : Checked) (t : Tabled) {x : Answer} → x ≡ thenRows (orderOf n) t →
         after Answer.Refused c (after Answer.Refused d x) ≡ thenRows (orderOf n) (after (kept a b) c (after (kept a b) d t))

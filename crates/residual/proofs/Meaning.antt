@@ -11,8 +11,9 @@ use Rattle.tables.specs.Ranges.{factorRange}
 use Rattle.tables.specs.Matrix.{Matrix, at}
 use Rattle.tables.specs.Members.{PositiveDefinite}
 use Rattle.tables.specs.Checks.{within, same, orderOf}
-use Rattle.tables.specs.Entering.{entered}
+use Rattle.tables.specs.Entering.{lowBounds, highBounds, entered}
 use Rattle.tables.specs.declared.Answer.the-variants as Answer
+use Rattle.tables.proofs.MendedTables.{definite-handed}
 use Rattle.tables.proofs.Checks.{true-of, of-true, and-left, all-at, le-of, same-of, first-passed}
 use Rattle.tables.proofs.Answers.{after-yes, yes-true}
 use Rattle.tables.proofs.Triangular.{UpperTriangular}
@@ -70,4 +71,6 @@ answer-definite n L U R e =
 module _ (l u f : List ℤ) where
   pub tested-definite : (n : ℤ) (sized : Bool) → factorTested n sized l u f ≡ Answer.Yes → PositiveDefinite (orderOf n) (at (orderOf n) l) (at (orderOf n) u)
   unfolding factorTested entered
-  tested-definite n sized e = answer-definite (orderOf n) (at (orderOf n) l) (at (orderOf n) u) (at (orderOf n) f) (after-yes _ _ e .1)
+  tested-definite n sized e =
+      let k = orderOf n in
+      definite-handed k l u (answer-definite k (lowBounds k l) (highBounds k u) (at k f) (after-yes _ _ e .1))

@@ -10,6 +10,7 @@ use Rattle.tables.specs.Ranges.{vectorRange}
 use Rattle.tables.specs.Matrix.{Matrix, at, nth}
 use Rattle.tables.specs.Bounds.{Bounds, CheckedTables}
 use Rattle.tables.specs.Checks.{all, within, orderOf}
+use Rattle.tables.specs.Entering.{lowBounds, highBounds}
 use Rattle.tables.specs.Answers.{yesOrNo}
 use Rattle.tables.specs.declared.Answer.{Answer}
 use Rattle.tables.specs.declared.Answer.the-variants as Answer
@@ -19,7 +20,7 @@ use Rattle.tables.proofs.Admission.{entered-means}
 use Rattle.vectors.specs.Least.{leastValue, nonzero, shows}
 use Rattle.vectors.specs.VectorTest.{vectorShape, vectorAnswer, vectorTested, Meaning}
 use Rattle.vectors.specs.LeastShares.{Asked}
-use Rattle.vectors.proofs.Showing.{shows-witness, witness-shows}
+use Rattle.vectors.proofs.Showing.{shows-witness, witness-shows, witness-handed, witness-mended}
 
 -- a vector that passed check 7 is not zero, so its least value alone decides
 pub answer-shows : (n : ℕ) (L U : Matrix) (x : ℕ → ℤ) → vectorShape n x ≡ true → (b : Bool) → leZ (leastValue n L U x) (pos 0) ≡ b → yesOrNo b ≡ vectorAnswer n L U x
@@ -35,12 +36,12 @@ asked n l u v t e c =
     record { tables = t; vector-length = c; entries = λ i h. within-of vectorRange (nth v i) (all-at _ n (and-right (nonzero n (nth v)) _ e) i h) }
 
 -- ---- what an answer means
-answer-means : (n : ℕ) (l u v : List ℤ) → Bounds n (at n l) (at n u) → Meaning (vectorAnswer n (at n l) (at n u) (nth v)) n l u v
+answer-means : (n : ℕ) (l u v : List ℤ) → Bounds n (lowBounds n l) (highBounds n u) → Meaning (vectorAnswer n (lowBounds n l) (highBounds n u) (nth v)) n l u v
 unfolding vectorAnswer
 answer-means n l u v b =
     record {
-      yes = λ e. shows-witness b (yes-true _ (after-yes _ _ e .1));
-      no = λ e f. false≢true (sym (no-false _ (after-no _ _ e .1)) ∙ witness-shows f);
+      yes = λ e. witness-handed n l u (shows-witness b (yes-true _ (after-yes _ _ e .1)));
+      no = λ e f. false≢true (sym (no-false _ (after-no _ _ e .1)) ∙ witness-shows (witness-mended n l u f));
     }
 
 pub tested-means : (n : ℤ) (sized : Bool) (l u v : List ℤ) → Meaning (vectorTested n sized l u v) (orderOf n) l u v

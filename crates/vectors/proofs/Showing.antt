@@ -3,7 +3,7 @@
 use mathlib.Core.Path.{_≡_, refl, sym}
 use mathlib.Core.Bool.{Bool, true, false, false≢true, not, _&&_, _||_}
 use mathlib.Core.Logic.{_≢_}
-use mathlib.Core.List.{[], _∷_}
+use mathlib.Core.List.{List, [], _∷_}
 use Prim.Native.Nat.{ℕ, zero, suc, _<_}
 use native.Mathlib.Omega.{arith}
 use lib.Dec.{T}
@@ -13,10 +13,12 @@ use Rattle.integers.proofs.Parts.{≤ℤ-trans, *ℤ-nonneg, square-nonneg, gap
 use Rattle.integers.proofs.Solver.{order, solver}
 use Rattle.integers.proofs.Order.{<-≤, *ℤ-cancel}
 use Rattle.integers.proofs.Sums.{sum-mono, eqb-by}
-use Rattle.tables.specs.Matrix.{Matrix, form}
+use Rattle.tables.specs.Matrix.{Matrix, at, form}
+use Rattle.tables.specs.Entering.{lowBounds, highBounds}
 use Rattle.tables.specs.Members.{Member, Nonzero, PositiveDefinite}
 use Rattle.tables.specs.Bounds.{Bounds}
 use Rattle.tables.specs.Checks.{all, same}
+use Rattle.tables.proofs.MendedTables.{member-mended, mended-member}
 use Rattle.tables.proofs.Checks.{and-left, and-right, and-of, all-false, le-of, same-true, same-false}
 use Rattle.tables.proofs.Forms.{form-*}
 use Rattle.vectors.specs.Least.{leastMember, leastValue, nonzero, shows, Witness}
@@ -136,3 +138,11 @@ pub shows-not-definite : {n : ℕ} {L U : Matrix} (x : ℕ → ℤ) → Bounds n
 shows-not-definite {n} {L} {U} x b e p =
     let f : Witness n L U x = shows-witness b e in
     clashℤ (p .positive (f .matrix) (f .denominator) (f .member) x (f .differs)) (f .low)
+
+-- ---- a witness vector of tables as they are handed in is one of the mended tables, and the other way round
+module _ (n : ℕ) (l u : List ℤ) {x : ℕ → ℤ} where
+  pub witness-mended : Witness n (at n l) (at n u) x → Witness n (lowBounds n l) (highBounds n u) x
+  witness-mended w = record { differs = w .differs; matrix = w .matrix; denominator = w .denominator; member = member-mended n l u (w .member); low = w .low }
+
+  pub witness-handed : Witness n (lowBounds n l) (highBounds n u) x → Witness n (at n l) (at n u) x
+  witness-handed w = record { differs = w .differs; matrix = w .matrix; denominator = w .denominator; member = mended-member n l u (w .member); low = w .low }

@@ -19,6 +19,7 @@ use Rattle.tables.specs.Ranges.{greatestOrder, factorRange, vectorRange}
 use Rattle.tables.specs.Matrix.{Matrix, at, nth, table}
 use Rattle.tables.specs.Bounds.{Bounds}
 use Rattle.tables.specs.Checks.{within, orderOf}
+use Rattle.tables.specs.Entering.{lowBounds, highBounds}
 use Rattle.tables.proofs.Buffers.{Small}
 use Rattle.tables.proofs.Checks.{of-true, true-of, and-left, and-right, all-at, le-of, same-of, within-of, passed-bounds}
 use Rattle.tables.proofs.Matrix.{length-table, nth-at, at-table, row-inside, column-inside}
@@ -146,4 +147,4 @@ pub judging-fitting : (n : ℤ) (sized : Bool) (l u : List ℤ) → Fitting (ord
 unfolding judging
 judging-fitting n sized l u =
     let k = orderOf n in
-    entered-means n sized true l u refused _ (Fitting k) (λ r. tt) (λ b. judged-fitting k (order-small n) (at k l) (at k u) (passed-bounds k l u (b .tables)))
+    entered-means n sized true l u refused _ (Fitting k) (λ r. tt) (λ b. judged-fitting k (order-small n) (lowBounds k l) (highBounds k u) (passed-bounds k l u (b .tables)))

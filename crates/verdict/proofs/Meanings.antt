@@ -12,11 +12,13 @@ use Rattle.tables.specs.Ranges.{vectorRange}
 use Rattle.tables.specs.Matrix.{Matrix, at, nth, table}
 use Rattle.tables.specs.Bounds.{Bounds}
 use Rattle.tables.specs.Checks.{within, orderOf}
+use Rattle.tables.specs.Entering.{lowBounds, highBounds}
 use Rattle.tables.specs.Answers.{yesOrNo}
 use Rattle.tables.specs.declared.Refusal.{Refusal}
 use Rattle.tables.specs.declared.Answer.the-variants as Answer
 use Rattle.tables.proofs.Checks.{of-true, true-of, and-left, and-of, all-of, all-ext, within-true, first-passes, first-none, passed-bounds}
 use Rattle.tables.proofs.Matrix.{at-table}
+use Rattle.tables.proofs.MendedTables.{definite-handed}
 use Rattle.tables.proofs.Answers.{after-passed}
 use Rattle.tables.proofs.Admission.{Behind, order-small, behind-entered, entered-means}
 use Rattle.cholesky.specs.Factoring.{entries, factored}
@@ -25,7 +27,7 @@ use Rattle.residual.proofs.Offers.{accepts-ext}
 use Rattle.theorems.proofs.Theorems.{ends-shape-takeOff, ends-accepted-takeOff, ends-definite-takeOff, margin-ends-takeOff}
 use Rattle.vectors.specs.Least.{nonzero, shows}
 use Rattle.vectors.specs.VectorTest.{vectorShape, vectorAnswer, vectorTested}
-use Rattle.vectors.proofs.Showing.{shows-witness, shows-not-definite}
+use Rattle.vectors.proofs.Showing.{shows-witness, shows-not-definite, witness-handed}
 use Rattle.tried.specs.Tried.{first}
 use Rattle.verdict.specs.Judge.{Judgement, definite, refused, listed, shownBy, judged, judging, written, Meaning}
 use Rattle.verdict.specs.declared.judge.Verdict.{Verdict}
@@ -65,10 +67,10 @@ module _ (n : ℤ) (sized : Bool) (l u : List ℤ) (b : Behind n sized true l u)
   k = orderOf n
 
   abbrev L : Matrix
-  L = at k l
+  L = lowBounds k l
 
   abbrev U : Matrix
-  U = at k u
+  U = highBounds k u
 
   bounds : Bounds k L U
   bounds = passed-bounds k l u (b .tables)
@@ -104,7 +106,7 @@ module _ (n : ℤ) (sized : Bool) (l u : List ℤ) (b : Behind n sized true l u)
   module _ (f v : List ℤ) where
     ends-means : T (factored k L U .ends) → Means (definite (table k (entries (factored k L U .columns)))) f v
     ends-means t = record {
-      definite = λ e. ends-definite-takeOff k (order-small n) L U bounds t;
+      definite = λ e. definite-handed k l u (ends-definite-takeOff k (order-small n) L U bounds t);
       accepted = λ e. factor-accepted t;
       shown = λ e. absurd (false≢true cc);
       confirmed = λ e. absurd (false≢true cc);
@@ -118,7 +120,7 @@ module _ (n : ℤ) (sized : Bool) (l u : List ℤ) (b : Behind n sized true l u)
     stops-means s (some x) h z = record {
       definite = λ e. absurd (false≢true cc);
       accepted = λ e. absurd (false≢true cc);
-      shown = λ e. shows-witness bounds (h .1);
+      shown = λ e. witness-handed k l u (shows-witness bounds (h .1));
       confirmed = λ e. vector-confirmed x z (h .1);
       from-list = λ e. h .0;
       exactly = λ a x m e. refl;

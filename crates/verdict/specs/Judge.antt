@@ -91,7 +91,7 @@ verdictCode (Verdict.Refused r) = pos (refusalNumber r)
 abbrev pub NotRefused : Verdict → Type 0
 NotRefused r = (k : Refusal) → r ≡ Verdict.Refused k → ⊥
 
--- k is the order, L and U the bounds; f and v are the buffers as they are left
+-- k is the order, L and U the bounds of the mended tables; f and v are the buffers as they are left
 module _ (n : ℤ) (l u : List ℤ) where
   abbrev k : ℕ
   k = orderOf n
@@ -103,7 +103,8 @@ module _ (n : ℤ) (l u : List ℤ) where
   U = highBounds k u
 
   pub record Meaning (r : Verdict) (f v : List ℤ) : Type 0 where
-    -- D3.2, D3.6: 'definite', every member is positive definite, and the factor test accepts the factor that is written
+    -- D3.2, D3.6: 'definite', every member of the tables as they are handed in is positive definite, and the factor test accepts the
+    -- factor that is written
     pub definite : r ≡ Verdict.Definite → PositiveDefinite k (at k l) (at k u)
     pub accepted : r ≡ Verdict.Definite → factorTested n true l u f ≡ Yes
     -- D2.4: 'not definite', the vector that is written is listed and a witness vector, and the vector test says yes of it
@@ -113,5 +114,5 @@ module _ (n : ℤ) (l u : List ℤ) where
     -- D2.4: 'not definite' wherever a listed vector shows it
     pub exactly : NotRefused r → (x : List ℤ) → List·Memᴰ x (listed k L U) →
         shows k L U (nth x) ≡ true → r ≡ Verdict.NotDefinite
-    -- D3.5: with the margin, 'definite'
+    -- D3.5: with the margin of the mended tables, 'definite'
     pub margin : NotRefused r → Margin k L U → r ≡ Verdict.Definite

@@ -122,7 +122,7 @@ met c = loads c .before .before .before
 -- the door, with what it found
 came : (c : tie.After-check-laid) → let s = start (met c) in
     Entered (s .args .n) (sizes s) (others s) (posed s .low) (posed s .high)
-    (c .check-laid .result) (loads c .load-bounds .last .1 .1 .1 .1 .0) (loads c .load-bounds .last .1 .1 .1 .1 .1 .0)
+    (c .check-laid .result) (c .check-laid .last .1 .1 .0) (c .check-laid .last .1 .1 .1 .0)
 came c =
     let w = met c in
     entered-sized _ _ _ _ _

@@ -44,7 +44,7 @@ start c = begun (met c .before .before)
 -- the door, with what it found
 came : (c : tie.After-check-laid) → let a = start c .args in
     Entered (a .n) (sizes (start c)) true (tableOf (orderOf (a .n)) (a .low .now)) (tableOf (orderOf (a .n)) (a .high .now))
-    (c .check-laid .result) (loads c .load-bounds .last .1 .1 .1 .1 .0) (loads c .load-bounds .last .1 .1 .1 .1 .1 .0)
+    (c .check-laid .result) (c .check-laid .last .1 .1 .0) (c .check-laid .last .1 .1 .1 .0)
 came c = came-sized _ _ (order (met c .before .before)) (met c .before .if1 .left) (sized (met c)) (loads c .before .before .before .if2 .left) (loads c .load-bounds .ensures) (c .check-laid .ensures)
 
 -- both buffers with it

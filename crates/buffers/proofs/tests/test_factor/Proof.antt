@@ -7,7 +7,7 @@ use Rattle.integers.proofs.Machine.{clean}
 use Rattle.tables.specs.Ranges.{tableRoom}
 use Rattle.tables.specs.Matrix.{at}
 use Rattle.tables.specs.Checks.{orderOf}
-use Rattle.tables.specs.Entering.{Entered}
+use Rattle.tables.specs.Entering.{lowBounds, highBounds, Entered}
 use Rattle.tables.specs.declared.Answer.the-variants as Answer
 use Rattle.tables.proofs.Matrix.{table-fits}
 use Rattle.tables.proofs.Checks.{call-false, sizes-of}
@@ -40,7 +40,7 @@ start c = met c .before .before .before .before .before .before
 -- the door, with what it found
 came : (c : tie.After-check-laid) → let a = start c .args in
     Entered (a .n) (sizes (start c)) true (tableOf (orderOf (a .n)) (a .low .now)) (tableOf (orderOf (a .n)) (a .high .now))
-    (c .check-laid .result) (loads c .load-bounds .last .1 .1 .1 .1 .0) (loads c .load-bounds .last .1 .1 .1 .1 .1 .0)
+    (c .check-laid .result) (c .check-laid .last .1 .1 .0) (c .check-laid .last .1 .1 .1 .0)
 came c = came-sized _ _ (order (met c .before .before)) (met c .before .if1 .left) (sized (met c)) (loads c .before .before .before .if2 .left) (loads c .load-bounds .ensures) (c .check-laid .ensures)
 
 -- what is offered
@@ -70,7 +70,7 @@ test-factor-spec =
     (λ c κs. let d = c .before .before in rw (order (d .before .before .before .before .before .before)) (order-small _, order-fits _ refl, d .load-bounds .ensures .rooms))
     (λ c. search needs)
     (λ c. let e = c .before .before .before in let a = start e .args in let k = orderOf (a .n) in
-    entered-refused _ _ _ _ _ Answer.Refused (factorAnswer k (at k (tableOf k (a .low .now))) (at k (tableOf k (a .high .now))) (at k (tableOf k (a .factor .now)))) (came e) (c .before .checked .given .1))
+    entered-refused _ _ _ _ _ Answer.Refused (factorAnswer k (lowBounds k (tableOf k (a .low .now))) (highBounds k (tableOf k (a .high .now))) (at k (tableOf k (a .factor .now)))) (came e) (c .before .checked .given .1))
     (λ c. search needs)
     (λ c. search needs)
     (λ c. record { fits = omega (arith, order-fits _ (order (met (c .before .before .before) .before .before))) })

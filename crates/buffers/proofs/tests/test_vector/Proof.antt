@@ -7,7 +7,7 @@ use Rattle.integers.proofs.Machine.{clean}
 use Rattle.tables.specs.Ranges.{greatestOrder}
 use Rattle.tables.specs.Matrix.{at, nth}
 use Rattle.tables.specs.Checks.{orderOf}
-use Rattle.tables.specs.Entering.{Entered}
+use Rattle.tables.specs.Entering.{lowBounds, highBounds, Entered}
 use Rattle.tables.specs.declared.Answer.the-variants as Answer
 use Rattle.tables.proofs.Checks.{call-false, sizes-of}
 use Rattle.tables.proofs.Admission.{Padded, padded-nth, order-small, order-fits, no-order, no-sizes, came-through, entered-refused, entered-passed}
@@ -39,7 +39,7 @@ start c = met c .before .before .before .before .before .before
 -- the door, with what it found
 came : (c : tie.After-check-laid) → let a = start c .args in
     Entered (a .n) (sizes (start c)) true (tableOf (orderOf (a .n)) (a .low .now)) (tableOf (orderOf (a .n)) (a .high .now))
-    (c .check-laid .result) (loads c .load-bounds .last .1 .1 .1 .1 .0) (loads c .load-bounds .last .1 .1 .1 .1 .1 .0)
+    (c .check-laid .result) (c .check-laid .last .1 .1 .0) (c .check-laid .last .1 .1 .1 .0)
 came c = came-sized _ _ (order (met c .before .before)) (met c .before .if1 .left) (sized (met c)) (loads c .before .before .before .if2 .left) (loads c .load-bounds .ensures) (c .check-laid .ensures)
 
 -- what is offered
@@ -70,7 +70,7 @@ test-vector-spec =
     (λ c κs. let d = c .before .before in rw (order (d .before .before .before .before .before .before)) (order-small _, order-fits _ refl, d .load-bounds .ensures .rooms))
     (λ c. search needs)
     (λ c. let e = c .before .before .before in let a = start e .args in let k = orderOf (a .n) in
-    entered-refused _ _ _ _ _ Answer.Refused (vectorAnswer k (at k (tableOf k (a .low .now))) (at k (tableOf k (a .high .now))) (nth (vectorOf k (a .vector .now)))) (came e) (c .before .checked .given .1))
+    entered-refused _ _ _ _ _ Answer.Refused (vectorAnswer k (lowBounds k (tableOf k (a .low .now))) (highBounds k (tableOf k (a .high .now))) (nth (vectorOf k (a .vector .now)))) (came e) (c .before .checked .given .1))
     (λ c. search needs)
     (λ c. search needs)
     (λ c κs.

@@ -7,7 +7,7 @@ use lib.ListN.{length}
 use Rattle.integers.proofs.Machine.{clean}
 use Rattle.tables.specs.Matrix.{at}
 use Rattle.tables.specs.Checks.{orderOf}
-use Rattle.tables.specs.Entering.{Entered}
+use Rattle.tables.specs.Entering.{lowBounds, highBounds, Entered}
 use Rattle.tables.proofs.Admission.{order-fits, no-order, came-through, entered-refused, entered-passed}
 use Rattle.residual.specs.ResidualAct.{Tabled, kept, tabled, tabling, residualSizes, residualAct}
 use Rattle.residual.proofs.InOrder.{residual-sizes-of}
@@ -43,7 +43,7 @@ abbrev behind : tie.Start → Tabled
 behind s =
     let a = s .args in
     let k = orderOf (a .n) in
-    tabled k (at k (a .low .now)) (at k (a .high .now)) (at k (a .factor .now)) (a .low-residual .now) (a .high-residual .now)
+    tabled k (lowBounds k (a .low .now)) (highBounds k (a .high .now)) (at k (a .factor .now)) (a .low-residual .now) (a .high-residual .now)
 
 pub residual-spec : {M : Type 1} → statement M
 unfolding residualAct tabling
