@@ -2,19 +2,23 @@
 use mathlib.Core.Path.{_≡_, refl}
 use mathlib.Core.Bool.{true, false}
 use mathlib.Core.List.{List, [], _∷_}
+use Prim.Native.Nat.{ℕ, _*_}
 use lib.Ieee.{Float, nan, fin}
 use lib.IntN.{ℤ, pos, negsuc}
+use lib.ListN.{set}
 use Rattle.integers.specs.Numbers.{minℤ, maxℤ}
 use Rattle.integers.specs.Division.{floorDiv, ceilDiv}
 use Rattle.tables.specs.Matrix.{at, table, tabulate}
-use Rattle.tables.specs.Checks.{all, firstRefusal, orderOk, orderOf, entryChecks, within, allWithin, linearWithin, tablesWithin, nowhereCrossed, same, symmetric, boundsChecks, endsChecks}
+use Rattle.tables.specs.Mending.{mendedBy}
+use Rattle.tables.specs.Checks.{all, firstRefusal, orderOk, orderOf, entryChecks, within, allWithin, linearWithin, tablesWithin, nowhereCrossed, boundsChecks, endsChecks}
 use Rattle.tables.specs.Answers.{after}
 use Rattle.tables.specs.Entering.{entered}
 use Rattle.tables.specs.Problem.{constraintOf, constraintEntered}
 use Rattle.tables.specs.declared.Refusal.the-variants as Refused
+use Rattle.tables.specs.declared.problem.Constraint.{Constraint}
 use Rattle.floats.specs.Brackets.{signed, unitsOf, sixteenth, finiteWithin, inRange, wholeNextTo}
 use Rattle.samples.specs.declared.sample.Sample.{Sample}
-use Rattle.samples.specs.Samples.{sampleFits}
+use Rattle.samples.specs.Samples.{sampleFits, factorNext, drawNext}
 use Rattle.samples.specs.Sums.{addedBy, sumsWithin}
 use Rattle.samples.specs.Gathering.{addedWithin, gathering}
 use Rattle.samples.specs.Gathering as Outcome
@@ -40,12 +44,33 @@ high =
     ∷ pos 0 ∷ pos 0 ∷ pos 0 ∷ pos 0
     ∷ []
 
-taken : gathered (sample (fin false 1 (pos 1))) noSums
-    ≡ Outcome.taken (constraintOf 4 low high (negsuc 511 ∷ negsuc 31 ∷ pos 0 ∷ pos 0 ∷ []) (negsuc 511 ∷ pos 0 ∷ pos 32 ∷ pos 0 ∷ []) (negsuc 1023))
+-- the sample alone, with bounds l and u
+abbrev summed : List ℤ → List ℤ → Constraint
+summed l u = constraintOf 4 l u (negsuc 511 ∷ negsuc 31 ∷ pos 0 ∷ pos 0 ∷ []) (negsuc 511 ∷ pos 0 ∷ pos 32 ∷ pos 0 ∷ []) (negsuc 1023)
+
+-- a table with x and y for the entries j of row 0 and of column 0
+abbrev halves : List ℤ → ℕ → ℤ → ℤ → List ℤ
+halves t j x y = set (set t j x) (4 * j) y
+
+-- sums of zeros, but for bounds whose halves are apart there: l and lt below, u and ut above
+abbrev apart : ℕ → ℤ → ℤ → ℤ → ℤ → Constraint
+apart j l lt u ut = constraintOf 4 (halves (noSums .low) j l lt) (halves (noSums .high) j u ut) (noSums .linear .low) (noSums .linear .high) (pos 0)
+
+abbrev drawn : Sample
+drawn = sample (fin false 1 (pos 1))
+
+-- Sums of nothing; sums from 3 to 8 and from 1 to 5, which are mended to 3 to 5 in both places, and from 6 to 8 and from 1 to 5, which leave no number;
+-- and sums of which one half is -2^20 and the other 0: mended they are sums of nothing, and the half that is mended away would have left its range.
+taken :
+    (gathered drawn noSums ≡ Outcome.taken (summed low high))
+    × (gathered drawn (apart 1 (pos 3) (pos 1) (pos 8) (pos 5)) ≡ Outcome.taken (summed (halves low 1 (pos 3) (pos 3)) (halves high 1 (pos 21) (pos 21))))
+    × (gathered drawn (apart 1 (pos 6) (pos 1) (pos 8) (pos 5)) ≡ Outcome.refused Refused.Lopsided)
+    × (gathered drawn (apart 2 (negsuc 1048575) (pos 0) (pos 0) (pos 0)) ≡ Outcome.taken (summed low high))
+    × (addedWithin (factorNext drawn) (drawNext drawn) (apart 2 (negsuc 1048575) (pos 0) (pos 0) (pos 0)) ≡ Outcome.refused Refused.Full)
 unfolding gathering addedWithin addedBy sumsWithin sampleFits noSums constraintEntered entered after firstRefusal entryChecks boundsChecks endsChecks
-    orderOk orderOf within allWithin linearWithin tablesWithin nowhereCrossed same symmetric all at table tabulate
+    orderOk orderOf within allWithin linearWithin tablesWithin nowhereCrossed mendedBy all at table tabulate
     signed unitsOf sixteenth finiteWithin inRange wholeNextTo floorDiv ceilDiv minℤ maxℤ
-taken = refl
+taken = (refl, refl, refl, refl, refl)
 
 -- a draw that is no number
 refused : gathered (sample nan) noSums ≡ Outcome.refused Refused.Sample

@@ -11,7 +11,7 @@ use borrow.Author.Tests.{eqb-true}
 use Rattle.tables.specs.Ranges.{limitRange}
 use Rattle.tables.specs.Matrix.{tabulate}
 use Rattle.tables.specs.Checks.{orderOk, orderOf, within}
-use Rattle.tables.specs.Problem.{constraintSized, constraintOf}
+use Rattle.tables.specs.Problem.{constraintSized, mendedConstraint}
 use Rattle.tables.specs.declared.Refusal.{Refusal}
 use Rattle.tables.specs.declared.problem.Constraint.{Constraint}
 use Rattle.tables.specs.declared.problem.Sizes.{Sizes}
@@ -54,7 +54,7 @@ sums-sizes-of unit n b α e =
 -- where n is an order and the buffers have their sizes, 3, 4, 5, 16 and 18 are all that is left to ask
 pub sums-sized : (F : ℕ → Neighbours) (D : Neighbours) (n : ℤ) (sized : Bool) (c : Constraint) → orderOk n ≡ true → sized ≡ true → c .order ≡ orderOf n → checkedSums F D c ≡ enteredSums F D n sized c
 unfolding checkedSums
-sums-sized F D n sized c o z e = sym (constraint-sized refused n sized (termsIn (within limitRange (c .limit)) c) c (addedWithin F D c) o z e)
+sums-sized F D n sized c o z e = sym (constraint-sized refused n sized (termsIn (within limitRange (c .limit)) c) c (addedWithin F D (mendedConstraint c)) o z e)
 
 -- ---- a buffer of one number that is written
 pub set-one : (x : List ℤ) (v : ℤ) → length x ≡ 1 → set x 0 v ≡ tabulate 1 (λ i. v)

@@ -12,6 +12,7 @@ use Rattle.integers.proofs.Solver.{_&_, ring, order, solver}
 use Rattle.integers.proofs.Order.{*ℤ-mono, *ℤ-cancel}
 use Rattle.integers.proofs.Sums.{sum-none}
 use Rattle.tables.specs.Matrix.{form}
+use Rattle.tables.specs.Problem.{mendedConstraint}
 use Rattle.tables.specs.declared.Refusal.{Refusal}
 use Rattle.tables.specs.declared.Refusal.the-variants.{Full}
 use Rattle.tables.specs.declared.Refusal.the-variants as Refused
@@ -33,7 +34,7 @@ use Rattle.samples.specs.Gathering.{Outcome, taken, refused, termsIn, addedWith
 use Rattle.samples.specs.Explaining.{Explained, misfit}
 use Rattle.rides.specs.Rides.{noSums, gathered, sumsAfter, gatheredAll, ifTaken, squares, allowing}
 use Rattle.samples.proofs.Products.{whole-*}
-use Rattle.samples.proofs.Gains.{one, added-explains}
+use Rattle.samples.proofs.Gains.{one, mended-explains, added-explains}
 
 -- ---- fractions
 module _ (c : Constraint) {u v : ℤ} {X : ℕ → ℤ} {p : ℤ} where
@@ -71,20 +72,23 @@ module _ (c : Constraint) {u v : ℤ} {X : ℕ → ℤ} {p : ℤ} where
             (P .under & *ℤ-mono room h) (search solver depth 40 fits 20000) (omega arith));
       }
 
--- ---- what gathering gives: the sums with the sample in them, or a refusal
+-- ---- what gathering gives: the mended sums with the sample in them, or a refusal
+abbrev pub mendedWith : Sample → Constraint → Constraint
+mendedWith s c = added s (mendedConstraint c)
+
 module _ (s : Sample) (n : ℤ) (sized : Bool) (c : Constraint) where
-  pub by-outcome : (P : Outcome → Type 0) → (sized ≡ true → sumsWithin (added s c) ≡ true → P (taken (added s c))) → ((r : Refusal) → P (refused r)) → P (gathering s n sized c)
+  pub by-outcome : (P : Outcome → Type 0) → (sized ≡ true → sumsWithin (mendedWith s c) ≡ true → P (taken (mendedWith s c))) → ((r : Refusal) → P (refused r)) → P (gathering s n sized c)
   unfolding gathering addedWithin
   by-outcome P f g = go (sampleFits s)
     where
-      last : sized ≡ true → (b : Bool) → sumsWithin (added s c) ≡ b → P (elim b as (λ z. Outcome) [ true ↦ taken (added s c) | false ↦ refused Full ])
+      last : sized ≡ true → (b : Bool) → sumsWithin (mendedWith s c) ≡ b → P (elim b as (λ z. Outcome) [ true ↦ taken (mendedWith s c) | false ↦ refused Full ])
       last z true e = f z e
       last z false e = g Full
 
       go : (b : Bool) → P (elim b as (λ z. Outcome) [ true ↦ enteredSums (factorNext s) (drawNext s) n sized c | false ↦ refused Refused.Sample ])
       go true =
-          constraint-means refused n sized (termsIn (within limitRange (c .limit)) c) c (addedWithin (factorNext s) (drawNext s) c) P g
-          (λ d. last (d .sizes) (sumsWithin (added s c)) refl)
+          constraint-means refused n sized (termsIn (within limitRange (c .limit)) c) c (addedWithin (factorNext s) (drawNext s) (mendedConstraint c)) P g
+          (λ d. last (d .sizes) (sumsWithin (mendedWith s c)) refl)
       go false = g Refused.Sample
 
 -- ---- no sample: the sums of zeros explain 0 at every point
@@ -130,19 +134,20 @@ module _ (X : ℕ → ℤ) (p : ℤ) (whole : pos 1 ≤ℤ p) where
   abbrev σ : Sample → ℤ
   σ s = misfit s X p *ℤ misfit s X p
 
-  taken-explained : (s : Sample) (c : Constraint) → c .order ≡ factorCount → (u : ℤ) → Explained c u Z X p → Explained (added s c) (u +ℤ σ s) Z X p
+  taken-explained : (s : Sample) (c : Constraint) → c .order ≡ factorCount → (u : ℤ) → Explained c u Z X p → Explained (mendedWith s c) (u +ℤ σ s) Z X p
   taken-explained s c e u P =
-      reduced (added s c) Z one-Z
-      (subst (λ (z : ℤ). Explained (added s c) z (Z *ℤ Z) X p) (ring (u ∷ Z ∷ misfit s X p ∷ []) (search solver depth 40 fits 20000) refl) (added-explains s c e one-Z P))
+      reduced (mendedWith s c) Z one-Z
+      (subst (λ (z : ℤ). Explained (mendedWith s c) z (Z *ℤ Z) X p) (ring (u ∷ Z ∷ misfit s X p ∷ []) (search solver depth 40 fits 20000) refl)
+      (added-explains s (mendedConstraint c) e one-Z (mended-explains c P)))
 
   all-explained : (ss : List Sample) (c : Constraint) → c .order ≡ factorCount → (u : ℤ) → Explained c u Z X p → Explained (gatheredAll ss c) (u +ℤ squares ss c X p) Z X p
   unfolding gatheredAll squares sumsAfter ifTaken addedBy
   all-explained [] c e u P = subst (λ (z : ℤ). Explained c z Z X p) (ring (u ∷ []) (search solver depth 40 fits 20000) refl) P
   all-explained (s ∷ ss) c e u P =
       by-outcome s (pos factorCount) true c (λ (t : Outcome). Explained (gatheredAll ss (sumsAfter c t)) (u +ℤ (ifTaken t (σ s) +ℤ squares ss (sumsAfter c t) X p)) Z X p)
-      (λ q w. subst (λ (z : ℤ). Explained (gatheredAll ss (added s c)) z Z X p)
-      (ring (u ∷ misfit s X p ∷ squares ss (added s c) X p ∷ []) (search solver depth 40 fits 20000) refl)
-      (all-explained ss (added s c) refl (u +ℤ σ s) (taken-explained s c e u P)))
+      (λ q w. subst (λ (z : ℤ). Explained (gatheredAll ss (mendedWith s c)) z Z X p)
+      (ring (u ∷ misfit s X p ∷ squares ss (mendedWith s c) X p ∷ []) (search solver depth 40 fits 20000) refl)
+      (all-explained ss (mendedWith s c) refl (u +ℤ σ s) (taken-explained s c e u P)))
       (λ r. subst (λ (z : ℤ). Explained (gatheredAll ss c) z Z X p) (ring (u ∷ squares ss c X p ∷ []) (search solver depth 40 fits 20000) refl) (all-explained ss c e u P))
 
   -- a point whose squares are at most K is allowed by the sums, begun at 0, with the allowance K
@@ -157,7 +162,7 @@ module _ (X : ℕ → ℤ) (p : ℤ) (whole : pos 1 ≤ℤ p) where
   all-ordered : (ss : List Sample) (c : Constraint) → c .order ≡ factorCount → gatheredAll ss c .order ≡ factorCount
   unfolding gatheredAll sumsAfter addedBy
   all-ordered [] c e = e
-  all-ordered (s ∷ ss) c e = by-outcome s (pos factorCount) true c (λ (t : Outcome). gatheredAll ss (sumsAfter c t) .order ≡ factorCount) (λ q w. all-ordered ss (added s c) refl) (λ r. all-ordered ss c e)
+  all-ordered (s ∷ ss) c e = by-outcome s (pos factorCount) true c (λ (t : Outcome). gatheredAll ss (sumsAfter c t) .order ≡ factorCount) (λ q w. all-ordered ss (mendedWith s c) refl) (λ r. all-ordered ss c e)
 
   -- so it lies in every box of them that is given, around any centre, and where the answer is 'empty' there is no such point
   pub gathered-boxed : (ss : List Sample) (K : ℤ) → squares ss noSums X p ≤ℤ (K *ℤ Z) → (sized : Bool) (centre sides : List ℤ) →

@@ -11,9 +11,11 @@ use Rattle.integers.proofs.Parts.{≤ℤ-trans, *ℤ-nonneg, gap-nonneg, pos-no
 use Rattle.integers.proofs.Solver.{_&_, order, solver}
 use Rattle.integers.proofs.Order.{≤ℤ-total, ≤-unless, <-suc, *ℤ-mono, product-mono, min-≤ˡ, min-≤ʳ}
 use Rattle.integers.proofs.Division.{IsFloor, IsCeil}
-use Rattle.tables.specs.Matrix.{nth, at}
+use Rattle.tables.specs.Matrix.{at}
+use Rattle.tables.specs.Problem.{mendedConstraint}
 use Rattle.tables.specs.declared.problem.Constraint.{Constraint}
 use Rattle.tables.proofs.Matrix.{at-table, nth-tabulate}
+use Rattle.tables.proofs.MendedTables.{member-mended}
 use Rattle.floats.specs.Brackets.{sixteenth, wholeNextTo}
 use Rattle.floats.specs.declared.Neighbours.{Neighbours}
 use Rattle.floats.proofs.Next.{NextTo, next-to}
@@ -74,6 +76,18 @@ module _ (l h x : ℤ) (f : IsFloor x w l) (c : IsCeil x w h) where
           let k : (w *ℤ (pos 0 -ℤ h)) ≤ℤ (pos 0 -ℤ x) = order (w ∷ h ∷ x ∷ []) (c .high) (search solver depth 40 fits 20000) (omega arith) in
           order (w ∷ h ∷ x ∷ minℤ (l *ℤ l) (h *ℤ h) ∷ []) (product-mono z z k k & *ℤ-mono (*ℤ-nonneg nonneg nonneg) (min-≤ʳ (l *ℤ l) (h *ℤ h)))
           (search solver depth 40 fits 20000) (omega arith)
+
+-- ---- what sums explain, the mended ones explain: they have the same members
+pub mended-explains : (c : Constraint) {u v : ℤ} {X : ℕ → ℤ} {p : ℤ} → Explained c u v X p → Explained (mendedConstraint c) u v X p
+mended-explains c P = record {
+  matrix = P .matrix;
+  denominator = P .denominator;
+  member = member-mended (c .order) (c .low) (c .high) (P .member);
+  terms = P .terms;
+  scale = P .scale;
+  between = P .between;
+  under = P .under;
+}
 
 -- ---- a sample in the sums
 module _ (s : Sample) (c : Constraint) (ordered : c .order ≡ factorCount) {u v : ℤ} {X : ℕ → ℤ} {p : ℤ} (whole : pos 1 ≤ℤ v) (P : Explained c u v X p) where

@@ -1,4 +1,5 @@
 pub mod Near
+pub mod InPlace
 pub mod SumsChecks
 pub mod Measuring
 pub mod Products

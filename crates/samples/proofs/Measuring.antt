@@ -11,7 +11,7 @@ use Rattle.integers.specs.Numbers.{Within}
 use Rattle.tables.specs.Ranges.{limitRange}
 use Rattle.tables.specs.Matrix.{nth, at, table}
 use Rattle.tables.specs.Checks.{within}
-use Rattle.tables.specs.Problem.{constraintEntered}
+use Rattle.tables.specs.Problem.{constraintEntered, mendedConstraint}
 use Rattle.tables.specs.declared.Refusal.the-variants.{Sample, Full}
 use Rattle.tables.specs.declared.problem.Constraint.{Constraint}
 use Rattle.tables.proofs.Checks.{of-true, all-at}
@@ -41,10 +41,12 @@ module _ (F G : ℕ → Neighbours) (D : Neighbours) (same : (i : ℕ) → i < f
       (tabulate-ext n _ _ (λ i h. ap (λ (x : Neighbours). nth (c .linear .high) i -ℤ leastProduct x D) (same i h)))
       refl
 
-  pub entered-same : (n : ℤ) (sized : Bool) → enteredSums F D n sized c ≡ enteredSums G D n sized c
-  unfolding addedWithin
-  entered-same n sized =
-      ap (λ (d : Constraint). constraintEntered refused n sized (termsIn (within limitRange (c .limit)) c) c (elim (sumsWithin d) [ true ↦ taken d | false ↦ refused Full ])) added-same
+-- to the mended sums too
+pub entered-same : (F G : ℕ → Neighbours) (D : Neighbours) → ((i : ℕ) → i < factorCount → F i ≡ G i) → (c : Constraint) (n : ℤ) (sized : Bool) → enteredSums F D n sized c ≡ enteredSums G D n sized c
+unfolding addedWithin
+entered-same F G D same c n sized =
+    ap (λ (d : Constraint). constraintEntered refused n sized (termsIn (within limitRange (c .limit)) c) c (elim (sumsWithin d) [ true ↦ taken d | false ↦ refused Full ]))
+    (added-same F G D same (mendedConstraint c))
 
 -- ---- a number of a sample, of 32 bits and in range, lies between small ones
 module _ (x : Float) (f : fits binary32 x ≡ true) (r : inRange x ≡ true) where

@@ -8,7 +8,7 @@ use mir.Syntax.{w64}
 use mir.Val.{SFits, toZ, ofZ}
 use Rattle.integers.specs.Numbers.{Within}
 use Rattle.integers.proofs.Machine.{clean, within-+, within--, within-*, fits-within}
-use Rattle.arithmetic.proofs.Extremes.{within-min, within-max}
+use Rattle.integers.proofs.Extremes.{within-min, within-max}
 use Rattle.tables.specs.Matrix.{Matrix, nth, at, table}
 use Rattle.tables.specs.Buffers.{Filled}
 use Rattle.tables.specs.Problem.{constraintOf}

@@ -1,7 +1,7 @@
 -- What the code asks of a sample's numbers and of sums, and what it states of them.
 use mathlib.Core.Path.{_≡_}
 use mathlib.Core.List.{List}
-use Prim.Native.Nat.{ℕ, _*_, _^_, _≤_, _<_}
+use Prim.Native.Nat.{ℕ, _*_, _^_, _<_}
 use lib.IntN.{ℤ}
 use lib.ListN.{length}
 use Rattle.integers.specs.Numbers.{Within}
@@ -28,33 +28,26 @@ pub record NumbersNear (a b : List ℤ) : Type 0 where
 abbrev pub MeasuresNear : Measures → Type 0
 MeasuresNear m = NumbersNear (lowsOf m) (highsOf m)
 
--- the numbers of two lists, m of them, are within ±b
+-- two lists of m numbers within ±b
 pub record BothWithin (m b : ℕ) (x y : List ℤ) : Type 0 where
-  pub low-length : m ≤ length x
-  pub high-length : m ≤ length y
+  pub low-length : length x ≡ m
+  pub high-length : length y ≡ m
   pub low : (k : ℕ) → k < m → Within b (nth x k)
   pub high : (k : ℕ) → k < m → Within b (nth y k)
 
--- tables and linear terms of a sample's order, long enough
-pub record SumsLong (l u a b : List ℤ) : Type 0 where
-  pub low : factorCount * factorCount ≤ length l
-  pub high : factorCount * factorCount ≤ length u
-  pub linear-low : factorCount ≤ length a
-  pub linear-high : factorCount ≤ length b
-
--- and in their ranges
-pub record SumsIn (l u a b : List ℤ) : Type 0 where
-  pub tables : BothWithin (factorCount * factorCount) entryRange l u
-  pub linear : BothWithin factorCount linearRange a b
-
--- scratch lists of a sample's order
+-- tables and linear terms of a sample's order
 pub record Rooms (l u a b : List ℤ) : Type 0 where
   pub low : length l ≡ factorCount * factorCount
   pub high : length u ≡ factorCount * factorCount
   pub linear-low : length a ≡ factorCount
   pub linear-high : length b ≡ factorCount
 
--- ---- what the code states: the running limit in its answer, the other sums in scratch lists
+-- and in their ranges
+pub record SumsIn (l u a b : List ℤ) : Type 0 where
+  pub tables : BothWithin (factorCount * factorCount) entryRange l u
+  pub linear : BothWithin factorCount linearRange a b
+
+-- ---- what the code states: the running limit in its answer, the other sums in their lists
 unfoldable pub stated : Summed → List ℤ → List ℤ → List ℤ → List ℤ → Outcome
 stated (Summed.Within α) l u a b = taken (constraintOf factorCount l u a b α)
 stated (Summed.Refused r) l u a b = refused r

@@ -7,7 +7,7 @@ use lib.IntN.{ℤ}
 use Rattle.tables.specs.Ranges.{limitRange}
 use Rattle.tables.specs.Checks.{Check, firstRefusal, within, linearWithin, boundsChecks}
 use Rattle.tables.specs.Answers.{after}
-use Rattle.tables.specs.Problem.{constraintSized, constraintEnds, constraintEntered}
+use Rattle.tables.specs.Problem.{mendedConstraint, constraintSized, constraintEnds, constraintEntered}
 use Rattle.tables.specs.declared.Refusal.{Refusal}
 use Rattle.tables.specs.declared.Refusal.the-variants.{Sample, Full}
 use Rattle.tables.specs.declared.problem.Constraint.{Constraint}
@@ -42,14 +42,15 @@ sumsChecks limits c = boundsChecks (termsIn limits c) (c .order) (c .low) (c .hi
 unfoldable pub addedWithin : (ℕ → Neighbours) → Neighbours → Constraint → Outcome
 addedWithin F D c = elim (sumsWithin (addedBy F D c)) [ true ↦ taken (addedBy F D c) | false ↦ refused Full ]
 
--- 3, 4, 5, 16 and 18
+-- 3, 4, 5 and 16 of the sums as they are handed in; then the sample is added to the mended ones, R2.10, and 18 is asked of these
 unfoldable pub checkedSums : (ℕ → Neighbours) → Neighbours → Constraint → Outcome
-checkedSums F D c = after refused (firstRefusal (sumsChecks (within limitRange (c .limit)) c)) (addedWithin F D c)
+checkedSums F D c =
+    after refused (firstRefusal (sumsChecks (within limitRange (c .limit)) c)) (addedWithin F D (mendedConstraint c))
 
 -- 1 and 2 before them
 abbrev pub enteredSums : (ℕ → Neighbours) → Neighbours → ℤ → Bool → Constraint → Outcome
 enteredSums F D n sized c =
-    constraintEntered refused n sized (termsIn (within limitRange (c .limit)) c) c (addedWithin F D c)
+    constraintEntered refused n sized (termsIn (within limitRange (c .limit)) c) c (addedWithin F D (mendedConstraint c))
 
 -- 17; then 1 to 5 and 16 of the sums handed in, where check 2 finds `sized`; then 18
 unfoldable pub gathering : Declared.Sample → ℤ → Bool → Constraint → Outcome

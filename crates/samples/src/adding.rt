@@ -10,18 +10,17 @@ ghost use Rattle.tables.specs.declared.problem.Constraint.{Constraint};
 ghost use Rattle.samples.specs.Samples.{factorCount, numberCount, between, factorOf};
 ghost use Rattle.samples.specs.Sums.{productEnds, leastProduct, greatestProduct, leastSquare, addedBy, sumsWithin};
 ghost use Rattle.samples.specs.Gathering.{checkedSums};
-ghost use lib.ListN.{length};
-ghost use Rattle.samples.specs.Contracts.{NumbersNear, MeasuresNear, BothWithin, SumsLong, SumsIn, Rooms, Stated};
-use crate::checking::check_sums;
+ghost use Rattle.samples.specs.Contracts.{NumbersNear, MeasuresNear, BothWithin, SumsIn, Rooms, Stated};
+use crate::checking::mend_sums;
 use crate::sample::FACTOR_COUNT;
 use crate::sample::Factors;
 use crate::sample::Measures;
 use crate::sample::Numbers;
 use crate::sample::PRODUCT_COUNT;
 use crate::sample::Products;
-use arithmetic::greater;
-use arithmetic::smaller;
 use floats::Neighbours;
+use integers::greater;
+use integers::smaller;
 use tables::Checked;
 use tables::LIMIT_RANGE;
 use tables::Refusal;
@@ -60,75 +59,54 @@ fn least_square(low: &Numbers, high: &Numbers, i: usize) -> i64
     smaller(a * a, b * b)
 }
 
-// The bounds with the products of a sample's factors in them, from bounds lower and upper.
-fn add_products(
-    low: &Numbers,
-    high: &Numbers,
-    lower: &[i64],
-    upper: &[i64],
-    l: &mut Products,
-    u: &mut Products,
-)
-    requires { ⌜ NumbersNear (now low) (now high) × BothWithin (factorCount * factorCount) entryRange (now lower) (now upper)
-        × (length (now l) ≡ factorCount * factorCount) × (length (now u) ≡ factorCount * factorCount) ⌝ }
-    ensures { λ _. ⌜ (now (l .exit) ≡ table factorCount (λ i j. at factorCount (now (lower .entry)) i j +ℤ
+// Bounds that gain the products of a sample's factors, in place.
+fn add_products(low: &Numbers, high: &Numbers, l: &mut Products, u: &mut Products)
+    requires { ⌜ NumbersNear (now low) (now high) × BothWithin (factorCount * factorCount) entryRange (now l) (now u) ⌝ }
+    ensures { λ _. ⌜ (now (l .exit) ≡ table factorCount (λ i j. at factorCount (now (l .entry)) i j +ℤ
         leastProduct (between (now (low .entry)) (now (high .entry)) i) (between (now (low .entry)) (now (high .entry)) j)))
-        × (now (u .exit) ≡ table factorCount (λ i j. at factorCount (now (upper .entry)) i j +ℤ
+        × (now (u .exit) ≡ table factorCount (λ i j. at factorCount (now (u .entry)) i j +ℤ
         greatestProduct (between (now (low .entry)) (now (high .entry)) i) (between (now (low .entry)) (now (high .entry)) j))) ⌝ }
 {
     let mut k = 0;
     while k < PRODUCT_COUNT {
         let gain = product_ends(low, high, k / FACTOR_COUNT, k % FACTOR_COUNT);
-        l[k] = lower[k] + gain.low;
-        u[k] = upper[k] + gain.high;
+        l[k] = l[k] + gain.low;
+        u[k] = u[k] + gain.high;
         k += 1;
     }
 }
 
-// The ends of the linear terms less the products of a sample's factors and its draw, from ends from and to.
-fn take_draws(
-    low: &Numbers,
-    high: &Numbers,
-    from: &[i64],
-    to: &[i64],
-    a: &mut Factors,
-    b: &mut Factors,
-)
-    requires { ⌜ NumbersNear (now low) (now high) × BothWithin factorCount linearRange (now from) (now to)
-        × (length (now a) ≡ factorCount) × (length (now b) ≡ factorCount) ⌝ }
-    ensures { λ _. ⌜ (now (a .exit) ≡ tabulate factorCount (λ i. nth (now (from .entry)) i -ℤ
+// The ends of linear terms, which lose the products of a sample's factors and its draw, in place.
+fn take_draws(low: &Numbers, high: &Numbers, a: &mut Factors, b: &mut Factors)
+    requires { ⌜ NumbersNear (now low) (now high) × BothWithin factorCount linearRange (now a) (now b) ⌝ }
+    ensures { λ _. ⌜ (now (a .exit) ≡ tabulate factorCount (λ i. nth (now (a .entry)) i -ℤ
         greatestProduct (between (now (low .entry)) (now (high .entry)) i) (between (now (low .entry)) (now (high .entry)) factorCount)))
-        × (now (b .exit) ≡ tabulate factorCount (λ i. nth (now (to .entry)) i -ℤ
+        × (now (b .exit) ≡ tabulate factorCount (λ i. nth (now (b .entry)) i -ℤ
         leastProduct (between (now (low .entry)) (now (high .entry)) i) (between (now (low .entry)) (now (high .entry)) factorCount))) ⌝ }
 {
     let mut i = 0;
     while i < FACTOR_COUNT {
         let loss = product_ends(low, high, i, FACTOR_COUNT);
-        a[i] = from[i] - loss.high;
-        b[i] = to[i] - loss.low;
+        a[i] = a[i] - loss.high;
+        b[i] = b[i] - loss.low;
         i += 1;
     }
 }
 
-// The sums with a sample in them, from sums in their ranges: bounds and linear terms go into l, u, a and b, and the running limit is
+// Sums in their ranges, with a sample in them: the bounds l and u and the linear terms from a to b in place, and the running limit is
 // returned.
 fn add_sample(
     m: Measures,
-    lower: &[i64],
-    upper: &[i64],
-    from: &[i64],
-    to: &[i64],
     limit: i64,
     l: &mut Products,
     u: &mut Products,
     a: &mut Factors,
     b: &mut Factors,
 ) -> i64
-    requires { ⌜ MeasuresNear m × SumsIn (now lower) (now upper) (now from) (now to) × Within limitRange limit
-        × Rooms (now l) (now u) (now a) (now b) ⌝ }
+    requires { ⌜ MeasuresNear m × SumsIn (now l) (now u) (now a) (now b) × Within limitRange limit ⌝ }
     ensures { λ r. ⌜ _≡_ {A = Constraint} (constraintOf factorCount (now (l .exit)) (now (u .exit)) (now (a .exit)) (now (b .exit)) r)
-        (addedBy (factorOf m) (m .draw) (constraintOf factorCount (now (lower .entry)) (now (upper .entry)) (now (from .entry))
-        (now (to .entry)) limit)) ⌝ }
+        (addedBy (factorOf m) (m .draw) (constraintOf factorCount (now (l .entry)) (now (u .entry)) (now (a .entry)) (now (b .entry))
+        limit)) ⌝ }
 {
     let rolling = m.rolling;
     let climb = m.climb;
@@ -137,14 +115,14 @@ fn add_sample(
     let draw = m.draw;
     let low = [rolling.low, climb.low, air.low, start.low, draw.low];
     let high = [rolling.high, climb.high, air.high, start.high, draw.high];
-    add_products(&low, &high, lower, upper, l, u);
-    take_draws(&low, &high, from, to, a, b);
+    add_products(&low, &high, l, u);
+    take_draws(&low, &high, a, b);
     limit - least_square(&low, &high, FACTOR_COUNT)
 }
 
 // Check 18: whether the sums are in their ranges.
 fn sums_within(l: &[i64], u: &[i64], a: &[i64], b: &[i64], limit: i64) -> bool
-    requires { ⌜ SumsLong (now l) (now u) (now a) (now b) ⌝ }
+    requires { ⌜ Rooms (now l) (now u) (now a) (now b) ⌝ }
     ensures { λ r. ⌜ r ≡ sumsWithin (constraintOf factorCount (now (l .entry)) (now (u .entry)) (now (a .entry)) (now (b .entry))
         limit) ⌝ }
 {
@@ -157,41 +135,31 @@ fn sums_within(l: &[i64], u: &[i64], a: &[i64], b: &[i64], limit: i64) -> bool
     entries_within(l, u, PRODUCT_COUNT)
 }
 
-// What adding a sample to sums gives: the running limit, with the other sums in scratch arrays; or a refusal.
+// What adding a sample to sums gives: the running limit, with the other sums in their arrays; or a refusal.
 pub enum Summed {
     Within(i64),
     Refused(Refusal),
 }
 
-// Checks 3, 4, 5 and 16 of sums of a sample's order; then the sums with the sample in them, into l, u, a and b; then check 18 of these.
+// Checks 3, 4, 5 and 16 of sums of a sample's order, whose bounds and linear terms stand in l, u, a and b; then the bounds are mended
+// (R2.10) and the sample is added, all in place; then check 18 of these sums.
 pub fn add_checked(
     m: Measures,
-    lower: &[i64],
-    upper: &[i64],
-    from: &[i64],
-    to: &[i64],
     limit: i64,
     l: &mut Products,
     u: &mut Products,
     a: &mut Factors,
     b: &mut Factors,
 ) -> Summed
-    requires { ⌜ MeasuresNear m × SumsLong (now lower) (now upper) (now from) (now to) × Rooms (now l) (now u) (now a) (now b) ⌝ }
-    ensures { λ r. ⌜ Stated (checkedSums (factorOf m) (m .draw) (constraintOf factorCount (now (lower .entry)) (now (upper .entry)) (now
-        (from .entry)) (now (to .entry)) limit)) r (now (l .exit)) (now (u .exit)) (now (a .exit)) (now (b .exit)) ⌝ }
+    requires { ⌜ MeasuresNear m × Rooms (now l) (now u) (now a) (now b) ⌝ }
+    ensures { λ r. ⌜ Stated (checkedSums (factorOf m) (m .draw) (constraintOf factorCount (now (l .entry)) (now (u .entry)) (now (a .entry))
+        (now (b .entry)) limit)) r (now (l .exit)) (now (u .exit)) (now (a .exit)) (now (b .exit)) ⌝ }
 {
-    let checked = check_sums(
-        FACTOR_COUNT,
-        within(limit, LIMIT_RANGE),
-        lower,
-        upper,
-        from,
-        to,
-    );
+    let checked = mend_sums(FACTOR_COUNT, within(limit, LIMIT_RANGE), l, u, a, b);
     if let Checked::Refused(r) = checked {
         return Summed::Refused(r);
     }
-    let sum = add_sample(m, lower, upper, from, to, limit, l, u, a, b);
+    let sum = add_sample(m, limit, l, u, a, b);
     if sums_within(l, u, a, b, sum) {
         return Summed::Within(sum);
     }

@@ -41,9 +41,11 @@ module _ (n : ℕ) (l u a b : List ℕ) (l′ u′ x y : List ℤ) (α : ℤ) (h
       sumsChecks limits (constraintOf n l′ u′ x y α) ≡ sumsChecks limits (constraintOf n (tableOf n l) (tableOf n u) (vectorOf n a) (vectorOf n b) α)
   unfolding linearWithin endsChecks
   checks-spelled limits =
-      let v = over-padded {x = tableOf n l} (length-numbersOf w64 l (n * n)) (table-fits h) (t .low refl) in
-      let w = over-padded {x = tableOf n u} (length-numbersOf w64 u (n * n)) (table-fits h) (t .high refl) in
-      rw (checks-padded v w _ n, range-same linearRange n (vectorOf n a) x (p .numbers refl), range-same linearRange n (vectorOf n b) y (q .numbers refl), crossed-same n (vectorOf n a) x (vectorOf n b) y (p .numbers refl) (q .numbers refl))
+      let e = length-numbersOf w64 l (n * n) in
+      let f = length-numbersOf w64 u (n * n) in
+      let v = over-padded {x = tableOf n l} e (table-fits h) (t .low refl) in
+      let w = over-padded {x = tableOf n u} f (table-fits h) (t .high refl) in
+      rw (checks-padded v w _ n e f, range-same linearRange n (vectorOf n a) x (p .numbers refl), range-same linearRange n (vectorOf n b) y (q .numbers refl), crossed-same n (vectorOf n a) x (vectorOf n b) y (p .numbers refl) (q .numbers refl))
 
   -- and so they are read
   pub reading-spelled : (K : ℤ) {m : ℕ} {β K′ : ℤ} {r : Reading} → r ≡ checkedReading K′ (constraintOf m l′ u′ x y β) → m ≡ n → β ≡ α → K′ ≡ K →

@@ -126,28 +126,13 @@ fn gather_measured(
     if !sums_sized(SIZE, order, lengths, limit.len()) {
         return Gathered::Refused(Refusal::Length);
     }
-    let mut lo = [0i64; PRODUCT_COUNT];
-    let mut hi = [0i64; PRODUCT_COUNT];
-    let mut first = [0i64; FACTOR_COUNT];
-    let mut last = [0i64; FACTOR_COUNT];
-    load_sums(low, high, from, to, &mut lo, &mut hi, &mut first, &mut last);
-    let running = words::load_signed(limit, 0, SIZE);
     let mut l = [0i64; PRODUCT_COUNT];
     let mut u = [0i64; PRODUCT_COUNT];
     let mut a = [0i64; FACTOR_COUNT];
     let mut b = [0i64; FACTOR_COUNT];
-    let summed = add_checked(
-        m,
-        &lo,
-        &hi,
-        &first,
-        &last,
-        running,
-        &mut l,
-        &mut u,
-        &mut a,
-        &mut b,
-    );
+    load_sums(low, high, from, to, &mut l, &mut u, &mut a, &mut b);
+    let running = words::load_signed(limit, 0, SIZE);
+    let summed = add_checked(m, running, &mut l, &mut u, &mut a, &mut b);
     match summed {
         Summed::Within(sum) => {
             store_sums(&l, &u, &a, &b, low, high, from, to);

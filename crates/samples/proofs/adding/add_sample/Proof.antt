@@ -36,10 +36,10 @@ unfolding addedBy
 add-sample-spec =
     tie.close
     (tie.spec
-    (λ c κs. let s = begun (c .before .before) in (near-read (s .args .m) (s .pre .0), s .pre .1 .tables, s .pre .3 .low, s .pre .3 .high))
+    (λ c κs. let s = begun (c .before .before) in (near-read (s .args .m) (s .pre .0), s .pre .1 .tables))
     (λ c κs.
     let s = start (c .before .before .before .before) in
-    (near-read (s .args .m) (s .pre .0), s .pre .1 .linear, s .pre .3 .linear-low, s .pre .3 .linear-high))
+    (near-read (s .args .m) (s .pre .0), s .pre .1 .linear))
     (λ c κs. let s = start (products (c .before .before)) in (near-read (s .args .m) (s .pre .0), omega arith))
     sub-result
     (λ c.
@@ -50,4 +50,4 @@ add-sample-spec =
     let q = d .take-draws .ensures in
     let a = s .args in
     constraint-by (p .0) (p .1) (q .0) (q .1) (clean (sub-result c) ∙ rw (square c, clean (s .fits .limit)))
-    ∙ added-read (a .m) (s .pre .0) (constraintOf factorCount (a .lower .now) (a .upper .now) (a .from .now) (a .to .now) (a .limit))))
+    ∙ added-read (a .m) (s .pre .0) (constraintOf factorCount (a .l .now) (a .u .now) (a .a .now) (a .b .now) (a .limit))))

@@ -1,4 +1,4 @@
--- The loop's invariant: both ends of linear term i are filled in for each i passed.
+-- The loop's invariant: of the ends of the linear terms the first i have lost their products, and the others are as they were.
 use mathlib.Core.Path.{_≡_, _∙_}
 use mathlib.Core.List.{List}
 use Prim.Native.Nat.{ℕ, _-_, _≤_, _<_}
@@ -7,13 +7,13 @@ use native.Mathlib.Numerals.{add-one}
 use lib.IntN.{ℤ, _-ℤ_}
 use mir.Syntax.{w64}
 use mir.Val.{toZ, ofZ}
-use Rattle.integers.proofs.Machine.{clean, clean-element}
+use Rattle.integers.proofs.Machine.{clean}
 use Rattle.tables.specs.Matrix.{nth}
-use Rattle.tables.specs.Buffers.{Filled}
-use Rattle.tables.proofs.Buffers.{filled-none, filled-more, filled-whole}
+use Rattle.tables.proofs.Buffers.{filled-whole}
 use Rattle.samples.specs.Samples.{factorCount, numberCount, between}
 use Rattle.samples.specs.Sums.{leastProduct, greatestProduct}
 use Rattle.samples.proofs.Near.{lost-fits, read-low, read-high, least-within, greatest-within}
+use Rattle.samples.proofs.InPlace.{Replaced, replaced-none, replaced-more, read-next}
 use Rattle.samples.proofs.adding.take_draws.Statement.{statement}
 use Rattle.samples.proofs.adding.take_draws.Tie as tie
 
@@ -25,10 +25,10 @@ abbrev raised : List ℤ → List ℤ → List ℤ → ℕ → ℤ
 raised low high x i = nth x i -ℤ leastProduct (between low high i) (between low high factorCount)
 
 abbrev Inv-loop : tie.InvT-loop
-Inv-loop low high from to a₀ b₀ i₀ a b i = (i ≤ factorCount) × Filled factorCount i (lowered low high from) a × Filled factorCount i (raised low high to) b
+Inv-loop low high a₀ b₀ i₀ a b i = (i ≤ factorCount) × Replaced factorCount i (lowered low high a₀) a₀ a × Replaced factorCount i (raised low high b₀) b₀ b
 
 abbrev μ-loop : tie.MeasureT-loop
-μ-loop low high from to a₀ b₀ i₀ a b i = factorCount - i
+μ-loop low high a₀ b₀ i₀ a b i = factorCount - i
 
 abbrev begun : tie.After-product-ends Inv-loop μ-loop → tie.Start Inv-loop μ-loop
 begun c = c .before .before .before
@@ -52,27 +52,27 @@ sub-a : tie.Need-sub-a Inv-loop μ-loop
 sub-a c =
     let e = c .before .before .before in
     let t = e .before in
-    rw (greatest e, clean-element _ (c .before .before .a .given)) (lost-fits (omega arith) (begun e .pre .1 .low (t .before .loop .i) (t .loop-test .taken)) (greatest-within (begun e .pre .0) (factor t) draw))
+    rw (greatest e, read-next _ (c .before .before .a .given) (t .before .loop .inv .1)) (lost-fits (omega arith) (begun e .pre .1 .low (t .before .loop .i) (t .loop-test .taken)) (greatest-within (begun e .pre .0) (factor t) draw))
 
 sub-b : tie.Need-sub-b Inv-loop μ-loop
 sub-b c =
     let e = c .before .before .before .before .before .before in
     let t = e .before in
-    rw (least e, clean-element _ (c .before .before .b .given)) (lost-fits (omega arith) (begun e .pre .1 .high (t .before .loop .i) (t .loop-test .taken)) (least-within (begun e .pre .0) (factor t) draw))
+    rw (least e, read-next _ (c .before .before .b .given) (t .before .loop .inv .2)) (lost-fits (omega arith) (begun e .pre .1 .high (t .before .loop .i) (t .loop-test .taken)) (least-within (begun e .pre .0) (factor t) draw))
 
 pub take-draws-spec : {M : Type 1} → statement M
 take-draws-spec =
     tie.close
     (tie.spec Inv-loop μ-loop
-    (λ c. (omega arith, filled-none (c .pre .2), filled-none (c .pre .3)))
+    (λ c. (omega arith, replaced-none (c .pre .1 .low-length), replaced-none (c .pre .1 .high-length)))
     (λ c κs. (c .before .before .pre .0, factor c, draw))
     (λ c. omega (arith, c .before .loop-test .taken))
-    (λ c. omega (arith, c .before .loop-test .taken, c .before .before .before .pre .1 .low-length))
+    (λ c. omega (arith, c .before .loop-test .taken))
     sub-a
     (λ c. omega (arith, c .before .before .before .before .loop-test .taken))
     (λ c. omega (arith, c .before .before .before .before .loop-test .taken))
     (λ c. omega (arith, c .before .before .before .before .loop-test .taken))
-    (λ c. omega (arith, c .before .before .before .before .loop-test .taken, begun (c .before .before .before) .pre .1 .high-length))
+    (λ c. omega (arith, c .before .before .before .before .loop-test .taken))
     sub-b
     (λ c. omega (arith, c .before .before .before .before .before .before .before .loop-test .taken))
     (λ c. omega (arith, c .before .before .before .before .before .before .before .loop-test .taken))
@@ -83,9 +83,9 @@ take-draws-spec =
     let e = d .before .before .before in
     let l = e .before .before in (
       omega (arith, e .before .loop-test .taken),
-      rw add-one (filled-more (e .before .loop-test .taken) (clean (sub-a d) ∙ rw (greatest e, clean-element _ (d .before .before .a .given))) (l .loop .inv .1)),
-      rw add-one (filled-more (e .before .loop-test .taken) (clean (sub-b c) ∙ rw (least e, clean-element _ (c .before .before .b .given))) (l .loop .inv .2)),
+      rw add-one (replaced-more (e .before .loop-test .taken) (clean (sub-a d) ∙ rw (greatest e, read-next _ (d .before .before .a .given) (l .loop .inv .1))) (l .loop .inv .1)),
+      rw add-one (replaced-more (e .before .loop-test .taken) (clean (sub-b c) ∙ rw (least e, read-next _ (c .before .before .b .given) (l .loop .inv .2))) (l .loop .inv .2)),
     ))
     (λ c.
     let e : c .before .loop .i ≡ factorCount = omega arith in
-    (filled-whole _ _ (rw e at (c .before .loop .inv .1)), filled-whole _ _ (rw e at (c .before .loop .inv .2)))))
+    (filled-whole _ _ (rw e at (c .before .loop .inv .1 .front)), filled-whole _ _ (rw e at (c .before .loop .inv .2 .front)))))

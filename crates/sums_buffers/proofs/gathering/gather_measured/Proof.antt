@@ -13,7 +13,7 @@ use Rattle.words.proofs.Laws.{length-numbersOf}
 use Rattle.tables.specs.Ranges.{limitRange}
 use Rattle.tables.specs.Checks.{orderOf, within, firstRefusal}
 use Rattle.tables.specs.Answers.{after}
-use Rattle.tables.specs.Problem.{lengthsOf, constraintEnds, constraintEntered}
+use Rattle.tables.specs.Problem.{lengthsOf, mendedConstraint, constraintEnds, constraintEntered}
 use Rattle.tables.specs.declared.problem.Constraint.{Constraint}
 use Rattle.tables.proofs.Checks.{call-false, call-true}
 use Rattle.tables.proofs.Admission.{no-order, no-sizes, order-given}
@@ -57,7 +57,7 @@ abbrev others : tie.Start → Bool
 others s = termsIn (within limitRange (posed s .limit)) (posed s)
 
 abbrev act : tie.Start → Outcome
-act s = after refused (firstRefusal (constraintEnds (posed s))) (addedWithin (factorOf (s .args .m)) (s .args .m .draw) (posed s))
+act s = after refused (firstRefusal (constraintEnds (posed s))) (addedWithin (factorOf (s .args .m)) (s .args .m .draw) (mendedConstraint (posed s)))
 
 -- the buffers with it
 abbrev given : tie.Start → Outcome → Left (List ℕ)
@@ -97,7 +97,7 @@ loads c = c .before .before
 
 -- what the addition states, of the whole
 abbrev running : tie.After-add-checked → tie.After-load-signed
-running c = c .before .before .before .before .before .before .before .before .before
+running c = c .before .before .before .before .before
 
 abbrev behind : tie.After-add-checked → tie.Else2
 behind c = entering (loads (running c))
@@ -106,7 +106,7 @@ abbrev whole : tie.Start → Outcome
 whole s = enteredSums (factorOf (s .args .m)) (s .args .m .draw) (s .args .n) (sizes s) (posed s)
 
 states : (c : tie.After-add-checked) → let o = c .add-checked .last in
-    Stated (whole (start (behind c))) (c .add-checked .result) (o .1 .1 .1 .1 .1 .1 .0) (o .1 .1 .1 .1 .1 .1 .1 .0) (o .1 .1 .1 .1 .1 .1 .1 .1 .0) (o .1 .1 .1 .1 .1 .1 .1 .1 .1 .0)
+    Stated (whole (start (behind c))) (c .add-checked .result) (o .1 .1 .0) (o .1 .1 .1 .0) (o .1 .1 .1 .1 .0) (o .1 .1 .1 .1 .1 .0)
 states c =
     let r = running c in
     let p = loads r .load-sums .ensures in
@@ -141,17 +141,7 @@ gather-measured-spec =
     ap (given s) (no-sizes (s .args .n) (sizes s) (others s) (posed s .low) (posed s .high) refused (act s) (λ e. c .before .before .before .if1 .left (order o ∙ e)) (call-false (sized (c .before)) (c .if2 .taken))))
     (λ c κs. (lying (c .before .before .before .before .before .before .before .before), record { low = refl; high = refl; linear-low = refl; linear-high = refl }))
     (λ c κs. (refl, omega (arith, lengths (entering (c .before)) .limit)))
-    (λ c. sym (loaded (loads (c .before)) .low))
-    (λ c. sym (loaded (loads (c .before .before)) .high))
-    (λ c. sym (loaded (loads (c .before .before .before)) .linear-low))
-    (λ c. sym (loaded (loads (c .before .before .before .before)) .linear-high))
-    (λ c κs.
-    let d = loads (c .before .before .before .before .before .before .before .before) in
-    let z = loaded d in (
-      start (entering d) .pre,
-      record { low = omega (arith, z .low); high = omega (arith, z .high); linear-low = omega (arith, z .linear-low); linear-high = omega (arith, z .linear-high) },
-      record { low = refl; high = refl; linear-low = refl; linear-high = refl },
-    ))
+    (λ c κs. let d = loads (c .before .before .before .before) in (start (entering d) .pre, loaded d))
     (λ c. search needs)
     (λ c κs. let d = summing c in (states d .rooms, lying (behind d)))
     (λ c κs. (refl, omega (arith, lengths (behind (summing (storing c .before))) .limit)))
