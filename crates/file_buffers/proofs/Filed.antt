@@ -1,4 +1,4 @@
--- Laws of the problem that buffers spell, and of its file: what is written is read back, number by number and byte by byte.
+-- Laws of the problem that buffers spell, and of the file of the mended one: what is written is read back, number by number and byte by byte.
 use mathlib.Core.Path.{_≡_, refl, sym, ap, subst, _∙_}
 use mathlib.Core.Bool.{Bool, true, false≢true}
 use mathlib.Core.List.{List, _++_}
@@ -10,13 +10,15 @@ use lib.ListN.{length, replicate}
 use lib.Seq.{take-all}
 use mir.Syntax.{w64}
 use mir.Val.{bytes}
-use Rattle.words.specs.Numbers.{paddedNumbersOf}
-use Rattle.words.proofs.Laws.{AllBytes, length-numbersOf, length-paddedNumbersOf, bytesOf-numbersOf}
+use Rattle.integers.specs.Numbers.{minℤ, maxℤ}
+use Rattle.words.specs.Numbers.{paddedNumbersOf, bytesOf}
+use Rattle.words.proofs.Laws.{AllBytes, length-numbersOf, length-bytesOf, length-paddedNumbersOf, bytesOf-numbersOf}
 use Rattle.words.proofs.Sign.{narrow-of}
 use Rattle.tables.specs.Ranges.{greatestOrder, tableRoom}
 use Rattle.tables.specs.Checks.{orderOk, orderOf, entryChecks, firstRefusal}
 use Rattle.tables.specs.Answers.{after}
-use Rattle.tables.specs.Problem.{problemOf, lengthsOf, problemChecks}
+use Rattle.tables.specs.Mending.{mendedBy}
+use Rattle.tables.specs.Problem.{problemOf, lengthsOf, problemChecks, mendedProblem}
 use Rattle.tables.specs.declared.Refusal.the-variants.{Range}
 use Rattle.tables.specs.declared.Checked.{Checked}
 use Rattle.tables.specs.declared.Checked.the-variants.{Passed, Refused}
@@ -25,10 +27,13 @@ use Rattle.tables.proofs.Matrix.{table-fits}
 use Rattle.tables.proofs.Checks.{more-checks, order-of}
 use Rattle.tables.proofs.Answers.{prefix-passed, after-passed, after-refused}
 use Rattle.tables.proofs.Admission.{entry-passed, entry-passes, order-known}
+use Rattle.tables.proofs.MendedTables.{Pairing, greater-pairing, smaller-pairing}
 use Rattle.tables.proofs.Problems.{problem-door}
-use Rattle.summary.specs.Problems.{fileOf, padded, readAs, reading, ProblemRooms, LetThrough}
-use Rattle.summary.proofs.RoundTrip.{InFields, read-back}
-use Rattle.summary.proofs.Padding.{Sized, spelled-padded, padded-checks, padded-through}
+use Rattle.summary.specs.Problems.{fileOf, paddedTo, padded, readAs, reading, ProblemRooms, LetThrough}
+use Rattle.summary.proofs.MendedProblems.{nth-paddedTo, padded-mended, mended-through}
+use Rattle.summary.proofs.Spelled.{padded-numbers}
+use Rattle.summary.proofs.RoundTrip.{InFields, bytes-ext, read-back}
+use Rattle.summary.proofs.Padding.{Sized, spelled-padded}
 use Rattle.writer.specs.Writing.{Written, kept, written, checkedWriting, writing}
 use Rattle.writer.proofs.Acting.{write-sizes-of, writing-sized, writing-padded, same-refusal, too-large}
 use Rattle.buffers.specs.Buffers.{tableOf, vectorOf, bytesOfNumber}
@@ -50,7 +55,7 @@ module _ (n : ℤ) (sized : Bool) (p : Problem) (s : List ℕ) (e : p .constrain
     pub order : orderOk n ≡ true
     pub sizes : sized ≡ true
     pub checks : firstRefusal (problemChecks p) ≡ Passed
-    pub file : writing n sized p s .file ≡ fileOf p
+    pub file : writing n sized p s .file ≡ fileOf (mendedProblem p)
 
   pub writing-wrote : writing n sized p s .answer ≡ Passed → Wrote
   writing-wrote h = go (firstRefusal (entryChecks n sized ++ problemChecks p)) refl
@@ -106,11 +111,19 @@ module _ (n : ℕ) (l u a b : List ℕ) (α : ℤ) (c : List ℕ) where
         spelled-padded w64 greatestOrder c n,
       )
 
-  -- where the checks pass it is let through
-  spelled-through : orderOk (pos n) ≡ true → firstRefusal (problemChecks (spelled n l u a b α c)) ≡ Passed → LetThrough (spelled n l u a b α c)
-  spelled-through o e =
-      let q = ap firstRefusal (sym (padded-checks listed listed-sized) ∙ ap problemChecks (sym spelled-listed)) ∙ e in
-      subst LetThrough (sym spelled-listed) (padded-through listed listed-sized o q)
+  -- where the checks pass it is mended let through
+  spelled-zeros : padded (spelled n l u a b α c) ≡ spelled n l u a b α c
+  spelled-zeros =
+      rw (
+        padded-numbers w64 tableRoom l (n * n),
+        padded-numbers w64 tableRoom u (n * n),
+        padded-numbers w64 greatestOrder a n,
+        padded-numbers w64 greatestOrder b n,
+        padded-numbers w64 greatestOrder c n,
+      )
+
+  spelled-through : orderOk (pos n) ≡ true → firstRefusal (problemChecks (spelled n l u a b α c)) ≡ Passed → LetThrough (mendedProblem (spelled n l u a b α c))
+  spelled-through o e = mended-through (spelled n l u a b α c) (spelled-rooms (order-of o .1)) o e spelled-zeros
 
 -- ---- as the reader lays it out
 -- numbers that fill a buffer, and zeros behind them
@@ -119,6 +132,22 @@ unfolding paddedNumbersOf
 numbers-filled room t k v h =
     let e : (room - k) * bytes w64 ≡ room * bytes w64 - length t = omega arith in
     rw (bytesOf-numbersOf (narrow-of 8) t (replicate (room - k) (pos 0)) k v (omega arith), take-all (k * bytes w64) t (omega arith), e)
+
+-- a table that is mended in its array
+module _ (m : ℤ → ℤ → ℤ) (q : Pairing m) (k : ℕ) (t : List ℕ) where
+  abbrev mended : List ℤ
+  mended = mendedBy m k (tableOf k t)
+
+  mended-filled : inFront tableRoom (k * k) (mendedBy m k (paddedNumbersOf w64 tableRoom t (k * k))) ≡ filled tableRoom (bytesOf w64 mended (k * k))
+  mended-filled =
+      let h : k * k ≤ length (tableOf k t) = omega (arith, length-numbersOf w64 t (k * k)) in
+      let e : (tableRoom - k * k) * bytes w64 ≡ tableRoom * bytes w64 - length (bytesOf w64 mended (k * k)) = omega (arith, length-bytesOf w64 mended (k * k)) in
+      rw (
+        spelled-padded w64 tableRoom t (k * k),
+        ← padded-mended m q tableRoom k (tableOf k t) h,
+        bytes-ext w64 (paddedTo tableRoom (k * k) mended) mended (k * k) (nth-paddedTo tableRoom (k * k) mended),
+        e,
+      )
 
 -- an order is not negative
 order-pos : (n : ℤ) → pos 1 ≤ℤ n → pos (natAbs n) ≡ n
@@ -141,20 +170,20 @@ module _ (n : ℤ) (l u a b : List ℕ) (α : ℤ) (c s : List ℕ) where
     unfolding writeSummary
     wrote = writing-wrote n _ problem s refl h
 
-    through : LetThrough problem
+    through : LetThrough (mendedProblem problem)
     through = spelled-through k l u a b α c (rw (order-known n (wrote .order), order-pos n (order-of (wrote .order) .0)) (wrote .order)) (wrote .checks)
 
-    -- it is read back
-    pub written-read : reading (writeSummary n l u a b α c s .file) ≡ readAs Passed problem
+    -- it is read back, mended
+    pub written-read : reading (writeSummary n l u a b α c s .file) ≡ readAs Passed (mendedProblem problem)
     unfolding writeSummary
-    written-read = ap reading (wrote .file) ∙ read-back problem through
+    written-read = ap reading (wrote .file) ∙ read-back (mendedProblem problem) through
 
-    pub written-laid : AllBytes l → AllBytes u → AllBytes a → AllBytes b → AllBytes c → partsOf problem ≡ laidOut n l u a b α c
+    pub written-laid : AllBytes a → AllBytes b → AllBytes c → partsOf (mendedProblem problem) ≡ laidOut n l u a b α c
     unfolding partsOf
-    written-laid vl vu va vb vc =
+    written-laid va vb vc =
         let z = write-sizes-of _ _ _ _ _ (wrote .sizes) in
         parts-by (ap bytesOfNumber (ap pos (order-known n (wrote .order)) ∙ order-pos n (order-of (wrote .order) .0)))
-        (numbers-filled tableRoom l (k * k) vl (z .low)) (numbers-filled tableRoom u (k * k) vu (z .high))
+        (mended-filled maxℤ greater-pairing k l) (mended-filled minℤ smaller-pairing k u)
         (numbers-filled greatestOrder a k va (z .linear-low)) (numbers-filled greatestOrder b k vb (z .linear-high)) refl (numbers-filled greatestOrder c k vc (z .centre))
 
   -- ---- R24.5: where n is an order and the buffers have their sizes, the problem is refused by the number that its file would get

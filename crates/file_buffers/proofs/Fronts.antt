@@ -1,17 +1,18 @@
 -- Numbers in front of a buffer and zeros behind them: the bytes of an array that has zeros there, and of an array that fills its buffer.
-use mathlib.Core.Path.{_≡_, refl, ap, _∙_}
+use mathlib.Core.Path.{_≡_, refl, sym, ap, _∙_}
 use mathlib.Core.List.{List, _++_, append-assoc, append-nil}
 use Prim.Native.Nat.{ℕ, zero, suc, _+_, _-_, _*_, _≤_}
 use native.Mathlib.Omega.{arith}
 use lib.IntN.{ℤ, pos}
-use lib.ListN.{drop, replicate, replicate-append-replicate, List·getD-eq-default}
-use mir.Syntax.{Width, w64}
+use lib.ListN.{length, take, drop, replicate, replicate-append-replicate, List·getD-eq-default}
+use lib.Seq.{length-take-le}
+use mir.Syntax.{w64}
 use mir.Val.{bytes, ofZ}
-use Rattle.words.specs.Numbers.{toLeBytes, numbersOf, paddedNumbersOf, bytesOf}
-use Rattle.words.proofs.Laws.{length-numbersOf}
+use Rattle.words.specs.Numbers.{toLeBytes, bytesOf}
 use Rattle.words.proofs.Lists.{append-drop-end}
 use Rattle.tables.specs.Matrix.{nth}
 use Rattle.tables.proofs.Matrix.{nth-padded}
+use Rattle.summary.specs.Problems.{paddedTo}
 use Rattle.file_buffers.specs.Parts.{inFront, Numbers}
 
 -- the bytes of 0 are zeros
@@ -31,17 +32,17 @@ zeros-behind x k (suc m) z =
     ap (bytesOf w64 x) e
     ∙ rw (zeros-behind x k m z, z (k + m) (omega arith), zero-bytes, append-assoc (bytesOf w64 x k), replicate-append-replicate {A = ℕ} (m * bytes w64) (bytes w64) 0, f)
 
--- an array that was filled from bytes has zeros behind its numbers
-module _ (w : Width) (room : ℕ) (t : List ℕ) (k : ℕ) where
-  past : (i : ℕ) → k ≤ i → nth (paddedNumbersOf w room t k) i ≡ pos 0
-  unfolding paddedNumbersOf
-  past i h = ap (λ (f : ℕ → ℤ). f i) (nth-padded (numbersOf w t k) (room - k)) ∙ List·getD-eq-default (numbersOf w t k) (pos 0) (omega (arith, length-numbersOf w t k))
+-- an array with zeros behind its first k numbers
+module _ (room k : ℕ) (x : List ℤ) (h : k ≤ length x) (e : paddedTo room k x ≡ x) where
+  past : (i : ℕ) → k ≤ i → nth x i ≡ pos 0
+  past i l =
+      ap (λ (y : List ℤ). nth y i) (sym e) ∙ ap (λ (f : ℕ → ℤ). f i) (nth-padded (take k x) (room - k))
+      ∙ List·getD-eq-default (take k x) (pos 0) (omega (arith, length-take-le k x h))
 
-  pub padded-bytes : k ≤ room → let x = paddedNumbersOf w room t k in bytesOf w64 x room ≡ inFront room k x
-  padded-bytes h =
-      let x = paddedNumbersOf w room t k in
-      let e : room ≡ k + (room - k) = omega arith in
-      ap (bytesOf w64 x) e ∙ zeros-behind x k (room - k) past
+  pub padded-bytes : k ≤ room → bytesOf w64 x room ≡ inFront room k x
+  padded-bytes l =
+      let q : room ≡ k + (room - k) = omega arith in
+      ap (bytesOf w64 x) q ∙ zeros-behind x k (room - k) past
 
 -- a buffer of exactly their size is written whole
 pub numbers-stored : {m : ℕ} {x : List ℤ} {s : List ℕ} → Numbers m x s → bytesOf w64 x m ++ drop (m * bytes w64) s ≡ bytesOf w64 x m

@@ -1,4 +1,4 @@
--- The problem of a file that is accepted, in buffers of the greatest order: all numbers of its arrays are its own in front and zeros behind them.
+-- A problem that is let through, in buffers of the greatest order: all numbers of its arrays are its own in front and zeros behind them.
 use mathlib.Core.Path.{_≡_, refl, sym, ap, _∙_}
 use mathlib.Core.Bool.{Bool, true, false, false≢true, _&&_}
 use mathlib.Core.List.{List}
@@ -7,7 +7,7 @@ use native.Mathlib.Omega.{arith}
 use lib.Dec.{eqb}
 use lib.IntN.{pos, natAbs}
 use lib.ListN.{length}
-use mir.Syntax.{w32, w64}
+use mir.Syntax.{w64}
 use mir.Val.{bytes}
 use borrow.Author.Tests.{eqb-true}
 use Rattle.words.specs.Numbers.{bytesOf}
@@ -24,12 +24,10 @@ use Rattle.tables.proofs.Matrix.{table-fits}
 use Rattle.tables.proofs.Checks.{and-left, and-right}
 use Rattle.tables.proofs.Answers.{refusal-positive}
 use Rattle.tables.proofs.Problems.{constraint-sizes-of}
-use Rattle.fields.specs.declared.field.Kind.the-variants as Kind
-use Rattle.fields.specs.Layouts.{content, walked}
 use Rattle.summary.specs.declared.problem.Reading.{Reading}
-use Rattle.summary.specs.Problems.{problemIn, orderIn, reading}
-use Rattle.summary.proofs.Spelled.{order-small}
-use Rattle.summary.proofs.OneFile.{accepted, accepted-problem}
+use Rattle.summary.specs.Problems.{reading, LetThrough}
+use Rattle.summary.proofs.Spelled.{reading-through}
+use Rattle.summary.proofs.RoundTrip.{holds-of}
 use Rattle.buffers.specs.Buffers.{bytesOfNumber}
 use Rattle.file_buffers.specs.Parts.{Parts, parts, Handed, roomy, partsRoomy, partsOf, handed, readSummary, checkedCode}
 use Rattle.file_buffers.proofs.Fronts.{padded-bytes}
@@ -47,19 +45,22 @@ pub parts-by : {n l u a b α c n′ l′ u′ a′ b′ α′ c′ : List ℕ} �
     parts n l u a b α c ≡ parts n′ l′ u′ a′ b′ α′ c′
 parts-by d e f g h i j = rw (d, e, f, g, h, i, j)
 
-module _ (s : List ℕ) (e : reading s .checked ≡ Checked.Passed) where
-  pub stored-parts : stored (reading s .problem) ≡ partsOf (reading s .problem)
-  unfolding partsOf problemIn
-  stored-parts =
-      let l = walked s .layout in
-      let n = orderIn s l in
-      let h = order-small s l (accepted s e .checked) in
-      let t = table-fits h in
-      rw (accepted-problem s e)
-      (parts-by refl
-      (padded-bytes w32 tableRoom (content s l Kind.Low) (n * n) t) (padded-bytes w32 tableRoom (content s l Kind.High) (n * n) t)
-      (padded-bytes w64 greatestOrder (content s l Kind.LinearLow) n h) (padded-bytes w64 greatestOrder (content s l Kind.LinearHigh) n h)
-      refl (padded-bytes w64 greatestOrder (content s l Kind.Centre) n h))
+stored-parts : (p : Problem) → LetThrough p → stored p ≡ partsOf p
+unfolding partsOf
+stored-parts p t =
+    let c = p .constraint in
+    let n = c .order in
+    let h = t .rooms .order in
+    let f = table-fits h in
+    let w = holds-of p (t .rooms) in
+    let z = t .zeros in
+    parts-by refl
+    (padded-bytes tableRoom (n * n) (c .low) (w .low) (ap (λ (q : Problem). q .constraint .low) z) f)
+    (padded-bytes tableRoom (n * n) (c .high) (w .high) (ap (λ (q : Problem). q .constraint .high) z) f)
+    (padded-bytes greatestOrder n (c .linear .low) (w .linear-low) (ap (λ (q : Problem). q .constraint .linear .low) z) h)
+    (padded-bytes greatestOrder n (c .linear .high) (w .linear-high) (ap (λ (q : Problem). q .constraint .linear .high) z) h)
+    refl
+    (padded-bytes greatestOrder n (p .centre) (w .centre) (ap (λ (q : Problem). q .centre) z) h)
 
 -- ---- the cases of a call
 module _ (s : List ℕ) (b : Parts) where
@@ -74,7 +75,7 @@ module _ (s : List ℕ) (b : Parts) where
 
     handing-passed : reading s .checked ≡ Checked.Passed → record { answer = Checked.Passed; parts = stored (reading s .problem) } ≡ readSummary s b
     unfolding readSummary handed
-    handing-passed e = rw (z, readSummary, e, handed, stored-parts s e)
+    handing-passed e = rw (z, readSummary, e, handed, stored-parts (reading s .problem) (reading-through s e))
 
     pub handing-read : (p : Problem) → reading s ≡ record { checked = Checked.Passed; problem = p } → readSummary s b ≡ record { answer = Checked.Passed; parts = partsOf p }
     unfolding readSummary handed

@@ -1,4 +1,4 @@
--- A file that is accepted, written again from the fronts of the buffers into which it is read: the same bytes.
+-- A problem that is let through, written from the fronts of the buffers in which it is stored: its one file.
 use mathlib.Core.Path.{_≡_, sym, ap, _∙_}
 use mathlib.Core.Bool.{true}
 use mathlib.Core.List.{List, [], append-nil}
@@ -10,7 +10,7 @@ use mir.Syntax.{w64}
 use mir.Val.{bytes}
 use borrow.Author.Tests.{eq-eqb}
 use Rattle.words.specs.Numbers.{bytesOf}
-use Rattle.words.proofs.Laws.{AllBytes, length-bytesOf}
+use Rattle.words.proofs.Laws.{length-bytesOf}
 use Rattle.tables.specs.Ranges.{greatestOrder, tableRoom}
 use Rattle.tables.specs.Checks.{sizesOk, orderOf}
 use Rattle.tables.specs.Problem.{lengthsOf, constraintSized}
@@ -18,14 +18,12 @@ use Rattle.tables.specs.declared.Checked.the-variants.{Passed}
 use Rattle.tables.specs.declared.problem.Problem.{Problem}
 use Rattle.tables.proofs.Checks.{and-of}
 use Rattle.tables.proofs.Admission.{order-known}
-use Rattle.summary.specs.Problems.{fileSize, reading}
-use Rattle.summary.proofs.OneFile.{accepted-size}
-use Rattle.summary.proofs.RoundTrip.{reading-means}
-use Rattle.writer.specs.Writing.{written, writeSizes}
+use Rattle.summary.specs.Problems.{fileSize, fileOf, LetThrough}
+use Rattle.writer.specs.Writing.{writeSizes}
 use Rattle.buffers.specs.Buffers.{numberOf}
 use Rattle.file_buffers.specs.Parts.{partsOf, inFront, spelled, orderIn}
 use Rattle.file_buffers.specs.Filing.{writeBuffers, writeSummary, front}
-use Rattle.file_buffers.proofs.Back.{parts-order, order-passes, problem-spelled}
+use Rattle.file_buffers.proofs.Back.{parts-order, problem-spelled}
 use Rattle.file_buffers.proofs.Filed.{writing-passed}
 
 -- the front of a buffer has the bytes of the numbers
@@ -39,10 +37,7 @@ module _ (n : ℕ) (l u a b c s : List ℕ) (hl : length l ≡ n * n * bytes w64
   unfolding writeSizes constraintSized sizesOk
   sizes-asked = and-of (and-of (and-of (eq-eqb _ _ hl) (and-of (eq-eqb _ _ hu) (eq-eqb _ _ ha))) (eq-eqb _ _ hb)) (and-of (eq-eqb _ _ hc) (eq-eqb _ _ hs))
 
-module _ (s : List ℕ) (e : reading s .checked ≡ Passed) (v : AllBytes s) (f : List ℕ) (h : length f ≡ length s) where
-  abbrev problem : Problem
-  problem = reading s .problem
-
+module _ (problem : Problem) (t : LetThrough problem) (f : List ℕ) (h : length f ≡ fileSize (problem .constraint .order)) where
   abbrev order : ℕ
   order = problem .constraint .order
 
@@ -67,29 +62,30 @@ module _ (s : List ℕ) (e : reading s .checked ≡ Passed) (v : AllBytes s) (f 
 
   spelled-again : spelled order low high from to limit centre ≡ problem
   unfolding partsOf
-  spelled-again = rw (append-nil low, append-nil high, append-nil from, append-nil to, append-nil centre) at (problem-spelled s e v [] [] [] [] [])
+  spelled-again = rw (append-nil low, append-nil high, append-nil from, append-nil to, append-nil centre) at (problem-spelled problem t [] [] [] [] [])
 
   known : orderOf (pos order) ≡ order
-  known = order-known (pos order) (order-passes s e v)
+  known = order-known (pos order) (t .order)
 
   sizes : writeBuffers order (lengthsOf (length low) (length high) (length from) (length to)) (length centre) (length f) ≡ true
   sizes =
-      sizes-asked order low high from to centre f (length-bytesOf w64 _ _) (length-bytesOf w64 _ _) (length-bytesOf w64 _ _) (length-bytesOf w64 _ _) (length-bytesOf w64 _ _)
-      (h ∙ accepted-size s e v)
+      sizes-asked order low high from to centre f (length-bytesOf w64 _ _) (length-bytesOf w64 _ _) (length-bytesOf w64 _ _) (length-bytesOf w64 _ _) (length-bytesOf w64 _ _) h
 
-  writes : writeSummary (pos order) low high from to limit centre f ≡ written problem
+  writes : writeSummary (pos order) low high from to limit centre f ≡ record { answer = Passed; file = fileOf problem }
   unfolding writeSummary
-  writes = rw (known, spelled-again) (writing-passed (pos order) _ problem f (sym known) (order-passes s e v) sizes (reading-means s v .through e .checks))
+  writes =
+      rw (known, spelled-again)
+      (writing-passed (pos order) _ problem f (sym known) (t .order) sizes (t .checks) ∙ ap (λ (p : Problem). record { answer = Passed; file = fileOf p }) (t .mended))
 
   pub rewritten :
       let d = partsOf problem in
       let k = orderIn d in
       writeSummary (numberOf (d .order)) (front (k * k) (d .low)) (front (k * k) (d .high)) (front k (d .from)) (front k (d .to)) (numberOf (d .limit)) (front k (d .centre)) f
-      ≡ record { answer = Passed; file = s }
+      ≡ record { answer = Passed; file = fileOf problem }
   unfolding partsOf
   rewritten =
       rw (
-        parts-order s e v,
+        parts-order problem t,
         known,
         front-bytes tableRoom (order * order) (problem .constraint .low),
         front-bytes tableRoom (order * order) (problem .constraint .high),
@@ -97,4 +93,4 @@ module _ (s : List ℕ) (e : reading s .checked ≡ Passed) (v : AllBytes s) (f 
         front-bytes greatestOrder order (problem .constraint .linear .high),
         front-bytes greatestOrder order (problem .centre),
       )
-      (writes ∙ ap (λ (t : List ℕ). record { answer = Passed; file = t }) (reading-means s v .file e))
+      writes

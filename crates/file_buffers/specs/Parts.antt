@@ -1,4 +1,4 @@
--- R15, R17 and R25 of docs/RULES.md: the problem of a summary file in seven buffers of bytes, 8 bytes for each number.
+-- R15, R17 and R25 of docs/RULES.md: the problem of a summary file, mended (R2.10), in seven buffers of bytes, 8 bytes for each number.
 use mathlib.Core.Path.{_≡_}
 use mathlib.Core.Bool.{Bool, true, false, _&&_}
 use mathlib.Core.List.{List, _++_}
@@ -70,7 +70,7 @@ partsOf p =
     (bytesOfNumber (c .limit))
     (inFront greatestOrder n (p .centre))
 
--- R25.3, R25.4: a problem that was read is stored, or all buffers are kept
+-- R25.3, R25.4: a problem that was read is stored, with its mended tables, or all buffers are kept
 unfoldable pub handed : Reading → Parts → Handed
 handed r b =
     elim (r .checked) [

@@ -1,4 +1,5 @@
-// Summary files on buffers of bytes: a file read into the buffers of its problem, and the problem of buffers written as a file.
+// Summary files on buffers of bytes: a file read into the buffers of its problem, and the problem of buffers written as a file. Tables
+// whose halves are apart are mended on both ways.
 ghost use mathlib.Core.Path.{_≡_};
 ghost use Rattle.file_buffers.specs.Parts.{checkedCode};
 use tables::Checked;

@@ -26,8 +26,8 @@ fn parts_roomy(order: usize, lengths: Lengths, limit: usize, centre: usize) -> b
     constraint_sized(sizes, lengths) && (order == SIZE && (limit == SIZE && centre == vector))
 }
 
-// Reads a file of any bytes at all, and stores its problem: the order, the bounds, both ends of the linear terms, the limit and the centre,
-// each in front of its buffer and zeros behind it. A refusal keeps all seven.
+// Reads a file of any bytes at all, and stores its problem: the order, the mended bounds, both ends of the linear terms, the limit and the
+// centre, each in front of its buffer and zeros behind it. A refusal keeps all seven.
 pub fn read_summary(
     file: &[u8],
     order: &mut [u8],

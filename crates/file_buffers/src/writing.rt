@@ -12,7 +12,8 @@ use words::SIZE;
 use writer::write::write_checked;
 use writer::write::write_sized;
 
-// Stores the file of the problem that the buffers spell, with linear terms between those of from and to. A refusal keeps the file's buffer.
+// Stores the file of the problem that the buffers spell, mended, with linear terms between those of from and to. A refusal keeps the
+// file's buffer.
 pub fn write_summary(
     n: i64,
     low: &[u8],

@@ -12,7 +12,7 @@ use Rattle.words.specs.Numbers.{numbersOf, signedAt, unsignedAt, fromLeBytes}
 use Rattle.words.proofs.Laws.{length-bytesOf, length-toLeBytes}
 use Rattle.tables.specs.Checks.{orderOk, orderOf, sizesOk}
 use Rattle.tables.specs.Matrix.{table, tabulate}
-use Rattle.tables.specs.Problem.{constraintSized}
+use Rattle.tables.specs.Problem.{constraintSized, mendedConstraint}
 use Rattle.tables.specs.declared.problem.Constraint.{Constraint}
 use Rattle.enclosure.specs.Points.{Allowed}
 use Rattle.floats.specs.Brackets.{sixteenth}
@@ -59,7 +59,7 @@ module _ (s : Sample) (b : Lent (List ℕ)) (z : sumsBuffers factorCount b ≡ t
   left = ap (λ (y : Bool). storedSums (gathering s (pos factorCount) y c) b .sums) z
 
   -- the buffers keep their sizes
-  written-sized : sumsBuffers factorCount (storedSums (taken (added s c)) b .sums) ≡ true
+  written-sized : sumsBuffers factorCount (storedSums (taken (added s (mendedConstraint c))) b .sums) ≡ true
   unfolding sumsSized constraintSized sizesOk
   written-sized = simp (length-bytesOf, length-toLeBytes)
 
@@ -75,7 +75,7 @@ module _ (s : Sample) (b : Lent (List ℕ)) (z : sumsBuffers factorCount b ≡ t
   unfolding sumsAfter
   call-spells =
       ap (spelledSums factorCount) left
-      ∙ by-outcome s (pos factorCount) true c (λ (o : Outcome). spelledSums factorCount (storedSums o b .sums) ≡ sumsAfter c o) (λ q e. back s c b e) (λ r. refl)
+      ∙ by-outcome s (pos factorCount) true c (λ (o : Outcome). spelledSums factorCount (storedSums o b .sums) ≡ sumsAfter c o) (λ q e. back s (mendedConstraint c) b e) (λ r. refl)
 
 -- ---- calls one after the other
 calls-spell : (ss : List Sample) (b : Lent (List ℕ)) → sumsBuffers factorCount b ≡ true →

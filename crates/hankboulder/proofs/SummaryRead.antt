@@ -6,8 +6,10 @@ use lib.IntN.{pos}
 use lib.ListN.{length}
 use Rattle.words.proofs.Laws.{AllBytes}
 use Rattle.tables.specs.declared.Checked.the-variants.{Passed}
+use Rattle.tables.specs.declared.problem.Problem.{Problem}
 use Rattle.tables.proofs.Answers.{exactly}
 use Rattle.summary.specs.Problems.{fileOf, reading, LetThrough}
+use Rattle.summary.proofs.OneFile.{accepted-size}
 use Rattle.summary.proofs.RoundTrip.{reading-means}
 use Rattle.writer.specs.Writing.{Written}
 use Rattle.buffers.specs.Buffers.{numberOf}
@@ -29,7 +31,7 @@ module _ (s : List ℕ) (b : Parts) (v : AllBytes s) where
   Again d t =
       let k = orderIn d in
       writeSummaryEntry (numberOf (d .order)) (front (k * k) (d .low)) (front (k * k) (d .high)) (front k (d .from)) (front k (d .to)) (numberOf (d .limit)) (front k (d .centre)) t
-      ≡ record { number = pos 0; file = s }
+      ≡ record { number = pos 0; file = fileOf (problemIn d) }
 
   abbrev left : Parts
   left = readSummary s b .parts
@@ -41,15 +43,24 @@ module _ (s : List ℕ) (b : Parts) (v : AllBytes s) where
     stored : left ≡ partsOf (reading s .problem)
     stored = handing-stored s b (code-passed _ e) .1
 
+    through : LetThrough (reading s .problem)
+    through = reading-means s v .through accepted
+
+    back : problemIn (partsOf (reading s .problem)) ≡ reading s .problem
+    back = problem-back (reading s .problem) through
+
     spelled : problemIn left ≡ reading s .problem
-    spelled = ap problemIn stored ∙ problem-back s accepted v
+    spelled = ap problemIn stored ∙ back
 
     read : reading s ≡ record { checked = Passed; problem = problemIn left }
     read = rw (spelled, ← accepted)
 
     written-again : (t : List ℕ) → length t ≡ length s → Again left t
     unfolding writeSummaryEntry checkedCode
-    written-again t h = subst (λ (d : Parts). Again d t) (sym stored) (ap numbered (rewritten s accepted v t h))
+    written-again t h =
+        subst (λ (d : Parts). Again d t) (sym stored)
+        (ap numbered (rewritten (reading s .problem) through t (h ∙ accepted-size s accepted v))
+        ∙ ap (λ (p : Problem). record { number = pos 0; file = fileOf p }) (sym back))
 
   read-summary-means : (let j = readSummaryEntry s b in ReadSummaryMeaning s (j .parts) (j .number))
   unfolding readSummaryEntry
@@ -57,8 +68,9 @@ module _ (s : List ℕ) (b : Parts) (v : AllBytes s) where
       let means = reading-means s v in
       record {
         problem = read;
-        through = λ e. subst LetThrough (sym (spelled e)) (means .through (accepted e));
-        file = λ e. ap fileOf (spelled e) ∙ means .file (accepted e);
+        through = λ e. subst LetThrough (sym (spelled e)) (through e);
+        file = λ e h. ap fileOf (spelled e) ∙ means .back (accepted e) h;
+        only = λ e f. means .only (accepted e) (sym (ap fileOf (spelled e)) ∙ f);
         again = written-again;
       }
 

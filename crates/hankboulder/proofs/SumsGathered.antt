@@ -16,13 +16,14 @@ use Rattle.tables.proofs.Buffers.{Small}
 use Rattle.verdict.proofs.Fitting.{sized}
 use Rattle.samples.specs.declared.sample.Sample.{Sample}
 use Rattle.samples.specs.Samples.{factorCount, factorNext, drawNext}
+use Rattle.tables.specs.Problem.{mendedConstraint}
 use Rattle.samples.specs.Sums.{addedBy, added, sumsWithin}
 use Rattle.samples.specs.Gathering.{Outcome, taken}
 use Rattle.rides.specs.Act.{Lent, gatheredCode, Explaining}
 use Rattle.samples.proofs.Near.{constraint-by}
 use Rattle.samples.proofs.SumsChecks.{added-rooms, within-linear, within-limit, within-tables}
 use Rattle.rides.proofs.Laying.{sums-sizes-of}
-use Rattle.samples.proofs.Gains.{added-explains}
+use Rattle.samples.proofs.Gains.{mended-explains, added-explains}
 use Rattle.rides.proofs.Wanted.{by-outcome}
 use Rattle.sums_buffers.specs.SumsBuffers.{spelledSums, sumsBuffers, storedSums}
 use Rattle.buffers.proofs.Stores.{read-numbers, read-number}
@@ -64,6 +65,7 @@ module _ (s : Sample) (n : ℤ) (b : Lent (List ℕ)) where
       (λ z e.
       let o = sums-sizes-of _ _ _ _ z .order in
       let c = spelledSums k b in
-      let f = ap (λ (m : ℕ). spelledSums m (storedSums (taken (added s c)) b .sums)) o ∙ back s c b e in
-      record { explains = λ q. subst (Explaining s c) (sym f) (λ u v w X p P. added-explains s c o w P) })
+      let d = mendedConstraint c in
+      let f = ap (λ (m : ℕ). spelledSums m (storedSums (taken (added s d)) b .sums)) o ∙ back s d b e in
+      record { explains = λ q. subst (Explaining s c) (sym f) (λ u v w X p P. added-explains s d o w (mended-explains c P)) })
       (λ r. record { explains = λ q. absurd (number-nonzero r q) })

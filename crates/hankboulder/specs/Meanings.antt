@@ -8,7 +8,8 @@ use lib.Signed.{_≤ℤ_}
 use lib.ListN.{length}
 use Rattle.tables.specs.Matrix.{Matrix, at, nth}
 use Rattle.tables.specs.Checks.{orderOf}
-use Rattle.tables.specs.Problem.{constraintOf}
+use Rattle.tables.specs.Entering.{lowBounds, highBounds}
+use Rattle.tables.specs.Problem.{constraintOf, mendedProblem}
 use Rattle.tables.specs.Members.{PositiveDefinite, Margin}
 use Rattle.vectors.specs.Least.{shows, Witness}
 use Rattle.verdict.specs.Judge.{listed}
@@ -17,14 +18,14 @@ use Rattle.samples.specs.declared.sample.Sample.{Sample}
 use Rattle.samples.specs.Explaining.{Explained}
 use Rattle.rides.specs.Act.{Lent, Explaining}
 use Rattle.tables.specs.declared.Checked.the-variants.{Passed}
-use Rattle.summary.specs.Problems.{fileOf, reading, LetThrough}
+use Rattle.summary.specs.Problems.{fileOf, reading, LetThrough, spelledBy, SymmetricTables}
 use Rattle.buffers.specs.Buffers.{tableOf, vectorOf, sidesOf, numberOf}
 use Rattle.sums_buffers.specs.SumsBuffers.{spelledSums}
 use Rattle.file_buffers.specs.Parts.{Parts, partsRoomy, spelled, orderIn, problemIn}
 use Rattle.file_buffers.specs.Filing.{front, laidOut}
 use Rattle.hankboulder.specs.Entries.{testFactorEntry, testVectorEntry, spelledWith, readSummaryEntry, writeSummaryEntry}
 
--- k is the order, L and U the bounds
+-- k is the order, L and U the tables as they are handed in, and L′ and U′ the mended ones
 module _ (n : ℤ) (l u : List ℕ) where
   abbrev k : ℕ
   k = orderOf n
@@ -34,6 +35,12 @@ module _ (n : ℤ) (l u : List ℕ) where
 
   abbrev U : Matrix
   U = at k (tableOf k u)
+
+  abbrev L′ : Matrix
+  L′ = lowBounds k (tableOf k l)
+
+  abbrev U′ : Matrix
+  U′ = highBounds k (tableOf k u)
 
   pub record FactorMeaning (r : ℤ) : Type 0 where
     -- 0, the factor is accepted (D3.1): x'Mx > 0 for every member M and every nonzero x
@@ -54,11 +61,11 @@ module _ (n : ℤ) (l u : List ℕ) where
     -- -1, not definite (D2.4): the vector that is written is listed and a witness vector, and hb_test_vector says yes of it
     pub shown : r ≡ negsuc 0 → Witness k L U (nth (vectorOf k v))
     pub confirmed : r ≡ negsuc 0 → testVectorEntry n l u v ≡ pos 0
-    pub from-list : r ≡ negsuc 0 → List·Memᴰ (vectorOf k v) (listed k L U)
+    pub from-list : r ≡ negsuc 0 → List·Memᴰ (vectorOf k v) (listed k L′ U′)
     -- no refusal, and some listed vector shows it: -1 (D2.4)
-    pub exactly : r ≤ℤ pos 0 → (x : List ℤ) → List·Memᴰ x (listed k L U) → shows k L U (nth x) ≡ true → r ≡ negsuc 0
-    -- no refusal, and the margin of R3.5: 0 (D3.5)
-    pub margin : r ≤ℤ pos 0 → Margin k L U → r ≡ pos 0
+    pub exactly : r ≤ℤ pos 0 → (x : List ℤ) → List·Memᴰ x (listed k L′ U′) → shows k L′ U′ (nth x) ≡ true → r ≡ negsuc 0
+    -- no refusal, and the margin of R3.5, of the mended tables: 0 (D3.5)
+    pub margin : r ≤ℤ pos 0 → Margin k L′ U′ → r ≡ pos 0
 
   -- a and b: the ends of the linear terms; s: the sides as they are left
   pub record BoxMeaning (a b : List ℕ) (α r : ℤ) (s : List ℕ) : Type 0 where
@@ -85,20 +92,21 @@ pub record ReadMeaning (n : ℤ) (l u a b : List ℕ) (α K r : ℤ) (s : List �
 pub record ReadSummaryMeaning (s : List ℕ) (d : Parts) (r : ℤ) : Type 0 where
   -- 0, all buffers are written: the file is accepted, and its problem is the one that the fronts of the buffers spell
   pub problem : r ≡ pos 0 → reading s ≡ record { checked = Passed; problem = problemIn d }
-  -- its order is one, and 3, 4, 5 and 16 let it through
+  -- its order is one, 3, 4, 5 and 16 let it through, and its tables are mended
   pub through : r ≡ pos 0 → LetThrough (problemIn d)
-  -- R24.3: the file is the one file of that problem
-  pub file : r ≡ pos 0 → fileOf (problemIn d) ≡ s
-  -- and hb_write_summary writes it again from the fronts of the buffers, byte for byte, into any buffer of its size
+  -- R24.3: its one file is s, byte for byte, where the tables of s are symmetric, and only there
+  pub file : r ≡ pos 0 → SymmetricTables (spelledBy s) → fileOf (problemIn d) ≡ s
+  pub only : r ≡ pos 0 → fileOf (problemIn d) ≡ s → SymmetricTables (spelledBy s)
+  -- R25.5: hb_write_summary writes that file from the fronts of the buffers, into any buffer of its size
   pub again : r ≡ pos 0 → (t : List ℕ) → length t ≡ length s → let k : ℕ = orderIn d in
       writeSummaryEntry (numberOf (d .order)) (front (k * k) (d .low)) (front (k * k) (d .high)) (front k (d .from)) (front k (d .to))
       (numberOf (d .limit)) (front k (d .centre)) t
-      ≡ record { number = pos 0; file = s }
+      ≡ record { number = pos 0; file = fileOf (problemIn d) }
 
 -- of a problem that is written, with linear terms from a to b, a limit α and a centre c; s: the file's buffer as it is left
 pub record WriteSummaryMeaning (n : ℤ) (l u a b : List ℕ) (α : ℤ) (c : List ℕ) (r : ℤ) (s : List ℕ) : Type 0 where
-  -- 0, the file is written (R24.2): it is read as the problem that was handed in
-  pub back : r ≡ pos 0 → reading s ≡ record { checked = Passed; problem = spelled (orderOf n) l u a b α c }
-  -- and hb_read_summary reads it into any buffers of their sizes: each as it was handed in, and zeros behind it
+  -- 0, the file is written (R24.2): it is read as the mended problem of what was handed in
+  pub back : r ≡ pos 0 → reading s ≡ record { checked = Passed; problem = mendedProblem (spelled (orderOf n) l u a b α c) }
+  -- and hb_read_summary reads it into any buffers of their sizes: the mended tables, all else as it was handed in, and zeros behind each
   pub again : r ≡ pos 0 → (d : Parts) → partsRoomy d ≡ true →
       readSummaryEntry s d ≡ record { number = pos 0; parts = laidOut n l u a b α c }

@@ -9,6 +9,7 @@ use lib.IntN.{ℤ, pos}
 use lib.ListN.{getD, drop}
 use Rattle.tables.specs.Matrix.{at, nth}
 use Rattle.tables.specs.Members.{PositiveDefinite}
+use Rattle.tables.specs.Entering.{lowBounds, highBounds}
 use Rattle.tables.specs.Problem.{endsIn}
 use Rattle.tables.specs.Refusals.{refusalNumber}
 use Rattle.tables.specs.declared.Refusal.{Refusal}
@@ -25,13 +26,15 @@ use Rattle.sides.specs.Sides.{Box}
 use Rattle.sides.specs.Sides as Box
 use Rattle.enclosure.specs.Box.{problemBox}
 use Rattle.enclosure.proofs.Enclosing.{Says, box-says}
-use Rattle.summary.specs.Problems.{LetThrough, reading}
-use Rattle.summary.proofs.Spelled.{reading-through}
+use Rattle.enclosure.proofs.BoxMeanings.{point-mended}
+use Rattle.summary.specs.Problems.{reading, spelledBy}
+use Rattle.summary.proofs.MendedProblems.{low-holds, high-holds}
+use Rattle.summary.proofs.OneFile.{accepted-order, accepted-checks, accepted-rooms, accepted-problem}
 use Rattle.text.specs.Text.{ascii, digit, newline, line, lines}
 use Rattle.text.proofs.Endings.{Ends, ends-same, ends-behind, line-ends, lines-end}
 use Rattle.report.specs.Lines.{numbered, verdictText, boxText}
 use Rattle.report.specs.Report.{problemVerdict, problemText, printed}
-use Rattle.report.proofs.Fitting.{known, through, order, tables}
+use Rattle.report.proofs.Fitting.{known, positive, opened, bounded, text-mended}
 use Rattle.report.proofs.Printed.{printed-problem, printed-passed}
 
 -- a text's first byte
@@ -77,10 +80,10 @@ empty-last (suc n) h (Box.sides x) before t e = absurd (not-empty (ends-behind b
 empty-last (suc n) h Box.empty before t e = refl
 empty-last (suc n) h (Box.refused r) before t e = absurd (not-empty (ends-behind before (numbered-ends (ascii "box refused") r)) (omega arith) t e)
 
--- ---- of any file at all
+-- ---- of any file at all: what is said of its tables is said of them as they stand in the file
 module _ (s : List ℕ) where
   abbrev p : Problem
-  p = reading s .problem
+  p = spelledBy s
 
   abbrev c : Constraint
   c = p .constraint
@@ -89,29 +92,33 @@ module _ (s : List ℕ) where
   n = c .order
 
   module _ (h : reading s .checked ≡ Checked.Passed) where
-    passed : LetThrough p
-    passed = reading-through s h
+    -- the text is that of the problem that the file spells
+    spelled-text : printed s ≡ problemText p
+    spelled-text =
+        let z = accepted-rooms s h in
+        printed-problem s refl h ∙ ap problemText (accepted-problem s h) ∙ text-mended p (low-holds p z) (high-holds p z)
 
     means : Means n (c .low) (c .high) (problemVerdict p)
     unfolding problemVerdict
     means =
-        let b = through passed in
+        let b = opened p (accepted-order s h) (accepted-checks s h) in
         let m = judged-means (pos n) true (c .low) (c .high) (record { ordered = b .ordered; sizes = refl; within = refl; checked = b .tables; tables = b .tables }) [] [] in
-        subst (λ (k : ℕ). Means k (c .low) (c .high) (judged k (at k (c .low)) (at k (c .high)))) (known passed) (m .definite, m .shown)
+        subst (λ (k : ℕ). Means k (c .low) (c .high) (judged k (lowBounds k (c .low)) (highBounds k (c .high)))) (known p (accepted-order s h) (accepted-checks s h))
+        (m .definite, m .shown)
 
   -- 'definite' first: every member of the file's tables is positive definite
   pub definite-means : (t : List ℕ) → printed s ≡ ascii "definite\n" ++ t → (reading s .checked ≡ Checked.Passed) × PositiveDefinite n (at n (c .low)) (at n (c .high))
   unfolding problemText numbered line
   definite-means t e =
       let h = printed-passed s refl (λ r q. omega (arith, ap first (sym q ∙ e))) in
-      (h, first-line n (c .low) (c .high) (boxText n (problemBox p)) t _ (means h) .0 (sym (printed-problem s refl h) ∙ e))
+      (h, first-line n (c .low) (c .high) (boxText n (problemBox p)) t _ (means h) .0 (sym (spelled-text h) ∙ e))
 
   -- 'not' first: the vector that is printed next has x'Mx ≤ 0 for some member M
   pub not-means : (t : List ℕ) → printed s ≡ ascii "not\n" ++ t → (reading s .checked ≡ Checked.Passed) × Shown n (c .low) (c .high) (boxText n (problemBox p)) t
   unfolding problemText numbered line
   not-means t e =
       let h = printed-passed s refl (λ r q. omega (arith, ap first (sym q ∙ e))) in
-      (h, first-line n (c .low) (c .high) (boxText n (problemBox p)) t _ (means h) .1 (sym (printed-problem s refl h) ∙ e))
+      (h, first-line n (c .low) (c .high) (boxText n (problemBox p)) t _ (means h) .1 (sym (spelled-text h) ∙ e))
 
   -- 'empty' last: the ellipsoid has no point, whichever linear terms between their ends
   pub empty-means : (t : List ℕ) → printed s ≡ t ++ ascii "empty\n"
@@ -119,6 +126,10 @@ module _ (s : List ℕ) where
   unfolding problemText problemBox
   empty-means t e =
       let h = printed-passed s refl (λ r q. not-empty (numbered-ends (ascii "refused") r) (omega arith) t (sym q ∙ e)) in
-      let b = empty-last n (order (passed h) .0) (problemBox p) (verdictText n (problemVerdict p)) t (sym (printed-problem s refl h) ∙ e) in
-      let z = tables (passed h) in
-      (h, subst (Says n (at n (c .low)) (at n (c .high)) (endsIn c) (c .limit)) b (box-says n (z .order) (at n (c .low)) (at n (c .high)) (z .bounds) (endsIn c) (c .limit) (nth (p .centre))))
+      let o = accepted-order s h in
+      let b = empty-last n (positive p o (accepted-checks s h)) (problemBox p) (verdictText n (problemVerdict p)) t (sym (spelled-text h) ∙ e) in
+      let L = lowBounds n (c .low) in
+      let U = highBounds n (c .high) in
+      let says = box-says n (accepted-rooms s h .order) L U (bounded p o (accepted-checks s h)) (endsIn c) (c .limit) (nth (p .centre)) in
+      let none = subst (Says n L U (endsIn c) (c .limit)) b says in
+      (h, λ X q x. none X q (point-mended c x))

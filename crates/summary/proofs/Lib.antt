@@ -1,3 +1,4 @@
+pub mod MendedProblems
 pub mod Spelled
 pub mod OneFile
 pub mod ReadingExamples

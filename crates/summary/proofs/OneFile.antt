@@ -18,6 +18,7 @@ use Rattle.words.proofs.Laws.{AllBytes, part-bytes, length-bytesOf, bytesOf-num
 use Rattle.words.proofs.Sign.{Narrow, narrow-of}
 use Rattle.tables.specs.Ranges.{greatestOrder, tableRoom}
 use Rattle.tables.specs.Checks.{orderOk, firstRefusal}
+use Rattle.tables.specs.Problem.{problemChecks, mendedProblem}
 use Rattle.tables.specs.declared.problem.Problem.{Problem}
 use Rattle.tables.specs.declared.Checked.{Checked}
 use Rattle.tables.specs.declared.Checked.the-variants as Checked
@@ -33,14 +34,14 @@ use Rattle.fields.proofs.Finding.{place-below, each-place}
 use Rattle.fields.proofs.Parts.{walked-inside, length-content}
 use Rattle.fields.proofs.Whole.{whole-passes, whole-found, passed-whole, length-whole, whole-ext}
 use Rattle.summary.specs.declared.problem.Reading.{Reading}
-use Rattle.summary.specs.Problems.{longest, allPresent, orderIn, lengthFor, lengthsFor, fileSize, lengthsOk, fieldChecks, problemFrom, contentsOf, fileOf, problemIn, readingOf, reading}
-use Rattle.summary.proofs.Spelled.{length-is, called-for, fields-fit, read-in-passed, read-in-refused, reading-long, reading-walked, reading-stopped, reading-handed, refused-not}
+use Rattle.summary.specs.Problems.{longest, allPresent, orderIn, lengthFor, lengthsFor, fileSize, lengthsOk, fieldChecks, problemFrom, contentsOf, fileOf, problemIn, readingOf, reading, ProblemRooms, spelledBy}
+use Rattle.summary.proofs.Spelled.{length-is, called-for, fields-order, order-small, fields-fit, problem-rooms, read-in-passed, read-in-refused, reading-checked, reading-long, reading-walked, reading-stopped, reading-handed, refused-not}
 
 -- ---- a file that is accepted
 pub record Accepted (s : List ℕ) : Type 0 where
   pub passed : walked s .checked ≡ Checked.Passed
   pub checked : firstRefusal (fieldChecks s (walked s .layout)) ≡ Checked.Passed
-  pub read : reading s ≡ readingOf (problemIn s (walked s .layout))
+  pub read : reading s ≡ readingOf (spelledBy s)
 
 pub accepted : (s : List ℕ) → reading s .checked ≡ Checked.Passed → Accepted s
 accepted s e = go (decLe (length s) longest) (walked s .checked) refl (firstRefusal (fieldChecks s (walked s .layout))) refl
@@ -107,12 +108,27 @@ contents-back c v z Kind.Limit = one-number (c Kind.Limit) (v Kind.Limit) (z Kin
 contents-back c v z Kind.Centre = numbers-back (narrow-of 8) greatestOrder (c Kind.Centre) _ (v Kind.Centre) (z Kind.Centre)
 contents-back c v z Kind.LinearHigh = numbers-back (narrow-of 8) greatestOrder (c Kind.LinearHigh) _ (v Kind.LinearHigh) (z Kind.LinearHigh)
 
--- ---- a file that is accepted is the file of its contents, which are those of its problem
+-- ---- a file that is accepted is the file of its contents, which are those of the problem that it spells
 module _ (s : List ℕ) (e : reading s .checked ≡ Checked.Passed) where
-  pub accepted-problem : reading s .problem ≡ problemIn s (walked s .layout)
+  abbrev layout-of : Layout
+  layout-of = walked s .layout
+
+  -- the problem that it spells has an order, checks 3, 4, 5 and 16 let it through, and its arrays have their sizes
+  pub accepted-order : orderOk (pos (spelledBy s .constraint .order)) ≡ true
+  unfolding problemIn
+  accepted-order = fields-order s layout-of (accepted s e .checked)
+
+  pub accepted-checks : firstRefusal (problemChecks (spelledBy s)) ≡ Checked.Passed
+  accepted-checks = sym (reading-checked (spelledBy s)) ∙ sym (ap (λ (x : Reading). x .checked) (accepted s e .read)) ∙ e
+
+  pub accepted-rooms : ProblemRooms (spelledBy s)
+  accepted-rooms = problem-rooms s layout-of (order-small s layout-of (accepted s e .checked))
+
+  -- what is handed out is that problem, mended
+  pub accepted-problem : reading s .problem ≡ mendedProblem (spelledBy s)
   accepted-problem =
       let r = accepted s e .read in
-      ap (λ (x : Reading). x .problem) r ∙ reading-handed (problemIn s (walked s .layout)) (sym (ap (λ (x : Reading). x .checked) r) ∙ e)
+      ap (λ (x : Reading). x .problem) r ∙ reading-handed (spelledBy s) (sym (ap (λ (x : Reading). x .checked) r) ∙ e)
 
   module _ (v : AllBytes s) where
     pub accepted-whole : s ≡ wholeFile (content s (walked s .layout))
@@ -124,23 +140,23 @@ module _ (s : List ℕ) (e : reading s .checked ≡ Checked.Passed) where
         ap length accepted-whole ∙ whole-size (content s (walked s .layout)) (orderIn s (walked s .layout)) (field-length s (accepted s e .checked))
         ∙ ap fileSize (sym (ap (λ (p : Problem). p .constraint .order) accepted-problem))
 
-    pub accepted-contents : (k : Kind) → contentsOf (reading s .problem) k ≡ content s (walked s .layout) k
+    pub accepted-contents : (k : Kind) → contentsOf (spelledBy s) k ≡ content s (walked s .layout) k
     unfolding problemIn orderIn content
     accepted-contents k =
         let l = walked s .layout in
-        ap (λ (p : Problem). contentsOf p k) accepted-problem
-        ∙ contents-back (content s l) (λ k. part-bytes (lengthOf l k) (startOf l k) s v) (field-length s (accepted s e .checked)) k
+        contents-back (content s l) (λ k. part-bytes (lengthOf l k) (startOf l k) s v) (field-length s (accepted s e .checked)) k
 
-    pub accepted-back : s ≡ wholeFile (contentsOf (reading s .problem))
+    pub accepted-back : s ≡ fileOf (spelledBy s)
+    unfolding fileOf
     accepted-back = accepted-whole ∙ sym (whole-ext _ _ accepted-contents)
 
--- ---- so the same contents, or the same problem, have one file
+-- ---- so the same contents, or the same problem in the fields, have one file
 module _ (s s′ : List ℕ) (v : AllBytes s) (v′ : AllBytes s′) (e : reading s .checked ≡ Checked.Passed) (e′ : reading s′ .checked ≡ Checked.Passed) where
   pub same-file : ((k : Kind) → content s (walked s .layout) k ≡ content s′ (walked s′ .layout) k) → s ≡ s′
   same-file h = accepted-whole s e v ∙ whole-ext _ _ h ∙ sym (accepted-whole s′ e′ v′)
 
-  pub same-problem : reading s .problem ≡ reading s′ .problem → s ≡ s′
-  same-problem h = accepted-back s e v ∙ ap (λ (p : Problem). wholeFile (contentsOf p)) h ∙ sym (accepted-back s′ e′ v′)
+  pub same-problem : spelledBy s ≡ spelledBy s′ → s ≡ s′
+  same-problem h = accepted-back s e v ∙ ap fileOf h ∙ sym (accepted-back s′ e′ v′)
 
 -- ---- a file that is put together of contents of the lengths that the order calls for
 module _ (c : Kind → List ℕ) (o : orderOk (pos (getD (c Kind.Order) 0 0)) ≡ true) (z : (k : Kind) → length (c k) ≡ lengthFor (getD (c Kind.Order) 0 0) k) where
@@ -198,7 +214,7 @@ module _ (c : Kind → List ℕ) (o : orderOk (pos (getD (c Kind.Order) 0 0)) �
       ∙ first-passes _ _ (rw whole-order sized) ∙ first-none
 
   -- the problem of its contents
-  problem-there : problemIn file layout ≡ problemFrom order c
+  pub problem-there : spelledBy file ≡ problemFrom order c
   unfolding problemIn
   problem-there =
       rw (whole-order, whole-content Kind.Low, whole-content Kind.High, whole-content Kind.LinearLow, whole-content Kind.LinearHigh, whole-content Kind.Limit, whole-content Kind.Centre)

@@ -1,6 +1,6 @@
 -- A problem as it is handed in, in lists of exactly the sizes that its order calls for, and the same in arrays with zeros behind its numbers: the
 -- checks find the same of both, and both have the same file.
-use mathlib.Core.Path.{_≡_, refl, sym, ap, _∙_}
+use mathlib.Core.Path.{_≡_, refl, sym, ap, subst, _∙_}
 use mathlib.Core.Bool.{true}
 use mathlib.Core.List.{List, _++_}
 use Prim.Native.Nat.{ℕ, _*_, _-_, _≤_}
@@ -15,7 +15,7 @@ use Rattle.words.proofs.Lists.{drop-replicate}
 use Rattle.tables.specs.Ranges.{greatestOrder, tableRoom, linearRange, centreRange}
 use Rattle.tables.specs.Matrix.{nth}
 use Rattle.tables.specs.Checks.{orderOk, linearWithin, termsWithin, endsChecks, firstRefusal}
-use Rattle.tables.specs.Problem.{problemWithin, constraintEnds, problemChecks}
+use Rattle.tables.specs.Problem.{problemWithin, constraintEnds, problemChecks, mendedProblem}
 use Rattle.tables.specs.declared.problem.Problem.{Problem}
 use Rattle.tables.specs.declared.Checked.the-variants as Checked
 use Rattle.tables.proofs.Matrix.{table-fits}
@@ -27,7 +27,8 @@ use Rattle.fields.proofs.Whole.{whole-ext}
 use Rattle.summary.specs.Problems.{contentsOf, fileOf, paddedTo, padded, reading, ProblemRooms, LetThrough}
 use Rattle.summary.specs.declared.problem.Reading.{Reading}
 use Rattle.summary.proofs.Spelled.{reading-checked}
-use Rattle.summary.proofs.RoundTrip.{InFields, Holds, nth-paddedTo, bytes-ext, file-read}
+use Rattle.summary.proofs.MendedProblems.{nth-paddedTo, mended-padded-problem, mended-through}
+use Rattle.summary.proofs.RoundTrip.{InFields, Holds, bytes-ext, file-read}
 
 -- ---- lists
 length-paddedTo : (room k : ℕ) (x : List ℤ) → k ≤ length x → k ≤ room → length (paddedTo room k x) ≡ room
@@ -108,7 +109,7 @@ module _ (p : Problem) (z : Sized p) where
   padded-checks =
       let low = padded-list tableRoom (n * n) (p .constraint .low) (z .low) in
       let high = padded-list tableRoom (n * n) (p .constraint .high) (z .high) in
-      rw (padded-within, padded-ends, checks-padded low high (problemWithin p) n)
+      rw (padded-within, padded-ends, checks-padded low high (problemWithin p) n (z .low) (z .high))
 
   -- the arrays have their sizes
   pub padded-rooms : p .constraint .order ≤ greatestOrder → ProblemRooms (padded p)
@@ -123,21 +124,24 @@ module _ (p : Problem) (z : Sized p) where
         centre = length-paddedTo greatestOrder n c (omega (arith, z .centre)) h;
       }
 
-  -- so where they pass the one in arrays is let through
-  pub padded-through : orderOk (pos (p .constraint .order)) ≡ true → firstRefusal (problemChecks p) ≡ Checked.Passed → LetThrough (padded p)
+  zeros-behind : padded (padded p) ≡ padded p
+  zeros-behind =
+      rw (
+        padded-again tableRoom (n * n) (p .constraint .low) (omega (arith, z .low)),
+        padded-again tableRoom (n * n) (p .constraint .high) (omega (arith, z .high)),
+        padded-again greatestOrder n a (omega (arith, z .linear-low)),
+        padded-again greatestOrder n b (omega (arith, z .linear-high)),
+        padded-again greatestOrder n c (omega (arith, z .centre)),
+      )
+
+  -- mended before it is put into arrays, or there
+  pub padded-mending : padded (mendedProblem p) ≡ mendedProblem (padded p)
+  padded-mending = mended-padded-problem p (omega (arith, z .low)) (omega (arith, z .high))
+
+  -- so where they pass the mended one in arrays is let through
+  pub padded-through : orderOk (pos (p .constraint .order)) ≡ true → firstRefusal (problemChecks p) ≡ Checked.Passed → LetThrough (padded (mendedProblem p))
   padded-through o e =
-      record {
-        order = o;
-        checks = ap firstRefusal padded-checks ∙ e;
-        rooms = padded-rooms (order-of o .1);
-        zeros = rw (
-          padded-again tableRoom (n * n) (p .constraint .low) (omega (arith, z .low)),
-          padded-again tableRoom (n * n) (p .constraint .high) (omega (arith, z .high)),
-          padded-again greatestOrder n a (omega (arith, z .linear-low)),
-          padded-again greatestOrder n b (omega (arith, z .linear-high)),
-          padded-again greatestOrder n c (omega (arith, z .centre)),
-        );
-      }
+      subst LetThrough (sym padded-mending) (mended-through (padded p) (padded-rooms (order-of o .1)) o (ap firstRefusal padded-checks ∙ e) zeros-behind)
 
   -- and a file whose numbers fit their fields gets the refusal that the checks find
   pub file-checked : orderOk (pos (p .constraint .order)) ≡ true → InFields p → reading (fileOf p) .checked ≡ firstRefusal (problemChecks p)

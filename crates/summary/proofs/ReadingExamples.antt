@@ -5,12 +5,14 @@ use Prim.Native.Nat.{ℕ, suc, _-_}
 use lib.IntN.{ℤ, pos, negsuc}
 use lib.ListN.{length, replicate}
 use Rattle.words.specs.Numbers.{fromLeBytes, unsignedAt, signedAt, numbersOf, paddedNumbersOf}
-use Rattle.tables.specs.Matrix.{at}
+use Rattle.integers.specs.Numbers.{minℤ, maxℤ}
+use Rattle.tables.specs.Matrix.{at, tabulate, table}
+use Rattle.tables.specs.Mending.{mendedBy}
 use Rattle.tables.specs.Problem.{problemOf}
 use Rattle.tables.specs.Ranges.{greatestOrder, tableRoom}
-use Rattle.tables.specs.Checks.{all, firstRefusal, orderOk, within, allWithin, nowhereCrossed, same, symmetric, tablesWithin, linearWithin, termsWithin, boundsChecks, endsChecks}
+use Rattle.tables.specs.Checks.{all, firstRefusal, orderOk, within, allWithin, nowhereCrossed, tablesWithin, linearWithin, termsWithin, boundsChecks, endsChecks}
 use Rattle.tables.specs.declared.Refusal.{Refusal}
-use Rattle.tables.specs.declared.Refusal.the-variants.{Order, Range, Crossed, Tag, Absent, Size, Long, Reversed, Falling}
+use Rattle.tables.specs.declared.Refusal.the-variants.{Order, Range, Crossed, Lopsided, Tag, Absent, Size, Long, Reversed, Falling}
 use Rattle.tables.specs.declared.Checked.the-variants.{Passed, Refused}
 use Rattle.fields.specs.Fields.{kindIn, kindOf, tagged, fieldAt}
 use Rattle.fields.specs.Layouts.{startOf, lengthOf, seen, unseen, placed, walkOn, walkFields, walk, walked, content}
@@ -41,6 +43,15 @@ seven n l c b = six n l c ++ field 7 b
 abbrev file : List ℕ → ℕ → List ℕ → List ℕ
 file n l c = seven n l c minusEight
 
+-- order 2: L = [2 x; 1 2] and U = [4 3; 2 4], with halves apart
+abbrev four : ℕ → ℕ → ℕ → ℕ → List ℕ
+four a b c d = short a ++ short b ++ short c ++ short d
+
+abbrev two : ℕ → List ℕ
+two x =
+    let v = long 0 ++ long 0 in
+    field 1 (2 ∷ []) ++ field 2 (four 2 x 1 2) ++ field 3 (four 4 3 2 4) ++ field 4 v ++ field 5 (long 1) ++ field 6 v ++ field 7 v
+
 -- ---- readings
 abbrev refused : Refusal → Reading
 refused r = record { checked = Refused r; problem = noProblem }
@@ -57,6 +68,15 @@ upTo b =
 
 abbrev readingP : Reading
 readingP = upTo (negsuc 7)
+
+-- order 2 with a low bound l and a high bound u beside the diagonal, at both places
+abbrev mendedTwo : ℕ → ℕ → Reading
+mendedTwo l u =
+    let v : List ℤ = replicate greatestOrder (pos 0) in
+    let behind : List ℤ = replicate (tableRoom - 4) (pos 0) in
+    let low = pos 2 ∷ pos l ∷ pos l ∷ pos 2 ∷ behind in
+    let high = pos 4 ∷ pos u ∷ pos u ∷ pos 4 ∷ behind in
+    record { checked = Passed; problem = problemOf 2 low high v v (pos 1) v }
 
 record Line : Type 0 where
   bytes : List ℕ
@@ -92,6 +112,12 @@ lines =
     ∷ record { bytes = seven (1 ∷ []) 4 (long 2) (replicate 7 0 ++ 1 ∷ []); expected = refused Range }
     ∷ record { bytes = seven (1 ∷ []) 4 (long 2) (0xf7 ∷ replicate 7 0xff); expected = refused Reversed }
     ∷ record { bytes = seven (1 ∷ []) 5 (long 2) (0xf7 ∷ replicate 7 0xff); expected = refused Crossed }
+    -- halves apart: the greater low and the smaller high at both places, whichever of them it is; 5 where that leaves no number, behind 4
+    ∷ record { bytes = two 0; expected = mendedTwo 1 2 }
+    ∷ record { bytes = two 1; expected = mendedTwo 1 2 }
+    ∷ record { bytes = two 2; expected = mendedTwo 2 2 }
+    ∷ record { bytes = two 3; expected = refused Lopsided }
+    ∷ record { bytes = two 4; expected = refused Crossed }
     -- 15 comes before 11, from one byte more than the longest file has
     ∷ record { bytes = replicate longest 0; expected = refused Tag }
     ∷ record { bytes = replicate (suc longest) 0; expected = refused Long }
@@ -101,5 +127,6 @@ as-worked-out : map (λ (l : Line). reading (l .bytes)) lines ≡ map (λ (l : L
 unfolding reading readWalked readIn readAs readingOf problemIn fieldChecks allPresent orderIn lengthsOk
     content lengthOf walked walk walkFields walkOn seen startOf unseen placed fieldAt tagged kindOf kindIn
     unsignedAt fromLeBytes signedAt numbersOf paddedNumbersOf
-    all firstRefusal orderOk within allWithin nowhereCrossed same symmetric tablesWithin linearWithin termsWithin boundsChecks endsChecks at
+    all firstRefusal orderOk within allWithin nowhereCrossed tablesWithin linearWithin termsWithin boundsChecks endsChecks
+    mendedBy table tabulate at minℤ maxℤ
 as-worked-out = refl

@@ -1,6 +1,6 @@
--- R24.2 and R24.3 of docs/RULES.md: the file of a problem that is let through is read as that problem; a file that is accepted is the file of its
--- problem; so each such problem has just one file.
-use mathlib.Core.Path.{_≡_, refl, sym, ap, _∙_}
+-- R24.2 and R24.3 of docs/RULES.md: the file of a problem that is let through is read as that problem; a file with symmetric tables that is accepted
+-- is the file of its problem; so each such problem has just one file with symmetric tables. Any other file comes back as that one.
+use mathlib.Core.Path.{_≡_, refl, sym, ap, subst, _∙_}
 use mathlib.Core.Bool.{Bool, true, false, _&&_}
 use mathlib.Core.List.{List, [], _∷_, _++_, map, append-nil}
 use Prim.Native.Nat.{ℕ, zero, suc, _*_, _-_, _/_, _^_, _≤_, _<_}
@@ -22,33 +22,27 @@ use Rattle.tables.specs.Checks.{orderOk, within, allWithin, tablesWithin, linea
 use Rattle.tables.specs.Problem.{problemWithin, problemChecks}
 use Rattle.tables.specs.declared.problem.Problem.{Problem}
 use Rattle.tables.specs.declared.Refusal.the-variants.{Range}
+use Rattle.tables.specs.declared.Checked.{Checked}
 use Rattle.tables.specs.declared.Checked.the-variants as Checked
-use Rattle.tables.proofs.Matrix.{nth-padded, table-fits}
+use Rattle.tables.proofs.Matrix.{table-fits}
 use Rattle.tables.proofs.Checks.{all-at, within-of, and-left, and-right, first-passed, first-refuses}
 use Rattle.tables.proofs.Answers.{prefix-passed}
+use Rattle.tables.proofs.Problems.{symmetric-problem, mended-problem-symmetric}
 use Rattle.fields.specs.declared.field.Kind.{Kind}
 use Rattle.fields.specs.declared.field.Kind.the-variants as Kind
 use Rattle.fields.specs.Fields.{kinds}
 use Rattle.fields.specs.Entries.{headBytes, entryBytes, bytesOfEntries, entryWith, wholeFile}
 use Rattle.fields.proofs.Finding.{place-below}
 use Rattle.summary.specs.declared.problem.Reading.{Reading}
-use Rattle.summary.specs.Problems.{problemFrom, contentsOf, fileOf, paddedTo, padded, readAs, readingOf, reading, ProblemRooms, LetThrough, ReadingMeaning}
+use Rattle.summary.specs.Problems.{problemFrom, contentsOf, fileOf, paddedTo, padded, readAs, readingOf, reading, ProblemRooms, LetThrough, spelledBy, SymmetricTables, ReadingMeaning}
+use Rattle.summary.proofs.MendedProblems.{low-holds, high-holds}
 use Rattle.summary.proofs.Spelled.{reading-as, reading-through}
-use Rattle.summary.proofs.OneFile.{contents-length, accepted-back, whole-read}
-
--- ---- a file that is accepted
-pub reading-means : (s : List ℕ) → AllBytes s → ReadingMeaning s (reading s)
-unfolding fileOf
-reading-means s v = record { through = reading-through s; file = λ e. sym (accepted-back s e v) }
+use Rattle.summary.proofs.OneFile.{contents-length, accepted-rooms, accepted-problem, accepted-back, problem-there, whole-read}
 
 -- ---- numbers as bytes and back
 fits-in : (w : Width) {b : ℕ} {z : ℤ} → Within b z → b < 2 ^ hbits w → SFits w z
 fits-in w {z = pos n} r h = let k = r .size in record { sfits = omega arith }
 fits-in w {z = negsuc n} r h = let k = r .size in record { sfits = omega arith }
-
--- the numbers of x, k of them, and zeros
-pub nth-paddedTo : (room k : ℕ) (x : List ℤ) (i : ℕ) → i < k → nth (paddedTo room k x) i ≡ nth x i
-nth-paddedTo room k x i h = ap (λ (f : ℕ → ℤ). f i) (nth-padded (take k x) (room - k)) ∙ getD-take k x i (pos 0) h
 
 -- the bytes of the first k numbers do not depend on what stands behind these
 pub bytes-ext : (w : Width) (x y : List ℤ) (k : ℕ) → ((i : ℕ) → i < k → nth x i ≡ nth y i) → bytesOf w x k ≡ bytesOf w y k
@@ -67,19 +61,25 @@ module _ {w : Width} (n : Narrow w) (x : List ℤ) (k : ℕ) (h : k ≤ length x
           let past : length (take k x) ≤ i = omega (arith, length-take-le k x h) in
           rw (List·getD-eq-default (take k x) (pos 0) past) (record { sfits = one-le-pow (hbits w) 2 (omega arith) })
 
-  numbers-read : numbersOf w (bytesOf w x k) k ≡ take k x
-  numbers-read =
+  numbers-read : (r : List ℕ) → numbersOf w (bytesOf w x k ++ r) k ≡ take k x
+  numbers-read r =
       let t = take k x in
-      ap (λ (s : List ℕ). numbersOf w s k) (bytes-ext w x t k (λ i l. sym (getD-take k x i (pos 0) l)) ∙ sym (append-nil (bytesOf w t k)))
-      ∙ numbersOf-bytesOf n t [] k front-fits (omega (arith, length-take-le k x h)) ∙ take-all k t (omega (arith, length-take-le k x h))
+      ap (λ (s : List ℕ). numbersOf w (s ++ r) k) (bytes-ext w x t k (λ i l. sym (getD-take k x i (pos 0) l)))
+      ∙ numbersOf-bytesOf n t r k front-fits (omega (arith, length-take-le k x h)) ∙ take-all k t (omega (arith, length-take-le k x h))
+
+  -- whatever stands behind their bytes
+  pub front-read : (room : ℕ) (r : List ℕ) → paddedNumbersOf w room (bytesOf w x k ++ r) k ≡ paddedTo room k x
+  unfolding paddedNumbersOf
+  front-read room r = ap (λ (z : List ℤ). z ++ replicate (room - k) (pos 0)) (numbers-read r)
 
   padded-read : (room : ℕ) → paddedNumbersOf w room (bytesOf w x k) k ≡ paddedTo room k x
-  unfolding paddedNumbersOf
-  padded-read room = ap (λ (z : List ℤ). z ++ replicate (room - k) (pos 0)) numbers-read
+  padded-read room = ap (λ (s : List ℕ). paddedNumbersOf w room s k) (sym (append-nil (bytesOf w x k))) ∙ front-read room []
 
 number-read : (v : ℤ) → SFits w64 v → signedAt w64 (bytesOf w64 (v ∷ []) 1) 0 ≡ v
 unfolding numbersOf
-number-read v f = ap (λ (x : List ℤ). nth x 0) (numbers-read (narrow-of 8) (v ∷ []) 1 (omega arith) (λ i h. let e : i ≡ 0 = omega arith in rw e f))
+number-read v f =
+    rw (append-nil (bytesOf w64 (v ∷ []) 1)) at
+    (ap (λ (x : List ℤ). nth x 0) (numbers-read (narrow-of 8) (v ∷ []) 1 (omega arith) (λ i h. let e : i ≡ 0 = omega arith in rw e f) []))
 
 -- ---- the file of a problem whose numbers fit their fields: 4 bytes for those of the tables, 8 for the others
 pub record InFields (p : Problem) : Type 0 where
@@ -112,7 +112,11 @@ module _ (p : Problem) (z : Holds p) (f : InFields p) where
         number-read (c .limit) (f .limit),
       )
 
-  -- what its file is read as, whether the checks refuse it or not
+  -- what its file spells and is read as, whether the checks refuse it or not
+  file-spells : orderOk (pos (p .constraint .order)) ≡ true → spelledBy (fileOf p) ≡ padded p
+  unfolding fileOf
+  file-spells o = problem-there (contentsOf p) o (contents-length p) ∙ problem-back
+
   pub file-read : orderOk (pos (p .constraint .order)) ≡ true → reading (fileOf p) ≡ readingOf (padded p)
   unfolding fileOf
   file-read o = whole-read (contentsOf p) o (contents-length p) ∙ ap readingOf problem-back
@@ -143,7 +147,7 @@ fields-within p r =
       centre = all-fit w64 centreRange (omega arith) n (p .centre) (and-right (within limitRange (c .limit)) _ o);
     }
 
-fields-of : (p : Problem) → firstRefusal (problemChecks p) ≡ Checked.Passed → InFields p
+pub fields-of : (p : Problem) → firstRefusal (problemChecks p) ≡ Checked.Passed → InFields p
 unfolding boundsChecks
 fields-of p e = let c = p .constraint in fields-within p (first-passed _ _ (prefix-passed (boundsChecks (problemWithin p) (c .order) (c .low) (c .high)) _ e))
 
@@ -156,7 +160,7 @@ outside-range p f = go (inRange p) refl
     go true e = absurd (f (fields-within p e))
     go false e = first-refuses _ _ e
 
-holds-of : (p : Problem) → ProblemRooms p → Holds p
+pub holds-of : (p : Problem) → ProblemRooms p → Holds p
 holds-of p z =
     let t = table-fits (z .order) in
     record {
@@ -168,14 +172,51 @@ holds-of p z =
     }
 
 module _ (p : Problem) (t : LetThrough p) where
-  -- it is read as that problem
-  pub read-back : reading (fileOf p) ≡ readAs Checked.Passed p
-  read-back = file-read p (holds-of p (t .rooms)) (fields-of p (t .checks)) (t .order) ∙ ap readingOf (t .zeros) ∙ reading-as p (t .checks)
+  pub let-symmetric : SymmetricTables p
+  let-symmetric = mended-problem-symmetric p (t .mended)
 
-  -- and no other file is
-  pub only-file : (s : List ℕ) → AllBytes s → reading s ≡ readAs Checked.Passed p → s ≡ fileOf p
-  unfolding readAs fileOf
-  only-file s v e = accepted-back s (ap (λ (r : Reading). r .checked) e) v ∙ ap (λ (r : Reading). fileOf (r .problem)) e
+  -- it spells that problem, and is read as it
+  pub file-spelled : spelledBy (fileOf p) ≡ p
+  file-spelled = file-spells p (holds-of p (t .rooms)) (fields-of p (t .checks)) (t .order) ∙ t .zeros
+
+  pub read-back : reading (fileOf p) ≡ readAs Checked.Passed p
+  read-back =
+      file-read p (holds-of p (t .rooms)) (fields-of p (t .checks)) (t .order) ∙ ap readingOf (t .zeros) ∙ reading-as p (t .checks)
+      ∙ ap (readAs Checked.Passed) (t .mended)
+
+-- ---- a file that is accepted
+module _ (s : List ℕ) (v : AllBytes s) (e : reading s .checked ≡ Checked.Passed) where
+  -- with symmetric tables: nothing is mended, and it is the file of its problem
+  symmetric-read : SymmetricTables (spelledBy s) → reading s .problem ≡ spelledBy s
+  symmetric-read h =
+      let z = accepted-rooms s e in
+      accepted-problem s e ∙ symmetric-problem (spelledBy s) (low-holds (spelledBy s) z) (high-holds (spelledBy s) z) h
+
+  accepted-file : SymmetricTables (spelledBy s) → fileOf (reading s .problem) ≡ s
+  accepted-file h = ap fileOf (symmetric-read h) ∙ sym (accepted-back s e v)
+
+  -- and only then
+  accepted-symmetric : fileOf (reading s .problem) ≡ s → SymmetricTables (spelledBy s)
+  accepted-symmetric f =
+      let t = reading-through s e in
+      subst SymmetricTables (sym (file-spelled (reading s .problem) t) ∙ ap spelledBy f) (let-symmetric (reading s .problem) t)
+
+  -- the file of its problem is read as it was
+  accepted-again : reading (fileOf (reading s .problem)) ≡ reading s
+  unfolding readAs
+  accepted-again =
+      read-back (reading s .problem) (reading-through s e) ∙ ap (λ (k : Checked). record { checked = k; problem = reading s .problem }) (sym e)
+
+pub reading-means : (s : List ℕ) → AllBytes s → ReadingMeaning s (reading s)
+reading-means s v =
+    record {
+      through = reading-through s;
+      problem = accepted-problem s;
+      spelled = λ e. sym (accepted-back s e v);
+      back = accepted-file s v;
+      only = accepted-symmetric s v;
+      again = accepted-again s v;
+    }
 
 -- ---- the file is made of bytes
 no-bytes : AllBytes []
@@ -223,16 +264,25 @@ pub file-bytes : (p : Problem) → p .constraint .order ≤ greatestOrder → Al
 unfolding fileOf wholeFile
 file-bytes p h = entry-bytes (contentsOf p) (content-bytes p (omega arith)) kinds
 
--- ---- R24.3: there is exactly one file that is read as a problem p
+-- ---- R24.3: there is exactly one file with symmetric tables that is read as a problem p
 pub record OnlyFile (p : Problem) (s : List ℕ) : Type 0 where
   pub bytes : AllBytes s
+  pub symmetric : SymmetricTables (spelledBy s)
   pub read : reading s ≡ readAs Checked.Passed p
-  pub only : (s′ : List ℕ) → AllBytes s′ → reading s′ ≡ readAs Checked.Passed p → s′ ≡ s
+  pub only : (s′ : List ℕ) → AllBytes s′ → SymmetricTables (spelledBy s′) → reading s′ ≡ readAs Checked.Passed p → s′ ≡ s
 
 -- for each problem that is let through
 pub one-file : (p : Problem) → LetThrough p → OnlyFile p (fileOf p)
-one-file p t = record { bytes = file-bytes p (t .rooms .order); read = read-back p t; only = only-file p t }
+unfolding readAs
+one-file p t =
+    record {
+      bytes = file-bytes p (t .rooms .order);
+      symmetric = subst SymmetricTables (sym (file-spelled p t)) (let-symmetric p t);
+      read = read-back p t;
+      only = λ s v h e. sym (accepted-file s v (ap (λ (r : Reading). r .checked) e) h) ∙ ap (λ (r : Reading). fileOf (r .problem)) e;
+    }
 
--- and each file that is accepted is that of its problem
-pub accepted-one : (s : List ℕ) → AllBytes s → reading s .checked ≡ Checked.Passed → LetThrough (reading s .problem) × (s ≡ fileOf (reading s .problem))
-accepted-one s v e = let m = reading-means s v in (m .through e, sym (m .file e))
+-- and each file with symmetric tables that is accepted is that of its problem
+pub accepted-one : (s : List ℕ) → AllBytes s → SymmetricTables (spelledBy s) → reading s .checked ≡ Checked.Passed →
+    LetThrough (reading s .problem) × (s ≡ fileOf (reading s .problem))
+accepted-one s v h e = (reading-through s e, sym (accepted-file s v e h))

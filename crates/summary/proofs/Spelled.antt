@@ -1,5 +1,5 @@
 -- Laws of the problem that a file spells: what the checks of its fields say, and what a problem that is handed out is.
-use mathlib.Core.Path.{_≡_, refl, ap, _∙_}
+use mathlib.Core.Path.{_≡_, refl, sym, ap, _∙_}
 use mathlib.Core.Bool.{true, false≢true}
 use mathlib.Core.List.{List, _++_}
 use Prim.Native.Nat.{ℕ, _*_, _-_, _≤_, _<_}
@@ -15,7 +15,8 @@ use Rattle.words.proofs.Laws.{length-numbersOf, length-paddedNumbersOf}
 use Rattle.tables.specs.Ranges.{greatestOrder, tableRoom}
 use Rattle.tables.specs.Checks.{orderOk, firstRefusal}
 use Rattle.tables.specs.declared.problem.Problem.{Problem}
-use Rattle.tables.specs.Problem.{problemChecks}
+use Rattle.tables.specs.Entering.{Mended}
+use Rattle.tables.specs.Problem.{problemOf, problemChecks, mendedProblem}
 use Rattle.tables.specs.declared.Refusal.{Refusal}
 use Rattle.tables.specs.declared.Refusal.the-variants.{Long}
 use Rattle.tables.specs.declared.Checked.{Checked}
@@ -29,6 +30,7 @@ use Rattle.fields.specs.Fields.{kindCount, placeOf}
 use Rattle.fields.specs.Layouts.{lengthOf, content, Inside, walked}
 use Rattle.fields.proofs.Finding.{place-below}
 use Rattle.summary.specs.declared.problem.Reading.{Reading}
+use Rattle.summary.proofs.MendedProblems.{mended-together, mended-through}
 use Rattle.summary.specs.Problems.{longest, orderIn, lengthFor, lengthsFor, lengthsOk, fieldChecks, paddedTo, padded, problemIn, noProblem, readAs, readingOf, readIn, readWalked, reading, ProblemRooms, FieldsFit, LetThrough}
 
 -- ---- the lengths of the fields
@@ -80,7 +82,7 @@ problem-rooms s l h =
     }
 
 -- zeros stand behind its numbers
-padded-numbers : (w : Width) (room : ℕ) (t : List ℕ) (k : ℕ) → paddedTo room k (paddedNumbersOf w room t k) ≡ paddedNumbersOf w room t k
+pub padded-numbers : (w : Width) (room : ℕ) (t : List ℕ) (k : ℕ) → paddedTo room k (paddedNumbersOf w room t k) ≡ paddedNumbersOf w room t k
 unfolding paddedNumbersOf
 padded-numbers w room t k = ap (λ (x : List ℤ). x ++ replicate (room - k) (pos 0)) (take-at (numbersOf w t k) _ k (length-numbersOf w t k))
 
@@ -97,9 +99,16 @@ problem-padded s l =
     )
 
 -- ---- the cases of a reading
-pub reading-as : (p : Problem) {k : Checked} → firstRefusal (problemChecks p) ≡ k → readingOf p ≡ readAs k p
+pub reading-as : (p : Problem) {k : Checked} → firstRefusal (problemChecks p) ≡ k → readingOf p ≡ readAs k (mendedProblem p)
 unfolding readingOf
-reading-as p e = ap (λ (k : Checked). readAs k p) e
+reading-as p e = ap (λ (k : Checked). readAs k (mendedProblem p)) e
+
+-- tables that were mended in their place
+pub reading-mended : (p : Problem) {α : ℤ} {r : Checked} {l u : List ℤ} → let c = p .constraint in
+    α ≡ c .limit → Mended (problemChecks p) (c .order) (c .low) (c .high) r l u → r ≡ Checked.Passed →
+    record { checked = Checked.Passed; problem = problemOf (c .order) l u (c .linear .low) (c .linear .high) α (p .centre) } ≡ readingOf p
+unfolding readAs
+reading-mended p q m e = ap (readAs Checked.Passed) (mended-together p q m e) ∙ sym (reading-as p (sym (m .answered) ∙ e))
 
 pub reading-checked : (p : Problem) → readingOf p .checked ≡ firstRefusal (problemChecks p)
 unfolding readAs
@@ -109,12 +118,12 @@ reading-checked p = go (firstRefusal (problemChecks p)) refl
     go Checked.Passed h = ap (λ (r : Reading). r .checked) (reading-as p h)
     go (Checked.Refused r) h = ap (λ (q : Reading). q .checked) (reading-as p h)
 
--- a problem that is let through is handed out
-pub reading-handed : (p : Problem) → readingOf p .checked ≡ Checked.Passed → readingOf p .problem ≡ p
+-- what is handed out is the mended problem
+pub reading-handed : (p : Problem) → readingOf p .checked ≡ Checked.Passed → readingOf p .problem ≡ mendedProblem p
 unfolding readAs
 reading-handed p e = go (firstRefusal (problemChecks p)) refl
   where
-    go : (k : Checked) → firstRefusal (problemChecks p) ≡ k → readingOf p .problem ≡ p
+    go : (k : Checked) → firstRefusal (problemChecks p) ≡ k → readingOf p .problem ≡ mendedProblem p
     go Checked.Passed h = ap (λ (r : Reading). r .problem) (reading-as p h)
     go (Checked.Refused r) h = absurd (false≢true (cc (reading-as p h)))
 
@@ -160,7 +169,7 @@ refused-through r = read-as-through (Checked.Refused r) noProblem (λ e. absurd 
 
 reading-of-through : (p : Problem) → orderOk (pos (p .constraint .order)) ≡ true → ProblemRooms p → padded p ≡ p → Through (readingOf p)
 unfolding readingOf
-reading-of-through p h z o = read-as-through (firstRefusal (problemChecks p)) p (λ e. record { order = h; checks = e; rooms = z; zeros = o })
+reading-of-through p h z o = read-as-through (firstRefusal (problemChecks p)) (mendedProblem p) (λ e. mended-through p z h e o)
 
 read-in-through : (s : List ℕ) (l : Layout) → Through (readIn s l)
 unfolding problemIn

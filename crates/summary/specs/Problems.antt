@@ -12,7 +12,8 @@ use Rattle.words.specs.Numbers.{signedAt, paddedNumbersOf, bytesOf}
 use Rattle.tables.specs.Ranges.{greatestOrder, tableRoom}
 use Rattle.tables.specs.Checks.{Check, all, orderOk, firstRefusal}
 use Rattle.tables.specs.declared.problem.Problem.{Problem}
-use Rattle.tables.specs.Problem.{problemOf, problemChecks}
+use Rattle.tables.specs.Mending.{Symmetric}
+use Rattle.tables.specs.Problem.{problemOf, problemChecks, mendedProblem}
 use Rattle.tables.specs.declared.Refusal.the-variants.{Order, Absent, Size, Long}
 use Rattle.tables.specs.declared.Checked.{Checked}
 use Rattle.tables.specs.declared.Checked.the-variants as Checked
@@ -111,7 +112,7 @@ padded p =
     (c .limit)
     (paddedTo greatestOrder n (p .centre))
 
--- the problem in the fields
+-- the problem in the fields, with its tables as they stand there
 unfoldable pub problemIn : List ℕ → Layout → Problem
 problemIn s l = problemFrom (orderIn s l) (content s l)
 
@@ -127,9 +128,9 @@ unfoldable pub readAs : Checked → Problem → Reading
 readAs Checked.Passed p = record { checked = Checked.Passed; problem = p }
 readAs (Checked.Refused r) p = record { checked = Checked.Refused r; problem = noProblem }
 
--- R17.5: 3, 4, 5, 16
+-- R17.5: 3, 4, 5, 16 of the problem in the fields; what is handed out is the mended problem (R2.10)
 unfoldable pub readingOf : Problem → Reading
-readingOf p = readAs (firstRefusal (problemChecks p)) p
+readingOf p = readAs (firstRefusal (problemChecks p)) (mendedProblem p)
 
 -- what the fields of a layout give
 unfoldable pub readIn : List ℕ → Layout → Reading
@@ -164,15 +165,32 @@ pub record FieldsFit (s : List ℕ) (l : Layout) : Type 0 where
   pub sizes : lengthsOk l (orderIn s l) ≡ true
 
 -- ---- what a reading means
--- a problem that is handed out has an order, checks 3, 4, 5 and 16 let it through, its arrays have their sizes, and zeros stand behind its
--- numbers
+-- a problem that is handed out has an order, checks 3, 4, 5 and 16 let it through, its tables are mended (R2.10), its arrays have their
+-- sizes, and zeros stand behind its numbers
 pub record LetThrough (p : Problem) : Type 0 where
   pub order : orderOk (pos (p .constraint .order)) ≡ true
   pub checks : firstRefusal (problemChecks p) ≡ Checked.Passed
+  pub mended : mendedProblem p ≡ p
   pub rooms : ProblemRooms p
   pub zeros : padded p ≡ p
 
--- of a reading r of the file s: a problem that is handed out is let through, and s is its file (R24.3)
+-- the problem that the fields of a file spell
+abbrev pub spelledBy : List ℕ → Problem
+spelledBy s = problemIn s (walked s .layout)
+
+-- the halves of both tables of a problem agree
+abbrev pub SymmetricTables : Problem → Type 0
+SymmetricTables p = let c = p .constraint in Symmetric (c .order) (c .low) (c .high)
+
+-- of a reading r of the file s, where a problem is handed out
 pub record ReadingMeaning (s : List ℕ) (r : Reading) : Type 0 where
+  -- it is let through
   pub through : r .checked ≡ Checked.Passed → LetThrough (r .problem)
-  pub file : r .checked ≡ Checked.Passed → fileOf (r .problem) ≡ s
+  -- it is the mended one of the problem that the file spells, and the file is the one file of that (R17.5, R24.1)
+  pub problem : r .checked ≡ Checked.Passed → r .problem ≡ mendedProblem (spelledBy s)
+  pub spelled : r .checked ≡ Checked.Passed → fileOf (spelledBy s) ≡ s
+  -- R24.3: its own file is s, byte for byte, where the tables of s are symmetric, and only there
+  pub back : r .checked ≡ Checked.Passed → SymmetricTables (spelledBy s) → fileOf (r .problem) ≡ s
+  pub only : r .checked ≡ Checked.Passed → fileOf (r .problem) ≡ s → SymmetricTables (spelledBy s)
+  -- any other file comes back as the one file of the mended problem: that is read as the same problem
+  pub again : r .checked ≡ Checked.Passed → reading (fileOf (r .problem)) ≡ r

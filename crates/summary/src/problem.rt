@@ -1,4 +1,4 @@
-// R17 of docs/RULES.md: the problem that a file spells.
+// R17 of docs/RULES.md: the problem that a file spells, mended (R2.10).
 ghost use mathlib.Core.Path.{_≡_};
 ghost use Prim.Native.Nat.{_*_, _≤_};
 ghost use mir.Syntax.{w32, w64};
@@ -6,7 +6,8 @@ ghost use mir.Val.{bytes};
 ghost use Rattle.words.specs.Numbers.{signedAt, paddedNumbersOf};
 ghost use Rattle.tables.specs.Ranges.{greatestOrder, tableRoom};
 ghost use Rattle.tables.specs.Checks.{firstRefusal};
-ghost use Rattle.tables.specs.Problem.{problemChecks};
+ghost use Rattle.tables.specs.Entering.{Mended};
+ghost use Rattle.tables.specs.Problem.{problemOf, problemChecks};
 ghost use Rattle.fields.specs.Layouts.{lengthOf, content, Inside};
 ghost use Rattle.summary.specs.Problems.{allPresent, orderIn, lengthsFor, lengthsOk, FieldsFit, fieldChecks, problemIn};
 ghost use Rattle.summary.specs.Problems.{noProblem, ProblemRooms, readingOf, readIn, reading, ReadingMeaning};
@@ -22,6 +23,7 @@ use tables::Refusal;
 use tables::TABLE_ROOM;
 use tables::Table;
 use tables::Vector;
+use tables::entering::check_laid;
 use tables::problem::Constraint;
 use tables::problem::Linear;
 use tables::problem::Problem;
@@ -29,7 +31,7 @@ use tables::problem::Problem;
 // A file has at most 4096 bytes (R17.1 of docs/RULES.md).
 pub const LONGEST: usize = 4096;
 
-// What the reading of a file finds: its problem, or the first refusal, with zeros for a problem.
+// What the reading of a file finds: its problem, with mended tables, or the first refusal, with zeros for a problem.
 pub struct Reading {
     pub checked: Checked,
     pub problem: Problem,
@@ -166,7 +168,7 @@ fn number_in(file: &[u8], layout: Layout, kind: Kind) -> i64
     words::load_signed(content(file, layout, kind), 0, words::SIZE)
 }
 
-// The problem in fields of the lengths that n calls for.
+// The problem in fields of the lengths that n calls for, with its tables as they stand there.
 fn problem_in(file: &[u8], layout: Layout) -> Problem
     requires { ⌜ FieldsFit (now file) layout ⌝ }
     ensures { λ r. ⌜ r ≡ problemIn (now (file .entry)) layout ⌝ }
@@ -189,38 +191,57 @@ fn problem_in(file: &[u8], layout: Layout) -> Problem
     }
 }
 
-// 3, 4, 5 and 16.
-pub fn check_problem(problem: Problem) -> Checked
-    requires { ⌜ ProblemRooms problem ⌝ }
-    ensures { λ r. ⌜ r ≡ firstRefusal (problemChecks problem) ⌝ }
+// 3, 4, 5 and 16 of a problem of order n with bounds low and high, and where nothing is refused these bounds mended in their place.
+pub fn mend_problem(
+    n: usize,
+    low: &mut Table,
+    high: &mut Table,
+    from: &Vector,
+    to: &Vector,
+    limit: i64,
+    centre: &Vector,
+) -> Checked
+    requires { ⌜ ProblemRooms (problemOf n (now low) (now high) (now from) (now to) limit (now centre)) ⌝ }
+    ensures { λ r. ⌜ Mended (problemChecks (problemOf n (now (low .entry)) (now (high .entry)) (now (from .entry)) (now (to .entry)) limit
+        (now (centre .entry)))) n (now (low .entry)) (now (high .entry)) r (now (low .exit)) (now (high .exit)) ⌝ }
 {
-    let constraint = problem.constraint;
-    let low = constraint.low;
-    let high = constraint.high;
-    let linear = constraint.linear;
-    let from = linear.low;
-    let to = linear.high;
-    let centre = problem.centre;
-    let n = constraint.order;
-    let within = tables::sized_within(n, true, &from, &to, constraint.limit, &centre);
-    let checked = tables::check_bounds(n, within, &low, &high);
+    let within = tables::sized_within(n, true, from, to, limit, centre);
+    let checked = check_laid(n, within, low, high);
     match checked {
-        Checked::Passed => tables::check_ends(n, &from, &to),
+        Checked::Passed => tables::check_ends(n, from, to),
         Checked::Refused(r) => Checked::Refused(r),
     }
 }
 
-// A problem where it passes them, or the first refusal.
+// The mended problem where nothing is refused, or the first refusal.
 fn reading_of(problem: Problem) -> Reading
     requires { ⌜ ProblemRooms problem ⌝ }
     ensures { λ r. ⌜ r ≡ readingOf problem ⌝ }
 {
-    let checked = check_problem(problem);
+    let constraint = problem.constraint;
+    let order = constraint.order;
+    let mut low = constraint.low;
+    let mut high = constraint.high;
+    let linear = constraint.linear;
+    let from = linear.low;
+    let to = linear.high;
+    let limit = constraint.limit;
+    let centre = problem.centre;
+    let checked = mend_problem(order, &mut low, &mut high, &from, &to, limit, &centre);
     match checked {
-        Checked::Passed => Reading {
-            checked: Checked::Passed,
-            problem,
-        },
+        Checked::Passed => {
+            let constraint = Constraint {
+                order,
+                low,
+                high,
+                linear,
+                limit,
+            };
+            Reading {
+                checked: Checked::Passed,
+                problem: Problem { constraint, centre },
+            }
+        }
         Checked::Refused(r) => Reading {
             checked: Checked::Refused(r),
             problem: no_problem(),
@@ -244,7 +265,7 @@ fn read_in(file: &[u8], layout: Layout) -> Reading
 }
 
 // The problem of a summary file, of any bytes at all: 15; then field by field 10, 11, 12, 19; then 13; 14 for tag 01; 1; 14 for the other
-// tags; 3, 4, 5, 16.
+// tags; 3, 4, 5, 16. What passes is handed out mended.
 pub fn read(file: &[u8]) -> Reading
     ensures exact { λ r. ⌜ r ≡ reading (now (file .entry)) ⌝ }
     ensures meaning { λ r. ⌜ ReadingMeaning (now (file .entry)) r ⌝ }

@@ -1,15 +1,16 @@
 -- Laws of the writer's act: where n is an order and the buffers have their sizes 3, 4, 5 and 16 are all that is left to ask, of the numbers as they
 -- are handed in or in arrays; what is written is read back; and a problem is refused by the number that its file would get.
-use mathlib.Core.Path.{_≡_, refl, sym, ap, subst, _∙_}
+use mathlib.Core.Path.{_≡_, refl, sym, ap, ap₂, subst, _∙_}
 use mathlib.Core.Bool.{Bool, true, false, false≢true}
 use mathlib.Core.List.{List, _++_}
 use Prim.Native.Nat.{ℕ}
+use native.Mathlib.Omega.{arith}
 use borrow.Author.Tests.{eqb-true}
 use lib.Dec.{eqb}
 use lib.IntN.{ℤ, pos, negsuc}
-use Rattle.tables.specs.Checks.{orderOk, orderOf, entryChecks, firstRefusal}
+use Rattle.tables.specs.Checks.{Check, orderOk, orderOf, entryChecks, firstRefusal}
 use Rattle.tables.specs.Answers.{after}
-use Rattle.tables.specs.Problem.{constraintSized, problemWithin, problemChecks, constraintEntered}
+use Rattle.tables.specs.Problem.{constraintSized, problemWithin, problemChecks, constraintEntered, mendedProblem}
 use Rattle.tables.specs.declared.Refusal.the-variants.{Order, Length, Range}
 use Rattle.tables.specs.declared.Checked.{Checked}
 use Rattle.tables.specs.declared.Checked.the-variants.{Passed, Refused}
@@ -19,10 +20,10 @@ use Rattle.tables.specs.declared.problem.Lengths.{Lengths}
 use Rattle.tables.proofs.Checks.{and-left, and-right, more-checks, order-of}
 use Rattle.tables.proofs.Answers.{after-means, prefix-passed}
 use Rattle.tables.proofs.Admission.{entry-passed, order-known, no-order, no-sizes}
-use Rattle.tables.proofs.Problems.{constraint-sizes-of, problem-door, constraint-sized}
+use Rattle.tables.proofs.Problems.{constraint-sizes-of, problem-door, constraint-sized, symmetric-problem}
 use Rattle.summary.specs.Problems.{fileSize, fileOf, padded, readAs, reading}
 use Rattle.summary.proofs.RoundTrip.{InFields, outside-range, read-back}
-use Rattle.summary.proofs.Padding.{Sized, padded-file, padded-checks, padded-through, file-checked}
+use Rattle.summary.proofs.Padding.{Sized, padded-file, padded-checks, padded-mending, padded-through, file-checked}
 use Rattle.writer.specs.Writing.{Written, kept, written, checkedWriting, writing, writeSizes, Meaning}
 
 -- ---- the sizes
@@ -67,7 +68,9 @@ writing-sized n sized p s o z e = sym (constraint-sized (kept s) n sized (proble
 -- a problem in arrays, and as it is handed in
 pub writing-padded : (p : Problem) (s : List ℕ) → Sized p → checkedWriting (padded p) s ≡ checkedWriting p s
 unfolding checkedWriting
-writing-padded p s z = rw (padded-checks p z, padded-file p)
+writing-padded p s z =
+    ap₂ (λ (checks : List Check) (f : List ℕ). after (kept s) (firstRefusal checks) (record { answer = Passed; file = f })) (padded-checks p z)
+    (ap fileOf (sym (padded-mending p z)) ∙ padded-file (mendedProblem p))
 
 -- ---- what an answer means
 order-ok : (n : ℤ) → orderOk n ≡ true → orderOk (pos (orderOf n)) ≡ true
@@ -82,13 +85,17 @@ unfolding writing readAs
 writing-means n sized p s e z =
     let checks = entryChecks n sized ++ problemChecks p in
     subst (Means p) (sym (problem-door (kept s) n sized p (written p) e))
-    (after-means (kept s) (firstRefusal checks) (written p) (Means p) (λ r. record { back = λ q. absurd (false≢true cc) })
+    (after-means (kept s) (firstRefusal checks) (written p) (Means p) (λ r. record { back = λ q. absurd (false≢true cc); file = λ q. absurd (false≢true cc) })
     (λ q.
     let first = prefix-passed (entryChecks n sized) (problemChecks p) q in
     let o = entry-passed n sized first in
     let passed = sym (more-checks (entryChecks n sized) (problemChecks p) first) ∙ q in
-    let through = padded-through p (z (o .1)) (rw e (order-ok n (o .0))) passed in
-    record { back = λ _. ap reading (sym (padded-file p)) ∙ read-back (padded p) through }))
+    let sizes = z (o .1) in
+    let through = padded-through p sizes (rw e (order-ok n (o .0))) passed in
+    record {
+      back = λ _. ap reading (sym (padded-file (mendedProblem p))) ∙ read-back (padded (mendedProblem p)) through;
+      file = λ _ h. ap fileOf (symmetric-problem p (omega (arith, sizes .low)) (omega (arith, sizes .high)) h);
+    }))
 
 -- ---- R24.5: a problem is refused by the number that its file would get
 answered : (p : Problem) (s : List ℕ) → checkedWriting p s .answer ≡ firstRefusal (problemChecks p)

@@ -1,4 +1,5 @@
--- R24.3 of docs/RULES.md: a file that is accepted, written again from the numbers of its problem: the same bytes.
+-- R24.3 of docs/RULES.md: a file that is accepted, written again from the numbers of its problem: the one file of that problem, and the same bytes
+-- where the tables of the file are symmetric.
 use mathlib.Core.Path.{_≡_, sym, ap, _∙_}
 use mathlib.Core.Bool.{true}
 use mathlib.Core.List.{List}
@@ -11,17 +12,17 @@ use lib.Seq.{take-all, length-take-le}
 use Rattle.words.proofs.Laws.{AllBytes}
 use Rattle.tables.specs.Checks.{sizesOk, orderOf, firstRefusal}
 use Rattle.tables.specs.Answers.{after}
-use Rattle.tables.specs.Problem.{problemOf, lengthsOf, constraintSized, problemChecks}
+use Rattle.tables.specs.Problem.{problemOf, lengthsOf, constraintSized, problemChecks, mendedProblem}
 use Rattle.tables.specs.declared.Checked.the-variants.{Passed}
 use Rattle.tables.specs.declared.problem.Problem.{Problem}
 use Rattle.tables.proofs.Matrix.{table-fits}
 use Rattle.tables.proofs.Checks.{and-of}
 use Rattle.tables.proofs.Answers.{after-passed}
 use Rattle.tables.proofs.Admission.{order-known}
-use Rattle.summary.specs.Problems.{fileSize, fileOf, padded, reading, LetThrough}
+use Rattle.summary.specs.Problems.{fileSize, fileOf, padded, reading, LetThrough, spelledBy, SymmetricTables}
 use Rattle.summary.proofs.OneFile.{accepted-size}
 use Rattle.summary.proofs.RoundTrip.{reading-means}
-use Rattle.summary.proofs.Padding.{Sized, padded-file, padded-checks}
+use Rattle.summary.proofs.Padding.{Sized, padded-file, padded-checks, padded-mending}
 use Rattle.writer.specs.Writing.{Written, kept, written, checkedWriting, writeSizes, write}
 use Rattle.writer.proofs.Acting.{writing-sized}
 
@@ -91,10 +92,13 @@ module _ (p : Problem) (t : LetThrough p) where
   fronts-checks : firstRefusal (problemChecks fronts) ≡ Passed
   fronts-checks = ap firstRefusal (sym (padded-checks fronts fronts-sized) ∙ ap problemChecks fronts-padded) ∙ t .checks
 
-  fronts-file : fileOf fronts ≡ fileOf p
-  fronts-file = sym (padded-file fronts) ∙ ap fileOf fronts-padded
+  fronts-mended : padded (mendedProblem fronts) ≡ p
+  fronts-mended = padded-mending fronts fronts-sized ∙ ap mendedProblem fronts-padded ∙ t .mended
 
-  fronts-written : (s : List ℕ) → checkedWriting fronts s ≡ written p
+  fronts-file : fileOf (mendedProblem fronts) ≡ fileOf p
+  fronts-file = sym (padded-file (mendedProblem fronts)) ∙ ap fileOf fronts-mended
+
+  fronts-written : (s : List ℕ) → checkedWriting fronts s ≡ record { answer = Passed; file = fileOf p }
   unfolding checkedWriting
   fronts-written s = sym (after-passed (kept s) (written fronts) fronts-checks) ∙ ap (λ (f : List ℕ). record { answer = Passed; file = f }) fronts-file
 
@@ -107,19 +111,25 @@ module _ (p : Problem) (t : LetThrough p) where
         (and-of (eq-eqb _ _ (z .centre)) (eq-eqb _ _ h))
 
     -- they are written as its file, into a buffer of its size
-    pub fronts-write : write (pos n) low high from to (p .constraint .limit) centre s ≡ written p
+    pub fronts-write : write (pos n) low high from to (p .constraint .limit) centre s ≡ record { answer = Passed; file = fileOf p }
     unfolding write
     fronts-write =
         let known : orderOf (pos n) ≡ n = order-known (pos n) (t .order) in
         rw known (sym (writing-sized (pos n) _ fronts s (t .order) sizes (sym known)) ∙ fronts-written s)
 
 -- a file that is accepted, into any buffer of its length
-pub written-again : (s : List ℕ) → AllBytes s → reading s .checked ≡ Passed → (f : List ℕ) → length f ≡ length s →
-    let p = reading s .problem in
-    let c = p .constraint in
-    let n = c .order in
-    write (pos n) (take (n * n) (c .low)) (take (n * n) (c .high)) (take n (c .linear .low)) (take n (c .linear .high)) (c .limit) (take n (p .centre)) f
-    ≡ record { answer = Passed; file = s }
-written-again s v e f h =
-    let m = reading-means s v in
-    fronts-write (reading s .problem) (m .through e) f (h ∙ accepted-size s e v) ∙ ap (λ (t : List ℕ). record { answer = Passed; file = t }) (m .file e)
+module _ (s : List ℕ) (v : AllBytes s) (e : reading s .checked ≡ Passed) (f : List ℕ) (h : length f ≡ length s) where
+  abbrev Rewritten : List ℕ → Type 0
+  Rewritten t =
+      let p = reading s .problem in
+      let c = p .constraint in
+      let n = c .order in
+      write (pos n) (take (n * n) (c .low)) (take (n * n) (c .high)) (take n (c .linear .low)) (take n (c .linear .high)) (c .limit) (take n (p .centre)) f
+      ≡ record { answer = Passed; file = t }
+
+  pub written-mended : Rewritten (fileOf (reading s .problem))
+  written-mended = fronts-write (reading s .problem) (reading-means s v .through e) f (h ∙ accepted-size s e v)
+
+  -- where its tables are symmetric
+  pub written-again : SymmetricTables (spelledBy s) → Rewritten s
+  written-again y = written-mended ∙ ap (λ (t : List ℕ). record { answer = Passed; file = t }) (reading-means s v .back e y)

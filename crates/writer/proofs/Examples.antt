@@ -1,16 +1,18 @@
 -- Files of some problems, and refusals: what the rules give, beside what was worked out apart from them. One list with one proof.
 use mathlib.Core.Path.{_≡_, refl}
-use mathlib.Core.List.{List, [], _∷_, map}
+use mathlib.Core.List.{List, [], _∷_, _++_, map}
 use Prim.Native.Nat.{ℕ, _+_, _^_}
 use lib.IntN.{ℤ, pos, negsuc}
 use lib.ListN.{length, take, replicate}
 use Rattle.words.specs.Numbers.{toLeBytes, bytesOf}
-use Rattle.tables.specs.Matrix.{at}
+use Rattle.integers.specs.Numbers.{minℤ, maxℤ}
+use Rattle.tables.specs.Matrix.{at, tabulate, table}
+use Rattle.tables.specs.Mending.{mendedBy}
 use Rattle.tables.specs.Problem.{problemOf, constraintSized, constraintEntered}
 use Rattle.tables.specs.Ranges.{greatestOrder, entryRange, tableRoom}
 use Rattle.tables.specs.Answers.{after}
 use Rattle.tables.specs.Entering.{entered}
-use Rattle.tables.specs.Checks.{all, firstRefusal, orderOk, orderOf, sizesOk, within, allWithin, nowhereCrossed, same, symmetric, tablesWithin, linearWithin, termsWithin, entryChecks, boundsChecks, endsChecks}
+use Rattle.tables.specs.Checks.{all, firstRefusal, orderOk, orderOf, sizesOk, within, allWithin, nowhereCrossed, tablesWithin, linearWithin, termsWithin, entryChecks, boundsChecks, endsChecks}
 use Rattle.tables.specs.declared.Refusal.{Refusal}
 use Rattle.tables.specs.declared.Refusal.the-variants.{Order, Length, Range, Crossed, Lopsided, Reversed}
 use Rattle.tables.specs.declared.Checked.the-variants.{Passed}
@@ -61,19 +63,31 @@ fileP =
     ∷ 7 ∷ 8 ∷ 0 ∷ 0xf8 ∷ 0xff ∷ 0xff ∷ 0xff ∷ 0xff ∷ 0xff ∷ 0xff ∷ 0xff
     ∷ []
 
--- order 2, with a table that is not symmetric where x is not 1
+-- order 2: L = [2 x; 1 2] and U = [4 3; 2 4], with halves apart
 abbrev two : ℤ → Call
 two x =
     record {
       order = pos 2;
       low = pos 2 ∷ x ∷ pos 1 ∷ pos 2 ∷ [];
-      high = pos 3 ∷ pos 1 ∷ pos 1 ∷ pos 3 ∷ [];
+      high = pos 4 ∷ pos 3 ∷ pos 2 ∷ pos 4 ∷ [];
       linear-low = pos 0 ∷ pos 0 ∷ [];
       linear-high = pos 0 ∷ pos 0 ∷ [];
       limit = pos 1;
       centre = pos 0 ∷ pos 0 ∷ [];
       size = fileSize 2;
     }
+
+-- the file of the same with a low bound l and a high bound u beside the diagonal, at both places
+abbrev fileTwo : ℕ → ℕ → List ℕ
+fileTwo l u =
+    let zeros : List ℕ = replicate 16 0 in
+    (1 ∷ 1 ∷ 0 ∷ 2 ∷ [])
+    ++ (2 ∷ 16 ∷ 0 ∷ 2 ∷ 0 ∷ 0 ∷ 0 ∷ l ∷ 0 ∷ 0 ∷ 0 ∷ l ∷ 0 ∷ 0 ∷ 0 ∷ 2 ∷ 0 ∷ 0 ∷ 0 ∷ [])
+    ++ (3 ∷ 16 ∷ 0 ∷ 4 ∷ 0 ∷ 0 ∷ 0 ∷ u ∷ 0 ∷ 0 ∷ 0 ∷ u ∷ 0 ∷ 0 ∷ 0 ∷ 4 ∷ 0 ∷ 0 ∷ 0 ∷ [])
+    ++ (4 ∷ 16 ∷ 0 ∷ zeros)
+    ++ (5 ∷ 8 ∷ 0 ∷ 1 ∷ replicate 7 0)
+    ++ (6 ∷ 16 ∷ 0 ∷ zeros)
+    ++ (7 ∷ 16 ∷ 0 ∷ zeros)
 
 abbrev tooLarge : ℤ
 tooLarge = pos (entryRange + 1)
@@ -99,8 +113,11 @@ lines =
     ∷ refused Range (caseP (pos 1) (pos 5) (negsuc 8) (pos (2 ^ 12 + 1)) 62)
     -- 4, 5, 16
     ∷ refused Crossed (caseP (pos 1) (pos 5) (negsuc 8) (pos 2) 62)
-    ∷ refused Lopsided (two (pos 0))
+    ∷ refused Lopsided (two (pos 3))
     ∷ refused Reversed (caseP (pos 1) (pos 4) (negsuc 8) (pos 2) 62)
+    -- halves apart: the greater low and the smaller high are written at both places
+    ∷ record { call = two (pos 0); expected = record { answer = Passed; file = fileTwo 1 2 } }
+    ∷ record { call = two (pos 2); expected = record { answer = Passed; file = fileTwo 2 2 } }
     ∷ []
 
 done : Call → Written
@@ -108,7 +125,7 @@ done c = write (c .order) (c .low) (c .high) (c .linear-low) (c .linear-high) (c
 
 as-worked-out : map (λ (l : Line). done (l .call)) lines ≡ map (λ (l : Line). l .expected) lines
 unfolding done write writing writeSizes constraintSized sizesOk constraintEntered entered after firstRefusal entryChecks boundsChecks endsChecks
-    all orderOk orderOf within allWithin nowhereCrossed same symmetric tablesWithin linearWithin termsWithin at
+    all orderOk orderOf within allWithin nowhereCrossed tablesWithin linearWithin termsWithin mendedBy table tabulate at minℤ maxℤ
     fileOf wholeFile bytesOfEntries entryBytes bytesOf toLeBytes
 as-worked-out = refl
 

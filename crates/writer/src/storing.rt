@@ -6,6 +6,7 @@ ghost use lib.ListN.{length};
 ghost use mir.Val.{bytes};
 ghost use Rattle.words.specs.Numbers.{widthOf, toLeBytes, bytesOf};
 ghost use Rattle.tables.specs.Ranges.{greatestOrder};
+ghost use Rattle.tables.specs.Problem.{problemOf};
 ghost use Rattle.fields.specs.declared.field.Kind.the-variants as Kind;
 ghost use Rattle.fields.specs.Fields.{tagOf, head};
 ghost use Rattle.fields.specs.Entries.{entryBytes, bytesOfEntries};
@@ -15,7 +16,8 @@ ghost use Rattle.writer.specs.Contracts.{boundsEntries, boundsSize, term
 use fields::field::HEAD;
 use fields::field::Kind;
 use fields::field::tag_of;
-use tables::problem::Problem;
+use tables::Table;
+use tables::Vector;
 use words::SHORT_SIZE;
 use words::SIZE;
 
@@ -98,19 +100,22 @@ fn put_terms(
     put_numbers(file, at_high, Kind::LinearHigh, to, n, SIZE)
 }
 
-// The file of a problem into a buffer of its size.
-pub fn write_file(problem: Problem, file: &mut [u8])
-    requires { ⌜ ProblemRooms problem × (length (now file) ≡ fileSize (problem .constraint .order)) ⌝ }
-    ensures { λ _. ⌜ now (file .exit) ≡ fileOf problem ⌝ }
+// The file of a problem of order n into a buffer of its size.
+pub fn write_file(
+    n: usize,
+    low: &Table,
+    high: &Table,
+    from: &Vector,
+    to: &Vector,
+    limit: i64,
+    centre: &Vector,
+    file: &mut [u8],
+)
+    requires { ⌜ ProblemRooms (problemOf n (now low) (now high) (now from) (now to) limit (now centre))
+        × (length (now file) ≡ fileSize n) ⌝ }
+    ensures { λ _. ⌜ now (file .exit) ≡ fileOf (problemOf n (now (low .entry)) (now (high .entry)) (now (from .entry)) (now (to .entry))
+        limit (now (centre .entry))) ⌝ }
 {
-    let constraint = problem.constraint;
-    let n = constraint.order;
-    let low = constraint.low;
-    let high = constraint.high;
-    let linear = constraint.linear;
-    let from = linear.low;
-    let to = linear.high;
-    let centre = problem.centre;
-    let at = put_bounds(file, n, &low, &high);
-    put_terms(file, at, n, &from, &to, constraint.limit, &centre);
+    let at = put_bounds(file, n, low, high);
+    put_terms(file, at, n, from, to, limit, centre);
 }

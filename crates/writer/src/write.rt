@@ -10,7 +10,7 @@ ghost use Rattle.writer.specs.Writing.{Written, checkedWriting, writeSiz
 use crate::storing::write_file;
 use fields::field::HEAD;
 use fields::field::KINDS;
-use summary::problem::check_problem;
+use summary::problem::mend_problem;
 use tables::Checked;
 use tables::GREATEST_ORDER;
 use tables::Refusal;
@@ -99,25 +99,34 @@ fn problem_of(
     }
 }
 
-// Checks 3, 4, 5 and 16 of a problem, and its file into a buffer of its size, which a refusal keeps.
+// Checks 3, 4, 5 and 16 of a problem, and the file of the mended one into a buffer of its size, which a refusal keeps.
 pub fn write_checked(problem: Problem, file: &mut [u8]) -> Checked
     requires { ⌜ ProblemRooms problem × (length (now file) ≡ fileSize (problem .constraint .order)) ⌝ }
     ensures { λ r. ⌜ _≡_ {A = Written} (record { answer = r; file = now (file .exit) }) (checkedWriting problem (now
         (file .entry))) ⌝ }
 {
-    let checked = check_problem(problem);
+    let constraint = problem.constraint;
+    let n = constraint.order;
+    let mut low = constraint.low;
+    let mut high = constraint.high;
+    let linear = constraint.linear;
+    let from = linear.low;
+    let to = linear.high;
+    let limit = constraint.limit;
+    let centre = problem.centre;
+    let checked = mend_problem(n, &mut low, &mut high, &from, &to, limit, &centre);
     let passed = match checked {
         Checked::Passed => true,
         Checked::Refused(_) => false,
     };
     if passed {
-        write_file(problem, file);
+        write_file(n, &low, &high, &from, &to, limit, &centre, file);
     }
     checked
 }
 
 // The summary file of a problem of any numbers at all: n is an order or not, and each slice has any length. Refused by the first of the
-// checks 1 to 5 and 16 that fails, with the buffer kept; else the file is written.
+// checks 1 to 5 and 16 that fails, with the buffer kept; else the file of the mended problem is written.
 pub fn write(
     n: i64,
     low: &[i64],

@@ -10,18 +10,12 @@ use Rattle.hankboulder.proofs.file_writing.hb_write_summary.Tie as tie
 abbrev left : tie.After-write-summary → Written
 left c = record { answer = c .write-summary .result; file = c .write-summary .last .1 .1 .1 .1 .1 .1 .1 .0 }
 
--- the elements of the buffers that are read are bytes
-lent : (c : tie.After-shared-slice-known5) →
-    let a = c .before .before .before .before .before .args in
-    Bytes (a .low .now) (a .high .now) (a .linear-low .now) (a .linear-high .now) (a .centre .now)
+-- the elements of the buffers of the linear terms and of the centre are bytes
+lent : (c : tie.After-shared-slice-known5) → let a = c .before .before .before .before .before .args in Bytes (a .linear-low .now) (a .linear-high .now) (a .centre .now)
 lent c =
     let to = c .before in
     let from = to .before in
-    let high = from .before in
-    let low = high .before in
     record {
-      low = record { each = λ i. omega (arith, low .shared-slice-known .given i) };
-      high = record { each = λ i. omega (arith, high .shared-slice-known2 .given i) };
       from = record { each = λ i. omega (arith, from .shared-slice-known3 .given i) };
       to = record { each = λ i. omega (arith, to .shared-slice-known4 .given i) };
       centre = record { each = λ i. omega (arith, c .shared-slice-known5 .given i) };

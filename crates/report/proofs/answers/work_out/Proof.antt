@@ -3,9 +3,7 @@ use borrow.Author.Needs.{needs}
 use mir.Syntax.{w64}
 use mir.Val.{toZ, ofZ}
 use Rattle.integers.proofs.Machine.{clean-element}
-use Rattle.enclosure.specs.Box.{problemBox}
-use Rattle.report.specs.Report.{problemVerdict}
-use Rattle.report.proofs.Fitting.{tables, terms, limit}
+use Rattle.report.proofs.Fitting.{verdict-is, box-is, tables, terms, limit}
 use Rattle.report.proofs.answers.work_out.Statement.{statement}
 use Rattle.report.proofs.answers.work_out.Tie as tie
 
@@ -18,7 +16,6 @@ limit-clean : (c : tie.After-struct-told) → let α = start c .args .problem .c
 limit-clean c = clean-element _ (c .struct-told .given .1 .1 .1 .1 .0 .1)
 
 pub work-out-spec : {M : Type 1} → statement M
-unfolding problemVerdict problemBox
 work-out-spec =
     tie.close
     (tie.spec
@@ -32,7 +29,8 @@ work-out-spec =
     (λ c. search needs)
     (λ c κs. let l = start c .pre in (terms l, rw (limit-clean c) (limit l), refl))
     (λ c.
+    let l = start (c .before) .pre in
     record {
-      verdict = c .before .before .before .before .before .before .before .before .decide .ensures;
-      box = rw (limit-clean (c .before)) at (c .box-bounds .ensures);
+      verdict = rw (verdict-is l) (c .before .before .before .before .before .before .before .before .decide .ensures);
+      box = rw (box-is l) (rw (limit-clean (c .before)) at (c .box-bounds .ensures));
     }))

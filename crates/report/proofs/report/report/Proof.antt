@@ -3,7 +3,6 @@ use mathlib.Core.Path.{_∙_}
 use native.Mathlib.Omega.{arith}
 use borrow.Author.Needs.{needs}
 use Rattle.summary.specs.Problems.{LetThrough}
-use Rattle.report.proofs.Fitting.{order}
 use Rattle.report.proofs.StatedText.{answers-text}
 use Rattle.report.proofs.Printed.{printed-problem, printed-refused, output-is}
 use Rattle.report.proofs.report.report.Statement.{statement}
@@ -36,7 +35,7 @@ report-spec =
     (λ c. search needs)
     (λ c. search needs)
     (λ c κs. passed (c .before .before))
-    (λ c κs. let w = c .work-out .ensures in (order (passed (c .before .before .before)) .1, w .verdict .size, w .box .size, omega arith))
+    (λ c κs. let w = c .work-out .ensures in (passed (c .before .before .before) .rooms .order, w .verdict .size, w .box .size, omega arith))
     (λ c. search needs)
     (λ c. search needs)
     (λ c. search needs)

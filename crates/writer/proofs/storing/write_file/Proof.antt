@@ -4,7 +4,9 @@ use mathlib.Core.List.{List}
 use native.Mathlib.Omega.{arith}
 use borrow.Author.Needs.{needs}
 use lib.IntN.{ℤ}
-use Rattle.integers.proofs.Machine.{clean-element}
+use Rattle.integers.proofs.Machine.{clean}
+use Rattle.tables.specs.Problem.{problemOf}
+use Rattle.tables.specs.declared.problem.Problem.{Problem}
 use Rattle.tables.proofs.Matrix.{table-fits}
 use Rattle.fields.specs.Entries.{Entry, bytesOfEntries, wholeFile}
 use Rattle.summary.specs.Problems.{fileOf}
@@ -15,51 +17,50 @@ use Rattle.writer.proofs.Fields.{put-by, entries-put, put-whole}
 use Rattle.writer.proofs.storing.write_file.Statement.{statement}
 use Rattle.writer.proofs.storing.write_file.Tie as tie
 
-abbrev begun : tie.After-put-bounds → tie.Start
-begun c = c .before .before .before .before .before .before .before .before .before .before .before .before
-
-abbrev first : tie.After-put-terms → tie.After-put-bounds
-first c = c .before .before .before .before .before .before .before .before
+-- the problem of a call
+abbrev posed : tie.Start → Problem
+posed s = let a = s .args in problemOf (a .n) (a .low .now) (a .high .now) (a .from .now) (a .to .now) (a .limit) (a .centre .now)
 
 -- the fields
 abbrev bounds : tie.Start → List Entry
-bounds s = let k = s .args .problem .constraint in boundsEntries (k .order) (k .low) (k .high)
+bounds s = let a = s .args in boundsEntries (a .n) (a .low .now) (a .high .now)
 
 -- with the limit α
 abbrev terms : tie.Start → ℤ → List Entry
-terms s α = let p = s .args .problem in let k = p .constraint in termsEntries (k .order) (k .linear .low) (k .linear .high) α (p .centre)
+terms s α = let a = s .args in termsEntries (a .n) (a .from .now) (a .to .now) α (a .centre .now)
+
+abbrev begun : tie.After-put-bounds → tie.Start
+begun c = c .before .before .before .before .before
+
+abbrev first : tie.After-put-terms-arg4 → tie.After-put-bounds
+first c = c .before .before .before .before .before .before
 
 pub write-file-spec : {M : Type 1} → statement M
 unfolding fileOf wholeFile
 write-file-spec =
     tie.close
     (tie.spec
-    (λ c. search needs)
-    (λ c. search needs)
     (λ c κs.
-    let s = c .before .before .before .before .before .before .before .before .before .before .before in
+    let s = c .before .before .before .before in
     let z = s .pre .0 in
     let t = table-fits (z .order) in
     (z .order, omega (arith, z .low), omega (arith, z .high), omega (arith, s .pre .1)))
-    (λ c. search needs)
-    (λ c. search needs)
-    (λ c. search needs)
     (λ c κs.
-    let b = c .before .before .before .before .before .before .before in
+    let b = first c in
     let s = begun b in
     let z = s .pre .0 in (
       z .order,
       omega (arith, z .order, z .linear-low),
       omega (arith, z .order, z .linear-high),
       omega (arith, z .order, z .centre),
-      put-room (b .put-bounds .ensures) (termsSize (s .args .problem .constraint .order)) (omega (arith, s .pre .1)),
+      put-room (b .put-bounds .ensures) (termsSize (s .args .n)) (omega (arith, s .pre .1)),
     ))
     (λ c. search needs)
     (λ c.
     let d = c .before .before in
-    let b = first d in
+    let b = first (d .before) in
     let s = begun b in
-    let p = s .args .problem in
-    let α = p .constraint .limit in
-    let same = ap (λ (x : ℤ). bytesOfEntries (terms s x)) (clean-element α (d .before .struct-told .given .1 .1 .1 .1 .0 .1)) in
-    put-whole (fileOf p) (file-length p ∙ sym (s .pre .1)) (entries-put (bounds s) (terms s α) (omega arith) (b .put-bounds .ensures) (put-by same (d .put-terms .ensures)))))
+    let α = s .args .limit in
+    let same = ap (λ (x : ℤ). bytesOfEntries (terms s x)) (clean (s .fits .limit)) in
+    put-whole (fileOf (posed s)) (file-length (posed s) ∙ sym (s .pre .1))
+    (entries-put (bounds s) (terms s α) (omega arith) (b .put-bounds .ensures) (put-by same (d .put-terms .ensures)))))
