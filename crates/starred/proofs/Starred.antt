@@ -1,4 +1,4 @@
--- The starred cases of docs/RULES.md, W1 to W12 and W24 to W33: what the definitions give, beside what is expected. One list with one proof.
+-- The starred cases of docs/RULES.md, W1 to W12, W24 to W33 and W39 to W44: what the definitions give, beside what is expected. One list with one proof.
 use mathlib.Core.Path.{_≡_, refl}
 use mathlib.Core.Bool.{true}
 use mathlib.Core.List.{List, [], _∷_, map}
@@ -9,25 +9,28 @@ use Rattle.integers.specs.Sum.{sum, only, except}
 use Rattle.integers.specs.Division.{floorDiv, ceilDiv}
 use Rattle.integers.specs.Root.{wholeRoot, rootWithin, rootAbove, leastRoot}
 use Rattle.tables.specs.Matrix.{at, nth, table, tabulate, form, gram, rowWidth}
-use Rattle.tables.specs.Checks.{all, firstRefusal, orderOk, orderOf, entryChecks, within, allWithin, tablesWithin, linearWithin, termsWithin, nowhereCrossed, same, symmetric, boundsChecks, endsChecks}
+use Rattle.tables.specs.Checks.{all, firstRefusal, orderOk, orderOf, entryChecks, within, allWithin, tablesWithin, linearWithin, termsWithin, nowhereCrossed, same, boundsChecks, endsChecks}
+use Rattle.tables.specs.Mending.{mendedBy}
 use Rattle.tables.specs.Entering.{entered}
 use Rattle.tables.specs.Problem.{problemOf, constraintEntered}
 use Rattle.tables.specs.Answers.{after}
 use Rattle.tables.specs.Members.{PositiveDefinite}
-use Rattle.tables.specs.declared.Refusal.the-variants.{Lopsided, Again, Reversed, Falling}
+use Rattle.tables.specs.declared.Refusal.the-variants.{Range, Crossed, Lopsided, Again, Reversed, Falling}
 use Rattle.tables.specs.declared.Refusal.{Refusal}
 use Rattle.tables.specs.declared.Checked.{Checked}
 use Rattle.tables.specs.declared.Checked.the-variants as Checked
 use Rattle.tables.specs.declared.Answer.{Answer as TestAnswer}
-use Rattle.tables.specs.declared.Answer.the-variants.{Yes}
+use Rattle.tables.specs.declared.Answer.the-variants.{Yes, No}
 use Rattle.cholesky.specs.Scale.{takeOff, scaledBy}
 use Rattle.cholesky.specs.Factoring.{factoring, columnsFrom, nextColumn, rows, goesOn, nextEntry, entries}
 use Rattle.residual.specs.Residual.{residual, radius, rowPasses, rowsPass, accepts}
 use Rattle.residual.specs.FactorTest.{factorEntry, factorShape, factorAnswer, factorTested}
 use Rattle.residual.proofs.Meaning.{tested-definite}
+use Rattle.vectors.specs.VectorTest.{vectorShape, vectorAnswer, vectorTested}
 use Rattle.vectors.specs.Least.{leastMember, leastValue, nonzero, shows}
 use Rattle.tried.specs.Tried.{tried, first}
 use Rattle.solved.specs.Solved.{stoppedFactor, solvedEntry, solvedRows, solved}
+use Rattle.verdict.specs.Judge as Judge
 use Rattle.verdict.specs.Judge.{Judgement, definite, notDefinite, undecided, listed, judged, judging}
 use Rattle.steps.specs.Steps.{lowered, trial, bits, step, stepAt}
 use Rattle.centre.specs.Centre.{lowGradient, highGradient, gradient, atCentre}
@@ -56,17 +59,27 @@ bounded n l u j = record { rules = verdict (judging (pos n) true l u); expected 
 abbrev thin : ℕ → List ℤ → Judgement → Line
 thin n t j = bounded n t t j
 
--- the factor test's answer to a factor that is offered for a thin table
+-- the factor test's answer to a factor that is offered, for a thin table and for others
+abbrev offered-for : ℕ → List ℤ → List ℤ → List ℤ → TestAnswer → Line
+offered-for n l u f a = record { rules = test (factorTested (pos n) true l u f); expected = test a }
+
 abbrev offered : ℕ → List ℤ → List ℤ → TestAnswer → Line
-offered n t f a = record { rules = test (factorTested (pos n) true t t f); expected = test a }
+offered n t f a = offered-for n t t f a
+
+-- the vector test's answer to a vector that is offered
+abbrev tried-on : ℕ → List ℤ → List ℤ → List ℤ → TestAnswer → Line
+tried-on n l u x a = record { rules = test (vectorTested (pos n) true l u x); expected = test a }
 
 -- the least value of x over the one member of a thin table
 abbrev least : ℕ → List ℤ → List ℤ → ℤ → Line
 least n t x v = record { rules = value (leastValue n (at n t) (at n t) (nth x)); expected = value v }
 
--- the box: a thin table, linear terms from a to b, α, c; of order 1; and there with equal ends
+-- the box: tables, linear terms from a to b, α, c; of a thin table; of order 1; and there with equal ends
+abbrev boxed-for : ℕ → List ℤ → List ℤ → List ℤ → List ℤ → ℤ → List ℤ → Box → Line
+boxed-for n l u a b α c x = record { rules = box (boxing (pos n) true (problemOf n l u a b α c)); expected = box x }
+
 abbrev boxed-thin : ℕ → List ℤ → List ℤ → List ℤ → ℤ → List ℤ → Box → Line
-boxed-thin n t a b α c x = record { rules = box (boxing (pos n) true (problemOf n t t a b α c)); expected = box x }
+boxed-thin n t a b α c x = boxed-for n t t a b α c x
 
 abbrev boxed-between : ℤ → ℤ → ℤ → ℤ → ℤ → Box → Line
 boxed-between m a b α c x = boxed-thin 1 (m ∷ []) (a ∷ []) (b ∷ []) α (c ∷ []) x
@@ -88,6 +101,13 @@ narrow = pos 1 ∷ pos 3 ∷ pos 3 ∷ pos 10 ∷ []
 
 abbrev exactFactor : List ℤ
 exactFactor = pos 65536 ∷ pos 196608 ∷ pos 0 ∷ pos 65536 ∷ []
+
+-- tables whose halves are rounded apart, and which mended are both [2 1; 1 2]
+abbrev apartLow : List ℤ
+apartLow = pos 2 ∷ pos 0 ∷ pos 1 ∷ pos 2 ∷ []
+
+abbrev apartHigh : List ℤ
+apartHigh = pos 2 ∷ pos 1 ∷ pos 2 ∷ pos 2 ∷ []
 
 abbrev lines : List Line
 lines =
@@ -122,13 +142,23 @@ lines =
     ∷ refusedFile (fieldsOf (1 ∷ 2 ∷ 1 ∷ []) []) Again
     ∷ refusedFile (fieldsOf (1 ∷ 3 ∷ 2 ∷ []) []) Falling
     ∷ refusedFile (fieldsOf (2 ∷ 1 ∷ []) (3 ∷ [])) Falling
+    -- halves rounded apart: judge, factor test and box on the mended tables, W39, W43 and W44
+    ∷ bounded 2 apartLow apartHigh (definite (pos 89738 ∷ pos 47861 ∷ pos 0 ∷ pos 75910 ∷ []))
+    ∷ offered-for 2 apartLow apartHigh (pos 89738 ∷ pos 47861 ∷ pos 0 ∷ pos 75910 ∷ []) Yes
+    ∷ tried-on 2 (pos 1 ∷ negsuc 0 ∷ pos 1 ∷ pos 1 ∷ []) (pos 1 ∷ pos 1 ∷ pos 2 ∷ pos 1 ∷ []) (pos 1 ∷ pos 1 ∷ []) No
+    ∷ boxed-for 2 (pos 9 ∷ negsuc 8 ∷ pos 0 ∷ pos 9 ∷ []) (pos 9 ∷ pos 0 ∷ pos 9 ∷ pos 9 ∷ []) (pos 0 ∷ pos 0 ∷ []) (pos 0 ∷ pos 0 ∷ []) (pos 9) (pos 0 ∷ pos 0 ∷ [])
+    (sides (negsuc 1 ∷ pos 2 ∷ negsuc 1 ∷ pos 2 ∷ []))
+    -- a pair that leaves no number, 5; but 4 and 3 of the tables as they are handed in come first, W40 to W42
+    ∷ bounded 2 apartLow (pos 2 ∷ pos 0 ∷ pos 2 ∷ pos 2 ∷ []) (Judge.refused Lopsided)
+    ∷ bounded 2 (pos 2 ∷ pos 3 ∷ pos 1 ∷ pos 2 ∷ []) apartHigh (Judge.refused Crossed)
+    ∷ bounded 2 (pos 2 ∷ negsuc 1048576 ∷ pos 1 ∷ pos 2 ∷ []) apartHigh (Judge.refused Range)
     ∷ []
 
 as-printed : map (λ (l : Line). l .rules) lines ≡ map (λ (l : Line). l .expected) lines
-unfolding judging judged listed factorTested factorAnswer factorShape factorEntry accepts rowsPass rowPasses radius residual gram except after entered firstRefusal entryChecks orderOk orderOf boundsChecks endsChecks constraintEntered tablesWithin allWithin nowhereCrossed symmetric same all within factoring columnsFrom nextColumn rows goesOn nextEntry entries takeOff scaledBy at table tabulate form rowWidth leastMember leastValue nonzero shows tried first stoppedFactor solvedEntry solvedRows solved sum only floorDiv wholeRoot rootWithin boxing problemBox linearWithin termsWithin boxed boxOf sidesFrom halfSide smallerHalf secondBound firstHalf bound atCentre gradient highGradient lowGradient step stepAt bits trial lowered absℤ minℤ maxℤ ceilDiv rootAbove leastRoot reading readWalked readAs walked walk walkFields walkOn seen startOf unseen placed fieldAt tagged kindOf kindIn unsignedAt fromLeBytes
+unfolding judging judged listed vectorTested vectorAnswer vectorShape factorTested factorAnswer factorShape factorEntry accepts rowsPass rowPasses radius residual gram except after entered firstRefusal entryChecks orderOk orderOf boundsChecks endsChecks constraintEntered tablesWithin allWithin nowhereCrossed mendedBy same all within factoring columnsFrom nextColumn rows goesOn nextEntry entries takeOff scaledBy at table tabulate form rowWidth leastMember leastValue nonzero shows tried first stoppedFactor solvedEntry solvedRows solved sum only floorDiv wholeRoot rootWithin boxing problemBox linearWithin termsWithin boxed boxOf sidesFrom halfSide smallerHalf secondBound firstHalf bound atCentre gradient highGradient lowGradient step stepAt bits trial lowered absℤ minℤ maxℤ ceilDiv rootAbove leastRoot reading readWalked readAs walked walk walkFields walkOn seen startOf unseen placed fieldAt tagged kindOf kindIn unsignedAt fromLeBytes
 as-printed = refl
 
 -- so every member of [1 3; 3 10], on which the judge is undecided, is positive definite
 undecided-definite : PositiveDefinite 2 (at 2 narrow) (at 2 narrow)
-unfolding factorTested factorAnswer factorShape factorEntry accepts rowsPass rowPasses radius residual gram except after entered firstRefusal entryChecks orderOk orderOf boundsChecks tablesWithin allWithin nowhereCrossed symmetric same all within at sum absℤ maxℤ
+unfolding factorTested factorAnswer factorShape factorEntry accepts rowsPass rowPasses radius residual gram except after entered firstRefusal entryChecks orderOk orderOf boundsChecks tablesWithin allWithin nowhereCrossed mendedBy same all within at table tabulate sum absℤ minℤ maxℤ
 undecided-definite = tested-definite narrow narrow exactFactor (pos 2) true refl
