@@ -1,5 +1,5 @@
-//! The worked cases W1 to W38, and cases for the mistakes that docs/RULES.md
-//! remarks on. Expected answers are literals.
+//! The worked cases W1 to W46, and cases for the mistakes that docs/RULES.md remarks
+//! on. Expected answers are literals.
 
 use std::fmt;
 
@@ -8,7 +8,9 @@ use crate::factoring::{factor, Factoring};
 use crate::problem::{Bounds, Problem};
 use crate::program::{box_lines, output, verdict_lines};
 use crate::refusal::Refusal;
+use crate::summary::read_problem;
 use crate::vectors::least_value;
+use crate::writer::file_of;
 
 /// A case: what is asked, the expected answer and the answer got.
 #[derive(Clone, Debug)]
@@ -44,8 +46,8 @@ impl fmt::Display for Case {
     }
 }
 
-/// Every case: W1 to W20, W21 (case P), W24 to W38, then those for the mistakes,
-/// W22 and W23 among them.
+/// Every case: W1 to W20, W21 (case P), W24 to W46, then those for the mistakes, W22
+/// and W23 among them.
 pub fn listed_cases() -> Vec<Case> {
     [
         judged_matrices(),
@@ -55,6 +57,8 @@ pub fn listed_cases() -> Vec<Case> {
         two_ends(),
         falling_tags(),
         written_files(),
+        lopsided_tables(),
+        lopsided_files(),
         wrong_turns(),
     ]
     .concat()
@@ -187,6 +191,62 @@ fn written_files() -> Vec<Case> {
     ]
 }
 
+/// Upper and lower halves that differ: mended, or refused by 3, 4 or 5.
+fn lopsided_tables() -> Vec<Case> {
+    let definite = "definite; row 89738 47861; row 0 75910";
+    let (low, high) = ("[9 -9; 0 9]", "[9 0; 9 9]");
+    let zeros: (&[i64], &[i64]) = (&[0, 0], &[0, 0]);
+    vec![
+        wide("[2 0; 1 2]", "[2 1; 2 2]", definite),
+        wide("[2 0; 1 2]", "[2 0; 2 2]", "refused 5"),
+        wide("[2 3; 1 2]", "[2 1; 2 2]", "refused 4"),
+        wide("[2 -1048577; 1 2]", "[2 1; 2 2]", "refused 3"),
+        shown("[1 -1; 1 1]", "[1 1; 2 1]", &[1, 1], "no"),
+        Case::new(
+            &format!("box, L {low}, U {high}, a = 0, α = 9, c = 0"),
+            "side -2 2; side -2 2",
+            enclosed_between(low, high, zeros, 9, &[0, 0]),
+        ),
+        wide("[1 -9; 2 1]", "[1 2; 5 1]", "not; vector 1 -1"),
+        thin("[1 2; 3 4]", "refused 5"),
+        wide("[2 0; 3 2]", "[2 1; 2 2]", "refused 4"),
+    ]
+}
+
+/// A file, and a problem to be written, whose tables have halves that differ.
+fn lopsided_files() -> Vec<Case> {
+    let file = |low: &str, high: &str| {
+        let zeros = "00".repeat(16);
+        bytes(&format!(
+            "01 0100 02, 02 1000 {low}, 03 1000 {high}, 04 1000 {zeros}, \
+            05 0800 0100000000000000, 06 1000 {zeros}, 07 1000 {zeros}"
+        ))
+    };
+    let mended = file(
+        "02000000 01000000 01000000 02000000",
+        "04000000 02000000 02000000 04000000",
+    );
+    let apart = file(
+        "02000000 00000000 01000000 02000000",
+        "04000000 03000000 02000000 04000000",
+    );
+    let told = |got: &[u8]| match got == mended {
+        true => "the file of the mended problem".to_string(),
+        false => "another file".to_string(),
+    };
+    let (low, high) = (numbers("[2 0; 1 2]"), numbers("[4 3; 2 4]"));
+    let written = Problem::read(2, &low, &high, &[0, 0], &[0, 0], 1, &[0, 0]);
+    let expected = "the file of the mended problem";
+    let case = |subject: &str, got: Result<Problem, Refusal>| {
+        let got = answer(got.map(|problem| told(&file_of(&problem))));
+        Case::new(subject, expected, got)
+    };
+    vec![
+        case("written, halves apart", written),
+        case("read, halves apart", read_problem(&apart)),
+    ]
+}
+
 fn wrong_turns() -> Vec<Case> {
     vec![
         factor_entry("[2 -1; -1 2]", (0, 1), "-47862"),
@@ -208,6 +268,14 @@ fn thin(matrix: &str, expected: &str) -> Case {
 fn wide(low: &str, high: &str, expected: &str) -> Case {
     let subject = format!("L {low}, U {high}");
     Case::new(&subject, expected, judged(low, high))
+}
+
+/// Whether a vector shows that not every matrix between the bounds is definite.
+fn shown(low: &str, high: &str, x: &[i128], expected: &str) -> Case {
+    let subject = format!("vector {x:?} for L {low}, U {high}");
+    let told = |value: i128| if value <= 0 { "yes" } else { "no" };
+    let got = bounds(low, high).map(|bounds| told(least_value(&bounds, x)).to_string());
+    Case::new(&subject, expected, answer(got))
 }
 
 fn judged(low: &str, high: &str) -> String {
@@ -262,8 +330,19 @@ fn ends((least, most): (i64, i64), limit: i64, centre: i64, expected: &str) -> C
 
 /// The lines of a thin box, or its refusal by 3, 4, 5 or 16.
 fn enclosed(matrix: &str, linear: (&[i64], &[i64]), limit: i64, centre: &[i64]) -> String {
-    let m = numbers(matrix);
-    let problem = Problem::read(centre.len(), &m, &m, linear.0, linear.1, limit, centre);
+    enclosed_between(matrix, matrix, linear, limit, centre)
+}
+
+/// The same of two tables.
+fn enclosed_between(
+    low: &str,
+    high: &str,
+    linear: (&[i64], &[i64]),
+    limit: i64,
+    centre: &[i64],
+) -> String {
+    let (low, high) = (numbers(low), numbers(high));
+    let problem = Problem::read(centre.len(), &low, &high, linear.0, linear.1, limit, centre);
     answer(problem.map(|p| box_lines(&p)))
 }
 

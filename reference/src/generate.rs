@@ -3,6 +3,7 @@
 
 mod calls;
 mod files;
+mod lopsided;
 pub mod numbers;
 mod points;
 mod problems;
@@ -83,11 +84,12 @@ impl Generator {
     }
 
     /// A problem of any kind and order, thin or wide, that checks 1 to 5 and 16
-    /// let through.
+    /// let through. Now and then its halves are rounded apart.
     pub fn any_problem(&mut self) -> RawProblem {
         let kind = self.random.pick(&KINDS);
         let order = self.random.between(1, 8) as usize;
         let wide = self.random.one_in(2);
-        self.problem(kind, order, wide)
+        let problem = self.problem(kind, order, wide);
+        self.perhaps_apart(problem)
     }
 }

@@ -1,4 +1,5 @@
-//! A problem, checks 1 to 5 and 16: R2, R4.1 to R4.5, R4.16 and R5.
+//! A problem, checks 1 to 5 and 16, and the mended tables: R2, R4.1 to R4.5, R4.16
+//! and R5. What is read here is mended, so that no other module mends.
 
 use crate::refusal::{require, Refusal};
 
@@ -22,14 +23,14 @@ pub const GRADIENT_RANGE: i128 = 1 << 20;
 /// A square table, row by row.
 pub type Table = Vec<Vec<i128>>;
 
-/// The interval bounds L (low) and U (high) of a symmetric matrix.
+/// The interval bounds L (low) and U (high) of a symmetric matrix, mended (R2.10).
 #[derive(Clone, Debug, PartialEq, Eq)]
 pub struct Bounds {
     /// n
     pub order: usize,
-    /// L
+    /// L, mended
     pub low: Table,
-    /// U
+    /// U, mended
     pub high: Table,
 }
 
@@ -50,20 +51,20 @@ pub struct Problem {
 }
 
 impl Bounds {
-    /// Checks 3, 4 and 5 of an act that is handed L and U alone. The slices
-    /// have passed check 2.
+    /// Checks 3, 4 and 5 of an act that is handed L and U alone, then the mended
+    /// tables. The slices have passed check 2.
     pub fn read(order: usize, low: &[i64], high: &[i64]) -> Result<Bounds, Refusal> {
         check_ranges(&[(low, ENTRY_RANGE), (high, ENTRY_RANGE)])?;
         Bounds::after_range_check(order, low, high)
     }
 
-    /// Checks 4 and 5, in this order (R5.1).
+    /// Checks 4 and 5, in this order (R5.1): 4 of the tables as handed in, 5 of the
+    /// mended ones.
     fn after_range_check(order: usize, low: &[i64], high: &[i64]) -> Result<Bounds, Refusal> {
-        let low = square(order, low);
-        let high = square(order, high);
-        let crossed = pairs(order).any(|(i, j)| low[i][j] > high[i][j]);
-        require(!crossed, Refusal::Crossed)?;
-        require(symmetric(&low) && symmetric(&high), Refusal::Lopsided)?;
+        let (low, high) = (square(order, low), square(order, high));
+        require(!crossed(&low, &high), Refusal::Crossed)?;
+        let (low, high) = mended(&low, &high);
+        require(!crossed(&low, &high), Refusal::Lopsided)?;
         Ok(Bounds { order, low, high })
     }
 
@@ -76,8 +77,8 @@ impl Bounds {
 }
 
 impl Problem {
-    /// Checks 3, 4, 5 and 16 of an act or file that gives a whole problem. The
-    /// slices have passed check 2 or 14.
+    /// Checks 3, 4, 5 and 16 of an act or file that gives a whole problem, then the
+    /// problem, its tables mended. The slices have passed check 2 or 14.
     pub fn read(
         order: usize,
         low: &[i64],
@@ -161,8 +162,20 @@ pub fn square(order: usize, numbers: &[i64]) -> Table {
         .collect()
 }
 
-fn symmetric(table: &Table) -> bool {
-    pairs(table.len()).all(|(i, j)| table[i][j] == table[j][i])
+/// R2.10: the mended tables. L gets the greater of L(i,j) and L(j,i), and U the
+/// smaller of U(i,j) and U(j,i), in both places.
+pub fn mended(low: &Table, high: &Table) -> (Table, Table) {
+    let mend = |table: &Table, choose: fn(i128, i128) -> i128| -> Table {
+        let entry = |i: usize, j: usize| choose(table[i][j], table[j][i]);
+        let row = |i: usize| (0..table.len()).map(|j| entry(i, j)).collect();
+        (0..table.len()).map(row).collect()
+    };
+    (mend(low, i128::max), mend(high, i128::min))
+}
+
+/// R4.4 of tables as handed in, R4.5 of mended ones: L is above U somewhere.
+fn crossed(low: &Table, high: &Table) -> bool {
+    pairs(low.len()).any(|(i, j)| low[i][j] > high[i][j])
 }
 
 /// Writes numbers over a lent buffer of the same length.

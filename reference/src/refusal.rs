@@ -11,7 +11,7 @@ pub enum Refusal {
     Range,
     /// 4: L above U somewhere
     Crossed,
-    /// 5: a table that is not symmetric
+    /// 5: a pair of places that leaves no number: mended L above mended U (R2.10)
     Lopsided,
     /// 6: an offered factor that is not of a factor's form (R2.8)
     Factor,

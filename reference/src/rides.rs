@@ -103,8 +103,8 @@ fn check_room(sums: &Problem) -> Result<(), Refusal> {
     require(room, Refusal::Full)
 }
 
-/// Checks 3, 4, 5 and 16 of sums, which have a running limit for a limit and no
-/// centre: one of zeros stands in for it, and passes every check.
+/// Checks 3, 4, 5 and 16 of sums, then the sums, mended. They have a running limit
+/// for a limit and no centre: one of zeros stands in for it, and passes every check.
 fn read(
     order: usize,
     low: &[i64],
@@ -118,8 +118,8 @@ fn read(
     Problem::read(order, low, high, least, most, running_limit, &centre)
 }
 
-/// The sums with a sample in them, whether or not there is room: checks 17, 1, 2,
-/// 3, 4, 5 and 16 (R22.6). `running_limit` is lent as one number.
+/// The sums, mended, with a sample in them, whether or not there is room: checks 17,
+/// 1, 2, 3, 4, 5 and 16 (R22.6). `running_limit` is lent as one number.
 pub fn with_sample(
     sample: &Sample,
     n: i64,
@@ -144,8 +144,8 @@ pub fn with_sample(
     Ok(sums)
 }
 
-/// Gathers a sample: the same checks, then 18. Only a sample that is taken changes
-/// the sums.
+/// Gathers a sample: the same checks, then 18. A sample that is taken leaves the mended
+/// sums with it in them; a refusal leaves the sums as they were.
 pub fn gather(
     sample: &Sample,
     n: i64,

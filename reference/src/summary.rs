@@ -70,7 +70,7 @@ fn split_field(bytes: &[u8]) -> Result<(Field<'_>, &[u8]), Refusal> {
     Ok((field, after))
 }
 
-/// The problem of a file, with the checks in the order of R5.11.
+/// The problem of a file, its tables mended, with the checks in the order of R5.11.
 pub fn read_problem(file: &[u8]) -> Result<Problem, Refusal> {
     require(file.len() <= MAX_FILE, Refusal::Long)?;
     let found = fields(file)?;

@@ -28,8 +28,8 @@ fn narrow(numbers: &[i128]) -> Vec<i64> {
     numbers.iter().map(number).collect()
 }
 
-/// Writes the file of a problem: checks 1, 2, 3, 4, 5 and 16 (R24.4). A refusal
-/// leaves the whole file as it was.
+/// Writes the file of a problem, its tables mended: checks 1, 2, 3, 4, 5 and 16
+/// (R24.4). A refusal leaves the whole file as it was.
 #[allow(clippy::too_many_arguments)]
 pub fn write_summary(
     n: i64,

@@ -149,7 +149,8 @@ impl Generator {
     pub fn box_call(&mut self) -> BoxCall {
         let mut problem = self.any_problem();
         if problem.order >= 3 && self.random.one_in(STEPLESS_SHARE) {
-            problem = self.stepless(problem.order);
+            let stepless = self.stepless(problem.order);
+            problem = self.perhaps_apart(stepless);
         }
         self.damage_entries(&mut problem);
         self.damage_terms(&mut problem);
@@ -244,31 +245,33 @@ impl Generator {
         }
     }
 
-    /// Now and then an entry that checks 3, 4 or 5 refuse, or a pair of them.
+    /// Now and then an entry that check 3 or 4 refuses, in both halves or in one
+    /// alone, or a pair of places that check 5 refuses.
     pub(super) fn damage_entries(&mut self, problem: &mut RawProblem) {
         let order = problem.order;
         let i = self.random.index(order);
         let j = self.random.index(order);
-        let (place, mirrored) = (i * order + j, j * order + i);
+        let mut places = vec![i * order + j, j * order + i];
+        if self.random.one_in(3) {
+            places.pop();
+        }
         if self.random.one_in(FAULT_SHARE) {
             let entry = self.beyond(ENTRY_RANGE);
             let mut table = &mut problem.low;
             if self.random.one_in(2) {
                 table = &mut problem.high;
             }
-            table[place] = entry;
-            table[mirrored] = entry;
+            places.iter().for_each(|place| table[*place] = entry);
         }
         if self.random.one_in(FAULT_SHARE) {
-            let crossed = problem.high[place].saturating_add(1);
-            problem.low[place] = crossed;
-            problem.low[mirrored] = crossed;
+            for place in &places {
+                problem.low[*place] = problem.high[*place].saturating_add(1);
+            }
         }
-        if self.random.one_in(FAULT_SHARE) {
-            problem.low[place] = problem.low[place].saturating_sub(1);
-        }
-        if self.random.one_in(FAULT_SHARE) {
-            problem.high[place] = problem.high[place].saturating_add(1);
+        if self.random.one_in(FAULT_SHARE / 2) {
+            if let Some(pair) = self.mirror_images(order) {
+                self.leave_no_number(problem, pair);
+            }
         }
     }
 

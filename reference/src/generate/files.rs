@@ -92,6 +92,11 @@ impl Generator {
             self.damage_entries(&mut problem);
             self.damage_terms(&mut problem);
         }
+        if choice == 6 && self.random.one_in(3) {
+            if let Some(pair) = self.mirror_images(problem.order) {
+                self.leave_no_number(&mut problem, pair);
+            }
+        }
         let mut fields = file_fields(&problem);
         let whole = file_of_fields(&fields);
         if (1..=4).contains(&choice) {

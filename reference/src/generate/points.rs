@@ -33,10 +33,12 @@ pub struct Point {
 
 impl Generator {
     /// A point near the centre of a problem, with any member and any linear
-    /// terms between the ends.
+    /// terms between the ends. A member is symmetric, and so between both halves of
+    /// both tables.
     pub fn point_near(&mut self, problem: &RawProblem) -> Point {
         let order = problem.order;
-        let mut member = self.between(&problem.low, &problem.high);
+        let mended = problem.mended();
+        let mut member = self.between(&mended.low, &mended.high);
         for i in 0..order {
             for j in 0..i {
                 member.numbers[i * order + j] = member.numbers[j * order + i];

@@ -18,7 +18,7 @@ const STEPLESS: [[i64; 3]; 3] = [
 ];
 
 impl Generator {
-    /// A problem of the kind and order given.
+    /// A problem of the kind and order given. Its tables are symmetric.
     pub fn problem(&mut self, kind: ProblemKind, order: usize, wide: bool) -> RawProblem {
         let middle = match kind {
             ProblemKind::Small => self.small(order),

@@ -113,8 +113,14 @@ impl Generator {
     }
 
     /// Sums of order 4 that are let through: those of some samples, at or near the
-    /// ends of a range now and then, or those of a problem. The centre plays no part.
+    /// ends of a range now and then, or those of a problem. Now and then their halves
+    /// are rounded apart. The centre plays no part.
     pub fn sums(&mut self) -> RawProblem {
+        let sums = self.symmetric_sums();
+        self.perhaps_apart(sums)
+    }
+
+    fn symmetric_sums(&mut self) -> RawProblem {
         if self.random.one_in(4) {
             let kind = self.random.pick(&super::KINDS);
             let wide = self.random.one_in(2);

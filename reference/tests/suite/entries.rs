@@ -53,7 +53,7 @@ fn gathering_writes_only_what_is_taken() {
         assert!(code == 0 || after == before, "{code}");
         changed += usize::from(after != before);
     }
-    assert!(changed > 1000, "{changed}");
+    assert!(changed > 900, "{changed}");
 }
 
 /// The limit is written where the code is 0 and nowhere else.

@@ -295,19 +295,27 @@ fn with_ends(low: [i64; 4], high: [i64; 4], centre: [i64; 2], ends: ([i64; 2], [
 fn refusals_3_4_5_of_a_file_in_this_order() {
     let good = [4, 1, 1, 4];
     let crossed = [5, 1, 1, 4];
+    // Thin, it has no number that is at least 1 and at most 0.
     let lopsided = [4, 1, 0, 4];
     assert_eq!(order_2(good, good, [0, 0]), 0);
     assert_eq!(order_2(crossed, good, [0, 0]), 4);
-    assert_eq!(order_2(lopsided, good, [0, 0]), 5);
-    assert_eq!(order_2(good, [4, 1, 2, 4], [0, 0]), 5);
+    assert_eq!(order_2(lopsided, lopsided, [0, 0]), 5);
     assert_eq!(order_2(crossed, good, [0, 4097]), 3);
-    assert_eq!(order_2(lopsided, good, [0, 4097]), 3);
-    assert_eq!(order_2([5, 1, 0, 4], good, [0, 0]), 4);
+    assert_eq!(order_2(lopsided, lopsided, [0, 4097]), 3);
+    assert_eq!(order_2([5, 1, 0, 4], lopsided, [0, 0]), 4);
+    // One half lower, or one higher, leaves the number of the other.
+    assert_eq!(order_2(lopsided, good, [0, 0]), 0);
+    assert_eq!(order_2(good, [4, 1, 2, 4], [0, 0]), 0);
+    // A half that is mended away is in its range, and not above that of U.
+    assert_eq!(order_2([4, 1, -(1 << 20) - 1, 4], good, [0, 0]), 3);
+    assert_eq!(order_2([4, 1, -(1 << 20), 4], good, [0, 0]), 0);
+    assert_eq!(order_2([4, 1, 2, 4], good, [0, 0]), 4);
 }
 
 #[test]
 fn refusal_16_of_a_file_comes_last() {
     let good = [4, 1, 1, 4];
+    let lopsided = [4, 1, 0, 4];
     let code = |low, centre, ends| with_ends(low, good, centre, ends);
     assert_eq!(code(good, [0, 0], ([1, 0], [0, 0])), 16);
     assert_eq!(code(good, [0, 0], ([0, 1], [5, 0])), 16);
@@ -315,7 +323,9 @@ fn refusal_16_of_a_file_comes_last() {
     // 3, 4 and 5 come before it; and a flat table is none of a file's checks.
     assert_eq!(code(good, [0, 4097], ([1, 0], [0, 0])), 3);
     assert_eq!(code([5, 1, 1, 4], [0, 0], ([1, 0], [0, 0])), 4);
-    assert_eq!(code([4, 1, 0, 4], [0, 0], ([1, 0], [0, 0])), 5);
+    let parted = with_ends(lopsided, lopsided, [0, 0], ([1, 0], [0, 0]));
+    assert_eq!(parted, 5);
+    assert_eq!(code(lopsided, [0, 0], ([1, 0], [0, 0])), 16);
     assert_eq!(code([0, 0, 0, 0], [0, 0], ([1, 0], [0, 0])), 16);
     // Out of range and reversed: 3.
     assert_eq!(code(good, [0, 0], ([(1 << 36) + 1, 0], [0, 0])), 3);

@@ -7,6 +7,8 @@ use hankboulder_reference::generate::{Generator, RawProblem, EDGES, KINDS};
 use hankboulder_reference::judge::{verdict, List, Verdict};
 use hankboulder_reference::problem::Bounds;
 use hankboulder_reference::program::output;
+use hankboulder_reference::summary::read_problem;
+use hankboulder_reference::writer::file_of;
 
 use crate::support::{
     enclose_problem, judge, numbers, run_box, run_gather, run_read, run_sums, run_write,
@@ -118,6 +120,84 @@ fn calls_of_reading_a_summary_meet_every_answer() {
     let counts = count(8000, || run_read(&mut generator.read_call()));
     let answers = [0, 1, 2, 3, 4, 5, 10, 11, 12, 13, 14, 15, 16, 19];
     assert_met(&counts, &answers);
+}
+
+/// Whether a table of a call is not symmetric. One that is not square is not counted.
+fn is_lopsided(low: &[u8], high: &[u8]) -> bool {
+    [low, high].iter().any(|table| {
+        let list = numbers(&table[..table.len() / 8 * 8]);
+        let order = list.len().isqrt();
+        let mirrored = |place: usize| place % order * order + place / order;
+        order * order == list.len() && (0..list.len()).any(|k| list[k] != list[mirrored(k)])
+    })
+}
+
+/// The answers of a call that is lopsided, and how often one is in 4000 calls.
+fn count_lopsided(mut call: impl FnMut() -> (bool, i64)) -> Counts {
+    let mut counts = Counts::new();
+    for (_, answer) in (0..4000).map(|_| call()).filter(|(lopsided, _)| *lopsided) {
+        *counts.entry(answer).or_default() += 1;
+    }
+    let all: usize = counts.values().sum();
+    assert!((1000..2400).contains(&all), "{all}: {counts:?}");
+    counts
+}
+
+#[test]
+fn lopsided_calls_on_a_problem_meet_every_answer() {
+    let mut own = Generator::new(66);
+    let counts = count_lopsided(|| {
+        let call = own.factor_call();
+        let answer = entries::test_factor(call.n, &call.low, &call.high, &call.factor);
+        (is_lopsided(&call.low, &call.high), answer)
+    });
+    assert_met(&counts, &[-1, 0, 1, 2, 3, 4, 5, 6]);
+    let counts = count_lopsided(|| {
+        let call = own.vector_call();
+        let answer = entries::test_vector(call.n, &call.low, &call.high, &call.vector);
+        (is_lopsided(&call.low, &call.high), answer)
+    });
+    assert_met(&counts, &[-1, 0, 1, 2, 3, 4, 5, 7]);
+    let counts = count_lopsided(|| {
+        let mut call = own.judge_call();
+        let (factor, vector) = (&mut call.factor, &mut call.vector);
+        let answer = entries::judge(call.n, &call.low, &call.high, factor, vector);
+        (is_lopsided(&call.low, &call.high), answer)
+    });
+    assert_met(&counts, &[-2, -1, 0, 1, 2, 3, 4, 5]);
+    let counts = count_lopsided(|| {
+        let mut call = own.box_call();
+        (is_lopsided(&call.low, &call.high), run_box(&mut call))
+    });
+    assert_met(&counts, &[-1, 0, 1, 2, 3, 4, 5, 8, 9, 16]);
+}
+
+#[test]
+fn lopsided_sums_and_summaries_meet_every_answer() {
+    let mut own = Generator::new(67);
+    let counts = count_lopsided(|| {
+        let mut call = own.gather_call();
+        let lopsided = is_lopsided(&call.low, &call.high);
+        (lopsided, run_gather(&mut call))
+    });
+    assert_met(&counts, &[0, 1, 2, 3, 4, 5, 16, 17, 18]);
+    let counts = count_lopsided(|| {
+        let mut call = own.sums_call();
+        (is_lopsided(&call.low, &call.high), run_sums(&mut call))
+    });
+    assert_met(&counts, &[0, 1, 2, 3, 4, 5, 16]);
+    let counts = count_lopsided(|| {
+        let mut call = own.write_call();
+        (is_lopsided(&call.low, &call.high), run_write(&mut call))
+    });
+    assert_met(&counts, &[0, 1, 2, 3, 4, 5, 16]);
+    // Of the files that are read, more than one in five is lopsided: not the same again.
+    let counts = count(4000, || {
+        let file = own.summary_file();
+        let read = read_problem(&file).map(|problem| file_of(&problem) == file);
+        read.map_or(-1, i64::from)
+    });
+    assert!(4 * counts[&0] > counts[&1], "{counts:?}");
 }
 
 /// Floats of every exponent, on both sides of 0, and all that are edges.

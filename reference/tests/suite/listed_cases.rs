@@ -15,7 +15,7 @@ fn every_listed_case_passes() {
         .map(|case| case.to_string())
         .collect();
     assert_eq!(failed, Vec::<String>::new());
-    assert_eq!(cases.len(), 45);
+    assert_eq!(cases.len(), 56);
 }
 
 #[test]

@@ -5,6 +5,7 @@ mod entries;
 mod files;
 mod generator;
 mod listed_cases;
+mod mended;
 mod program_text;
 mod properties;
 mod readings;

@@ -95,7 +95,11 @@ fn put_fault(call: &mut Call, number: i64) {
         }
         3 => set(&mut call.low, 0, -(1 << 20) - 1),
         4 => set(&mut call.low, 3, 7),
-        5 => set(&mut call.high, 1, 3),
+        // Both bounds of one place above U of the other
+        5 => {
+            set(&mut call.low, 1, 3);
+            set(&mut call.high, 1, 3);
+        }
         6 => set(&mut call.factor, 2, 1),
         7 => call.vector[..16].fill(0),
         // An entry 1 on the diagonal leaves nothing to take off.
@@ -340,16 +344,37 @@ fn refusal_4_at_every_entry_and_equal_entries_pass() {
     }
 }
 
+/// Each half is 1 to 2.
 #[test]
-fn refusal_5_of_each_table() {
+fn refusal_5_where_the_other_half_leaves_no_number() {
     for (act, _) in ACTS {
+        for (place, entry) in [1, 2]
+            .into_iter()
+            .flat_map(|place| [(place, 3), (place, 0)])
+        {
+            let mut call = good_call();
+            set(&mut call.low, place, entry);
+            set(&mut call.high, place, entry);
+            assert_eq!(run(act, &call), 5);
+            // With one number in common it is let through.
+            set(&mut call.low, place, entry.min(2));
+            set(&mut call.high, place, entry.max(1));
+            assert!(run(act, &call) <= 0);
+        }
+    }
+}
+
+#[test]
+fn a_half_that_is_mended_away_changes_nothing() {
+    for (act, _) in ACTS {
+        let good = run(act, &good_call());
         for place in [1, 2] {
             let mut call = good_call();
-            set(&mut call.low, place, 0);
-            assert_eq!(run(act, &call), 5);
-            call = good_call();
-            set(&mut call.high, place, 3);
-            assert_eq!(run(act, &call), 5);
+            for (low, high) in [(0, 2), (1, 3), (0, 3), (-(1 << 20), 1 << 20)] {
+                set(&mut call.low, place, low);
+                set(&mut call.high, place, high);
+                assert_eq!(run(act, &call), good);
+            }
         }
     }
 }

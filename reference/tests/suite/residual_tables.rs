@@ -70,12 +70,31 @@ fn the_example_prints_the_widest_calls() {
 #[test]
 fn refusals_come_in_their_order() {
     let lopsided = [2, 1, 0, 2];
-    let refused = |n, low: &[i64], factor: &[i64], lent| {
-        residual_tables(n, low, &HIGH, factor, lent).unwrap_err()
+    let refused = |n, (low, high): (&[i64], &[i64]), factor: &[i64], lent| {
+        residual_tables(n, low, high, factor, lent).unwrap_err()
     };
-    assert_eq!(refused(9, &lopsided, &TURNED, [3, 4]), Refusal::Order);
-    assert_eq!(refused(2, &lopsided, &TURNED, [3, 4]), Refusal::Length);
-    assert_eq!(refused(2, &lopsided, &TURNED, [4, 5]), Refusal::Length);
-    assert_eq!(refused(2, &lopsided, &TURNED, [4, 4]), Refusal::Lopsided);
-    assert_eq!(refused(2, &LOW, &TURNED, [4, 4]), Refusal::Factor);
+    // Nothing is at least 1 and at most 0.
+    let parted = (&lopsided[..], &lopsided[..]);
+    assert_eq!(refused(9, parted, &TURNED, [3, 4]), Refusal::Order);
+    assert_eq!(refused(2, parted, &TURNED, [3, 4]), Refusal::Length);
+    assert_eq!(refused(2, parted, &TURNED, [4, 5]), Refusal::Length);
+    assert_eq!(refused(2, parted, &TURNED, [4, 4]), Refusal::Lopsided);
+    assert_eq!(refused(2, (&LOW, &HIGH), &TURNED, [4, 4]), Refusal::Factor);
+    let mended_away = (&lopsided[..], &HIGH[..]);
+    assert_eq!(refused(2, mended_away, &TURNED, [4, 4]), Refusal::Factor);
+}
+
+#[test]
+fn the_residual_of_lopsided_tables_is_that_of_the_mended_ones() {
+    let residual = |low: &[i64], high: &[i64]| residual_tables(2, low, high, &FACTOR, [4, 4]);
+    let mended = residual(&LOW, &HIGH);
+    assert!(mended.is_ok());
+    for (low, high) in [
+        ([2, 0, 1, 2], HIGH),
+        (LOW, [3, 1, 5, 3]),
+        ([2, 1, -7, 2], [3, 1, 9, 3]),
+        ([2, 1, -7, 2], [3, 9, 1, 3]),
+    ] {
+        assert_eq!(residual(&low, &high), mended);
+    }
 }

@@ -371,7 +371,7 @@ fn put_fault(sums: &mut Sums, drawn: &mut Sample, fault: i64) {
         2 => sums.running_limit.push(0),
         3 => sums.running_limit[0] = -LIMIT - 1,
         4 => sums.low[5] = sums.high[5] + 1,
-        5 => sums.high[1] += 1,
+        5 => (sums.low[1], sums.high[1]) = (1, 1),
         16 => sums.linear_low[3] = 1,
         18 => sums.high[15] = ENTRY,
         _ => unreachable!(),
@@ -467,7 +467,7 @@ fn sums_are_checked_as_a_problem_is() {
         (3, |sums| sums.linear_low[2] = -LINEAR - 1),
         (3, |sums| sums.linear_high[0] = LINEAR + 1),
         (4, |sums| sums.low[4] = 1),
-        (5, |sums| sums.low[1] = -1),
+        (5, |sums| (sums.low[1], sums.high[1]) = (-1, -1)),
         (16, |sums| sums.linear_low[1] = 1),
     ];
     assert_eq!(read(&good, 0), (0, Some(0)));

@@ -6,7 +6,9 @@ use hankboulder_reference::entries;
 use hankboulder_reference::generate::{Generator, RawProblem, ReadCall, WriteCall};
 use hankboulder_reference::problem::Problem;
 use hankboulder_reference::refusal::Refusal;
-use hankboulder_reference::summary::{file_of_fields, problem_fields, read_problem};
+use hankboulder_reference::summary::{
+    decode, fields, file_of_fields, problem_fields, read_problem, TABLE_WIDTH,
+};
 use hankboulder_reference::writer::{file_of, file_size};
 
 use crate::support::{bytes, numbers, read_call, run_read, run_write, write_call, UNWRITTEN};
@@ -129,31 +131,51 @@ fn files_worked_by_hand() {
 }
 
 #[test]
-fn written_and_read_again_it_is_the_same_problem() {
+fn written_and_read_again_it_is_the_mended_problem() {
     let mut generator = Generator::new(71);
+    let mut symmetric = 0;
     for _ in 0..4000 {
         let problem = generator.any_problem();
         let file = written(&write_call(&problem)).expect("a good problem");
         assert_eq!(file.len(), file_size(problem.order));
         let (found, behind) = read(&read_call(&file)).expect("its file");
-        assert_eq!(found, problem);
+        assert_eq!(found, problem.mended());
+        assert_eq!(found == problem, problem.is_symmetric());
+        symmetric += usize::from(found == problem);
         assert!(behind.iter().all(|number| *number == 0));
         // 64 numbers in each table and 8 in each vector, but the problem's.
         let n = problem.order;
         assert_eq!(behind.len(), 2 * (64 - n * n) + 3 * (8 - n));
     }
+    assert!((2000..3500).contains(&symmetric), "{symmetric}");
 }
 
+/// The numbers of L and U as they stand in a file that is accepted.
+fn tables_in(file: &[u8]) -> [Vec<i64>; 2] {
+    let found = fields(file).expect("an accepted file");
+    [1, 2].map(|place| decode(found[place].content, TABLE_WIDTH))
+}
+
+/// Byte for byte where its tables are symmetric; any other comes back as another file
+/// of the same length, which comes back as itself.
 #[test]
-fn read_and_written_again_it_is_the_same_file() {
+fn read_and_written_again_it_is_the_file_of_the_mended_problem() {
     let mut generator = Generator::new(72);
-    let (mut accepted, mut refused) = (0, 0);
+    let (mut same, mut mended, mut refused) = (0, 0, 0);
     for _ in 0..8000 {
         let file = generator.summary_file();
         match read(&read_call(&file)) {
             Ok((problem, _)) => {
-                assert_eq!(written(&write_call(&problem)), Ok(file));
-                accepted += 1;
+                let again = written(&write_call(&problem)).expect("what was read");
+                let in_file = tables_in(&file);
+                assert_eq!(
+                    again == file,
+                    in_file == [problem.low.clone(), problem.high.clone()]
+                );
+                assert_eq!(again.len(), file.len());
+                assert_eq!(read(&read_call(&again)).unwrap().0, problem);
+                same += usize::from(again == file);
+                mended += usize::from(again != file);
             }
             Err(number) => {
                 assert_eq!(read_problem(&file).map_err(Refusal::number), Err(number));
@@ -161,7 +183,8 @@ fn read_and_written_again_it_is_the_same_file() {
             }
         }
     }
-    assert!(accepted > 3000 && refused > 2000, "{accepted} {refused}");
+    assert!(same > 2500 && mended > 1000, "{same} {mended}");
+    assert!(refused > 2000, "{refused}");
 }
 
 /// The file of numbers as they are, where they fit their fields.
@@ -361,7 +384,10 @@ fn put_fault(call: &mut WriteCall, number: i64) {
         2 => call.file.push(0),
         3 => call.limit = i64::MIN,
         4 => set(&mut call.low, 3, 1000),
-        5 => set(&mut call.high, 2, 500),
+        5 => {
+            set(&mut call.low, 2, 500);
+            set(&mut call.high, 2, 500);
+        }
         16 => set(&mut call.linear_low, 1, 3000),
         _ => unreachable!("the writer does not ask {number}"),
     }

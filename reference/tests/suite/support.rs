@@ -1,6 +1,8 @@
 //! Calls with plain numbers, and exact checks by routes other than the
 //! library's.
 
+use std::collections::BTreeSet;
+
 use hankboulder_reference::entries;
 use hankboulder_reference::generate::{
     BoxCall, GatherCall, RawProblem, ReadCall, SumsCall, WriteCall,
@@ -184,21 +186,27 @@ pub fn quadratic_form(matrix: &[i64], x: &[i64]) -> i128 {
     sum
 }
 
-/// Every symmetric matrix with each entry at one of its bounds.
+/// Every member (R3.2) with each entry at a bound of its place or of the mirrored one.
+/// A member is symmetric, and between the bounds of both places.
 pub fn corners(n: usize, low: &[i64], high: &[i64]) -> Vec<Vec<i64>> {
-    let mut list = vec![low.to_vec()];
-    for i in 0..n {
-        for j in i..n {
-            if low[i * n + j] == high[i * n + j] {
-                continue;
+    let mut list = vec![vec![0; n * n]];
+    for (i, j) in (0..n).flat_map(|i| (i..n).map(move |j| (i, j))) {
+        let places = [i * n + j, j * n + i];
+        let between = |entry: &i64| {
+            places
+                .iter()
+                .all(|p| low[*p] <= *entry && *entry <= high[*p])
+        };
+        let bounds = places.iter().flat_map(|place| [low[*place], high[*place]]);
+        let entries: BTreeSet<i64> = bounds.filter(between).collect();
+        let with = |entry: &i64| {
+            let mut longer = list.clone();
+            for matrix in &mut longer {
+                places.iter().for_each(|place| matrix[*place] = *entry);
             }
-            let mut raised = list.clone();
-            for matrix in &mut raised {
-                matrix[i * n + j] = high[i * n + j];
-                matrix[j * n + i] = high[i * n + j];
-            }
-            list.extend(raised);
-        }
+            longer
+        };
+        list = entries.iter().flat_map(with).collect();
     }
     list
 }
