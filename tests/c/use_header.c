@@ -68,7 +68,12 @@ static const struct factor_case factor_cases[] = {
     {"an entry above the range", 2, MATRIX, {HB_ENTRY_RANGE + 1, 1, 1, 2}, FACTOR, WHOLE, HB_REFUSED_RANGE},
     {"the least 64-bit number", 2, {2, INT64_MIN, 1, 2}, MATRIX, FACTOR, WHOLE, HB_REFUSED_RANGE},
     {"low above high", 2, {2, 1, 1, 3}, MATRIX, FACTOR, WHOLE, HB_REFUSED_CROSSED},
-    {"low lopsided", 2, {2, 0, 1, 2}, MATRIX, FACTOR, WHOLE, HB_REFUSED_LOPSIDED},
+    {"a half of low that is mended away", 2, {2, 0, 1, 2}, MATRIX, FACTOR, WHOLE, HB_ACCEPTED},
+    {"a half of high that is mended away", 2, MATRIX, {2, 1, 9, 2}, FACTOR, WHOLE, HB_ACCEPTED},
+    {"both, at the ends of their range", 2, {2, -HB_ENTRY_RANGE, 1, 2}, {2, 1, HB_ENTRY_RANGE, 2}, FACTOR, WHOLE, HB_ACCEPTED},
+    {"a half below the range that would be mended away", 2, {2, -HB_ENTRY_RANGE - 1, 1, 2}, MATRIX, FACTOR, WHOLE, HB_REFUSED_RANGE},
+    {"a half that is crossed", 2, {2, 2, 1, 2}, MATRIX, FACTOR, WHOLE, HB_REFUSED_CROSSED},
+    {"halves that leave no number", 2, {2, 0, 1, 2}, {2, 0, 1, 2}, FACTOR, WHOLE, HB_REFUSED_LOPSIDED},
     {"a diagonal entry 0", 2, MATRIX, MATRIX, {89738, 47861, 0, 0}, WHOLE, HB_REFUSED_FACTOR},
     {"an entry below the diagonal", 2, MATRIX, MATRIX, {89738, 47861, 1, 75910}, WHOLE, HB_REFUSED_FACTOR},
     {"an entry above the range of factors", 2, MATRIX, MATRIX, {89738, HB_FACTOR_RANGE + 1, 0, 75910}, WHOLE, HB_REFUSED_FACTOR},
@@ -102,6 +107,7 @@ static const struct vector_case vector_cases[] = {
     {"the zero vector", MATRIX, {0, 0}, WHOLE_VECTOR, HB_REFUSED_VECTOR},
     {"an entry above the range of vectors", MATRIX, {0, HB_VECTOR_RANGE + 1}, WHOLE_VECTOR, HB_REFUSED_VECTOR},
     {"an entry at its end", MATRIX, {0, HB_VECTOR_RANGE}, WHOLE_VECTOR, HB_NO},
+    {"halves of one table that leave no number", {1, 2, 3, 1}, {1, -1}, WHOLE_VECTOR, HB_REFUSED_LOPSIDED},
 };
 
 static void run_vector_case(const struct vector_case *test)
@@ -138,7 +144,10 @@ static const struct judge_case judge_cases[] = {
     {"judge with a vector as long as a table", 2, MATRIX, MATRIX, WHOLE, HB_REFUSED_LENGTH, {0}},
     {"judge an entry above the range", 2, MATRIX, {2, 1, 1, HB_ENTRY_RANGE + 1}, WHOLE_VECTOR, HB_REFUSED_RANGE, {0}},
     {"judge low above high", 2, {2, 2, 2, 2}, MATRIX, WHOLE_VECTOR, HB_REFUSED_CROSSED, {0}},
-    {"judge high lopsided", 2, MATRIX, {2, 1, 2, 2}, WHOLE_VECTOR, HB_REFUSED_LOPSIDED, {0}},
+    {"judge halves that are mended to [2 1; 1 2]", 2, {2, 0, 1, 2}, {2, 1, 2, 2}, WHOLE_VECTOR, HB_DEFINITE, FACTOR},
+    {"judge halves that are mended to [1 2; 2 1]", 2, {1, -9, 2, 1}, {1, 2, 5, 1}, WHOLE_VECTOR, HB_NOT_DEFINITE, {1, -1}},
+    {"judge halves that are mended to [1 3; 3 10]", 2, {1, 3, 2, 10}, {1, 1000, 3, 10}, WHOLE_VECTOR, HB_UNDECIDED, {0}},
+    {"judge halves that leave no number", 2, {2, 0, 2, 2}, {2, 1, 3, 2}, WHOLE_VECTOR, HB_REFUSED_LOPSIDED, {0}},
 };
 
 /* What every output holds before a call */
@@ -173,6 +182,7 @@ static void run_judge_case(const struct judge_case *test)
     memset(vector, KEPT, sizeof vector);
     answer = hb_judge(test->n, low + 1, WHOLE, high + 1, WHOLE, factor + 1, WHOLE, vector + 1, test->vector_len);
     expect(test->what, answer, test->expected);
+    expect("the tables are as they were", holds(low + 1, test->low, ENTRIES) && holds(high + 1, test->high, ENTRIES), 1);
     switch (answer) {
     case HB_DEFINITE:
         expect("the factor is written", holds(factor + 1, test->written, ENTRIES), 1);
@@ -481,13 +491,24 @@ static void run_gather_refused(void)
     expect("gather into reversed sums", gather(&sums, sample), HB_REFUSED_REVERSED);
     expect("read them", read_sums(&sums, 0, &limit), HB_REFUSED_REVERSED);
     hb_store_number(sums.low + HB_NUMBER_BYTES, 0);
-    expect("gather into lopsided sums", gather(&sums, sample), HB_REFUSED_LOPSIDED);
+    expect("gather into the same with a half that is mended away", gather(&sums, sample), HB_REFUSED_REVERSED);
+    expect("read them", read_sums(&sums, 0, &limit), HB_REFUSED_REVERSED);
+    hb_store_number(sums.high + HB_NUMBER_BYTES, 0);
+    expect("gather into sums whose halves leave no number", gather(&sums, sample), HB_REFUSED_LOPSIDED);
     expect("read them", read_sums(&sums, 0, &limit), HB_REFUSED_LOPSIDED);
     hb_store_number(sums.high + HB_NUMBER_BYTES, -1);
     before = sums;
     expect("gather into crossed sums", gather(&sums, sample), HB_REFUSED_CROSSED);
     expect("read them", read_sums(&sums, 0, &limit), HB_REFUSED_CROSSED);
     expect("they are as they were", memcmp(&sums, &before, sizeof sums), 0);
+}
+
+/* Orders and sizes that gathering and reading the sums refuse */
+static void run_gather_sizes(void)
+{
+    const hb_sample sample = {1, 2, 3, 4, 5};
+    struct sums sums;
+    memset(&sums, 0, sizeof sums);
     expect("gather at order 3",
            hb_gather(sample, 3, sums.low, HB_TABLE_BYTES(3), sums.high, HB_TABLE_BYTES(3), sums.linear_low, HB_VECTOR_BYTES(3), sums.linear_high,
                      HB_VECTOR_BYTES(3), sums.running_limit, HB_NUMBER_BYTES),
@@ -496,6 +517,44 @@ static void run_gather_refused(void)
     expect("the same and order 0", hb_gather(sample, 0, NULL, 0, NULL, 0, NULL, 0, NULL, 0, NULL, 0), HB_REFUSED_ORDER);
     expect("read null buffers", hb_read_sums(1, NULL, 0, NULL, 0, NULL, 0, NULL, 0, 0, 0, NULL, 0), HB_REFUSED_LENGTH);
     expect("the same and order 9", hb_read_sums(9, NULL, 0, NULL, 0, NULL, 0, NULL, 0, 0, 0, NULL, 0), HB_REFUSED_ORDER);
+}
+
+/* Puts bounds at the entry (1,2) of sums, the first half, or at (2,1), the second. */
+static void put_half(struct sums *sums, int second, int64_t low, int64_t high)
+{
+    size_t place = (second ? HB_SAMPLE_ORDER : 1) * HB_NUMBER_BYTES;
+    hb_store_number(sums->low + place, low);
+    hb_store_number(sums->high + place, high);
+}
+
+/* Sums are mended before a sample is added. A half that is mended away plays no part, and a refusal leaves both as they were. */
+static void run_gather_lopsided(void)
+{
+    /* 1 for the first two factors, so that their entries gain 1 */
+    const hb_sample one = {0.0625f, 0.0625f, 0, 0, 0};
+    struct sums sums, expected;
+    int64_t limit;
+    memset(&sums, 0, sizeof sums);
+    memset(&expected, 0, sizeof expected);
+    put_half(&sums, 0, -3, 5);
+    put_half(&sums, 1, -2, HB_ENTRY_RANGE);
+    put_half(&expected, 0, -1, 6);
+    put_half(&expected, 1, -1, 6);
+    hb_store_number(expected.low, 1);
+    hb_store_number(expected.high, 1);
+    hb_store_number(expected.low + (HB_SAMPLE_ORDER + 1) * HB_NUMBER_BYTES, 1);
+    hb_store_number(expected.high + (HB_SAMPLE_ORDER + 1) * HB_NUMBER_BYTES, 1);
+    expect("read lopsided sums", read_sums(&sums, 7, &limit), HB_WRITTEN);
+    expect("the limit", limit, 7);
+    expect("gather into lopsided sums", gather(&sums, one), HB_TAKEN);
+    expect("they are mended, with the sample in them", memcmp(&sums, &expected, sizeof sums), 0);
+    put_half(&sums, 0, -7, HB_ENTRY_RANGE);
+    put_half(&sums, 1, -9, HB_ENTRY_RANGE);
+    expected = sums;
+    expect("gather into sums without room in both halves", gather(&sums, one), HB_REFUSED_FULL);
+    expect("they are as they were", memcmp(&sums, &expected, sizeof sums), 0);
+    put_half(&sums, 1, -9, HB_ENTRY_RANGE - 1);
+    expect("gather into sums with room in one", gather(&sums, one), HB_TAKEN);
 }
 
 /* From samples to a box without arithmetic: the draws are those of the coefficients 1, 2, 3 and 4, and these alone are left. */
@@ -707,6 +766,40 @@ static void run_summaries(void)
     expect("read into null buffers", hb_read_summary(file, 62, NULL, 0, NULL, 0, NULL, 0, NULL, 0, NULL, 0, NULL, 0, NULL, 0), HB_REFUSED_LENGTH);
 }
 
+/* Lopsided tables of order 2: what is written is the file of the mended problem, and a file that has them is read as that problem. */
+static void run_lopsided_summary(void)
+{
+    static const int64_t low[ENTRIES] = {5, 1, 0, 6}, high[ENTRIES] = {5, 3, 2, 6}, terms[ORDER] = {0, 0};
+    static const int64_t mended_low[ENTRIES] = {5, 1, 1, 6}, mended_high[ENTRIES] = {5, 2, 2, 6};
+    uint8_t tables[2][WHOLE], zeros[WHOLE_VECTOR], file[HB_SUMMARY_BYTES(ORDER)], mended[HB_SUMMARY_BYTES(ORDER)];
+    struct held held;
+    store(tables[0], low, ENTRIES);
+    store(tables[1], high, ENTRIES);
+    store(zeros, terms, ORDER);
+    memset(mended, KEPT, sizeof mended);
+    expect("write a lopsided problem",
+           hb_write_summary(ORDER, tables[0], WHOLE, tables[1], WHOLE, zeros, WHOLE_VECTOR, zeros, WHOLE_VECTOR, 0, zeros, WHOLE_VECTOR,
+                            mended, sizeof mended),
+           HB_WRITTEN);
+    expect("its tables are as they were", holds(tables[0], low, ENTRIES) && holds(tables[1], high, ENTRIES), 1);
+    /* The file of the numbers as they are: entry (2,1) of L from byte 15 on, and (1,2) of U from byte 30 on */
+    memcpy(file, mended, sizeof file);
+    expect("the entries in the file", file[15] == 1 && file[30] == 2, 1);
+    file[15] = 0;
+    file[30] = 3;
+    expect("read the lopsided file", read_file(file, sizeof file, &held, 0), HB_WRITTEN);
+    expect("what is read is mended", holds(held.low, mended_low, ENTRIES) && holds(held.high, mended_high, ENTRIES), 1);
+    expect("write what was read",
+           hb_write_summary(ORDER, held.low, WHOLE, held.high, WHOLE, zeros, WHOLE_VECTOR, zeros, WHOLE_VECTOR, 0, zeros, WHOLE_VECTOR,
+                            file, sizeof file),
+           HB_WRITTEN);
+    expect("it is the file of the mended problem", memcmp(file, mended, sizeof file), 0);
+    file[15] = 3;
+    file[34] = 3;
+    expect("read a file whose halves leave no number", read_file(file, sizeof file, &held, 0), HB_REFUSED_LOPSIDED);
+    expect("nothing is written", kept((const uint8_t *)&held, sizeof held), 1);
+}
+
 /* The version's numbers and its string are one version. */
 static void run_version(void)
 {
@@ -723,11 +816,14 @@ int main(void)
     run_numbers();
     run_gather();
     run_gather_refused();
+    run_gather_sizes();
+    run_gather_lopsided();
     run_samples_to_box();
     for (k = 0; k < sizeof write_cases / sizeof write_cases[0]; k++)
         run_write_case(&write_cases[k]);
     run_read_summary();
     run_summaries();
+    run_lopsided_summary();
     run_one_table();
     for (k = 0; k < sizeof box_cases / sizeof box_cases[0]; k++)
         run_box_case(&box_cases[k]);

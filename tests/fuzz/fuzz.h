@@ -9,6 +9,8 @@
 size_t fuzz_expected(const uint8_t *file, size_t size, uint8_t *text, size_t room);
 /* Reads a file into the seven buffers of hb_read_summary, which have their sizes, one behind the other; the answer. */
 int64_t fuzz_read(const uint8_t *file, size_t size, uint8_t *problem);
+/* Writes the file of the problem that a file is read as; its length, 0 where the file is refused. */
+size_t fuzz_again(const uint8_t *file, size_t size, uint8_t *again, size_t room);
 /* Puts right what refuses a file; its new length, the old where it has no room. */
 size_t fuzz_repair(uint8_t *file, size_t size, size_t room);
 /* Writes a generated file; its length, 0 where it has no room. */

@@ -2,7 +2,7 @@
  * A fuzz of summary files, for libFuzzer. Each file goes through the second implementation, in this process and with its coverage counted, and
  * through the program that HANKBOULDER_JUDGE names, as a child process. What the program prints has to be the same byte for byte, with nothing on
  * standard error, and its exit status 0. hb_read_summary, in this process too, has to answer as the second implementation does, and to leave the same
- * bytes; and what it reads hb_write_summary has to write as the same file.
+ * bytes; and what it reads hb_write_summary has to write as the file of the mended problem: the same file where its tables are symmetric.
  */
 #define _GNU_SOURCE
 #include <errno.h>
@@ -204,16 +204,29 @@ struct problem {
     uint8_t centre[HB_VECTOR_BYTES(HB_MAX_ORDER)];
 };
 
-/* Whether what was read is written as the same file */
+/* Whether a table that a file of an order has from a place on is symmetric */
+static bool symmetric(const uint8_t *table, size_t n) {
+    for (size_t k = 0; k < n * n; k++) {
+        if (memcmp(table + 4 * k, table + 4 * (k % n * n + k / n), 4) != 0) {
+            return false;
+        }
+    }
+    return true;
+}
+
+/* Whether what was read is written as the file of the mended problem, which is the same file exactly where its tables are symmetric */
 static bool written_again(const struct problem *read, const uint8_t *data, size_t size) {
-    uint8_t file[HB_SUMMARY_BYTES(HB_MAX_ORDER)];
+    uint8_t file[HB_SUMMARY_BYTES(HB_MAX_ORDER)], expected[HB_SUMMARY_BYTES(HB_MAX_ORDER)];
     int64_t n = hb_load_number(read->order);
-    if (size > sizeof file) {
+    if (size > sizeof file || fuzz_again(data, size, expected, sizeof expected) != size) {
         return false;
     }
     int64_t answer = hb_write_summary(n, read->low, HB_TABLE_BYTES(n), read->high, HB_TABLE_BYTES(n), read->linear_low, HB_VECTOR_BYTES(n),
                                       read->linear_high, HB_VECTOR_BYTES(n), hb_load_number(read->limit), read->centre, HB_VECTOR_BYTES(n), file, size);
-    return answer == HB_WRITTEN && memcmp(file, data, size) == 0;
+    /* L is behind the order's field and its own head, and U behind L and its head. */
+    const uint8_t *low = data + 4 + 3, *high = low + 4 * (size_t)(n * n) + 3;
+    bool same = memcmp(file, data, size) == 0;
+    return answer == HB_WRITTEN && memcmp(file, expected, size) == 0 && same == (symmetric(low, (size_t)n) && symmetric(high, (size_t)n));
 }
 
 static void compare_reading(const uint8_t *data, size_t size) {

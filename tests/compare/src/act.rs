@@ -8,6 +8,7 @@ use hankboulder_reference::rides::Sample;
 
 use crate::counts::{Counts, Outcome};
 use crate::guarded::{Guarded, Lent, Surroundings};
+use crate::lopsided::is_lopsided;
 use crate::variation::varied;
 
 /// The arguments of a call.
@@ -78,7 +79,8 @@ const THREADS: u64 = 4;
 const VARIATIONS: usize = 11;
 const VARIATIONS_OF_REFUSED: usize = 1;
 
-/// What most acts can answer at an order: a table of order 1 is symmetric.
+/// What most acts can answer at an order: a table of order 1 is symmetric, and where 4
+/// lets it through it leaves a number.
 pub fn symmetric_at_1(order: i64, answer: i64) -> bool {
     order > 1 || answer != 5
 }
@@ -190,7 +192,7 @@ impl Act {
         while counts.answered() < answered {
             let call = (self.generate)(&mut generator);
             let outcome = self.agree(&call, random.index(8));
-            counts.add(call.n, outcome);
+            counts.add(call.n, outcome, is_lopsided(&call, self.inputs));
             let variations = if outcome.refused() {
                 VARIATIONS_OF_REFUSED
             } else {
@@ -198,7 +200,8 @@ impl Act {
             };
             for _ in 0..variations {
                 let call = varied(&call, self.inputs, &mut random);
-                counts.add(call.n, self.agree(&call, random.index(8)));
+                let outcome = self.agree(&call, random.index(8));
+                counts.add(call.n, outcome, is_lopsided(&call, self.inputs));
             }
         }
         counts

@@ -3,6 +3,7 @@
 use std::collections::BTreeMap;
 use std::fmt;
 use std::iter::Sum;
+use std::ops::AddAssign;
 
 use hankboulder_reference::judge::List;
 
@@ -90,56 +91,85 @@ impl fmt::Display for Outcome {
 /// The orders that check 1 lets through.
 pub const ORDERS: std::ops::RangeInclusive<i64> = 1..=8;
 
+/// How many calls there are, and how many of them have a lopsided table.
+#[derive(Clone, Copy, Debug, Default, PartialEq, Eq)]
+struct Met {
+    calls: usize,
+    lopsided: usize,
+}
+
+impl AddAssign for Met {
+    fn add_assign(&mut self, more: Met) {
+        self.calls += more.calls;
+        self.lopsided += more.lopsided;
+    }
+}
+
 /// Calls by order and outcome. All orders out of range are counted as one.
 #[derive(Clone, Debug, Default, PartialEq, Eq)]
 pub struct Counts {
-    calls: BTreeMap<(Option<i64>, Outcome), usize>,
+    met: BTreeMap<(Option<i64>, Outcome), Met>,
 }
 
 impl Counts {
-    /// Counts a call.
-    pub fn add(&mut self, n: i64, outcome: Outcome) {
+    /// Counts a call, and whether a table of it is lopsided.
+    pub fn add(&mut self, n: i64, outcome: Outcome, lopsided: bool) {
         let order = Some(n).filter(|order| ORDERS.contains(order));
-        *self.calls.entry((order, outcome)).or_default() += 1;
+        *self.met.entry((order, outcome)).or_default() += Met {
+            calls: 1,
+            lopsided: usize::from(lopsided),
+        };
     }
 
     /// Calls that were not refused.
     pub fn answered(&self) -> usize {
-        self.of(|_, outcome| !outcome.refused())
+        self.of(|_, outcome| !outcome.refused()).calls
     }
 
     /// Calls of an order; `None` stands for all orders out of range.
     pub fn of_order(&self, order: Option<i64>) -> usize {
-        self.of(|n, _| n == order)
+        self.of(|n, _| n == order).calls
     }
 
     /// Calls with an answer.
     pub fn of_answer(&self, answer: i64) -> usize {
-        self.of(|_, outcome| outcome.answer == answer)
+        self.of(|_, outcome| outcome.answer == answer).calls
     }
 
     /// Calls of an order with an answer.
     pub fn of_answer_at(&self, order: Option<i64>, answer: i64) -> usize {
-        self.of(|n, outcome| n == order && outcome.answer == answer)
+        self.at(order, answer).calls
+    }
+
+    /// Those of them that have a lopsided table.
+    pub fn of_lopsided_at(&self, order: Option<i64>, answer: i64) -> usize {
+        self.at(order, answer).lopsided
     }
 
     /// Calls of an order with an answer that came about so.
     pub fn of_detail(&self, order: Option<i64>, detail: Detail) -> usize {
         self.of(|n, outcome| n == order && outcome.detail == Some(detail))
+            .calls
     }
 
-    fn of(&self, counted: impl Fn(Option<i64>, &Outcome) -> bool) -> usize {
-        let calls = self.calls.iter();
-        let calls = calls.filter(|((n, outcome), _)| counted(*n, outcome));
-        calls.map(|(_, count)| *count).sum()
+    fn at(&self, order: Option<i64>, answer: i64) -> Met {
+        self.of(|n, outcome| n == order && outcome.answer == answer)
+    }
+
+    fn of(&self, counted: impl Fn(Option<i64>, &Outcome) -> bool) -> Met {
+        let mut total = Met::default();
+        let met = self.met.iter();
+        let met = met.filter(|((n, outcome), _)| counted(*n, outcome));
+        met.for_each(|(_, more)| total += *more);
+        total
     }
 }
 
 impl Sum for Counts {
     fn sum<I: Iterator<Item = Counts>>(parts: I) -> Counts {
         let mut total = Counts::default();
-        for (key, count) in parts.flat_map(|part| part.calls) {
-            *total.calls.entry(key).or_default() += count;
+        for (key, met) in parts.flat_map(|part| part.met) {
+            *total.met.entry(key).or_default() += met;
         }
         total
     }
@@ -147,9 +177,13 @@ impl Sum for Counts {
 
 impl fmt::Display for Counts {
     fn fmt(&self, f: &mut fmt::Formatter) -> fmt::Result {
-        for ((order, outcome), count) in &self.calls {
+        for ((order, outcome), met) in &self.met {
             let order = order.map_or("out of range".to_string(), |n| n.to_string());
-            write!(f, "\n  order {order}, {outcome}: {count} calls")?;
+            let Met { calls, lopsided } = met;
+            write!(
+                f,
+                "\n  order {order}, {outcome}: {calls} calls, {lopsided} lopsided"
+            )?;
         }
         Ok(())
     }

@@ -13,6 +13,7 @@ pub mod enclosure;
 pub mod gather;
 mod guarded;
 pub mod judge;
+mod lopsided;
 mod offered;
 pub mod read_summary;
 pub mod read_sums;
@@ -24,6 +25,7 @@ pub mod write_summary;
 pub use act::{Act, Call, Inputs};
 pub use counts::{Counts, Detail, Kind, Outcome};
 pub use guarded::Lent;
+pub use lopsided::is_lopsided;
 
 /// Numbers as 8 bytes each, low byte first.
 pub fn bytes(numbers: &[i64]) -> Vec<u8> {

@@ -2,10 +2,13 @@
 
 use hankboulder_reference::entries;
 use hankboulder_reference::generate::Generator;
+use hankboulder_reference::summary::read_problem;
+use hankboulder_reference::writer::file_of;
 
 use crate::act::{symmetric_at_1, Act, Call, Inputs};
 use crate::counts::Outcome;
 use crate::guarded::Lent;
+use crate::lopsided::{is_lopsided, mended};
 use crate::write_summary::WRITE_SUMMARY;
 use crate::{bytes, numbers};
 
@@ -74,12 +77,14 @@ pub fn unwritten() -> Vec<Vec<u8>> {
     SIZES.map(|size| vec![0x5A; size]).to_vec()
 }
 
-/// All buffers after reading the file that a call of the writer has written.
+/// All buffers after reading the file that a call of the writer has written: the numbers
+/// that were handed over, the tables mended.
 pub fn written_for(call: &Call) -> Vec<Vec<u8>> {
     let [low, high, linear_low, linear_high, centre, file] = &call.buffers[..] else {
         unreachable!("writing a summary has six buffers");
     };
     let (order, limit) = (bytes(&[call.n]), bytes(&call.numbers));
+    let [low, high] = &mended(low, high);
     let lists = [&order, low, high, linear_low, linear_high, &limit, centre];
     let padded = lists.iter().zip(SIZES).map(|(list, size)| {
         let mut whole = list.to_vec();
@@ -160,12 +165,26 @@ fn library(_: &Call, lent: &[Lent]) -> i64 {
     }
 }
 
-/// What is read is written as the same file, byte for byte.
+/// What is read is written as the file of the mended problem: byte for byte the same
+/// where its tables are symmetric, and otherwise one that is read as the same problem.
 fn confirm(after: &Call, answer: i64) {
-    if answer == WRITTEN {
-        let call = writing_again(after);
-        let mut buffers = call.buffers.clone();
-        buffers[5].clone_from(&after.buffers[0]);
-        WRITE_SUMMARY.expect_after(&call, WRITTEN, &buffers);
+    if answer != WRITTEN {
+        return;
+    }
+    let file = &after.buffers[0];
+    let again = file_of(&read_problem(file).expect("the reference has read it"));
+    let call = writing_again(after);
+    let mut buffers = call.buffers.clone();
+    buffers[5].clone_from(&again);
+    WRITE_SUMMARY.expect_after(&call, WRITTEN, &buffers);
+    assert_eq!(
+        again != *file,
+        is_lopsided(after, Inputs::File),
+        "{after:?}"
+    );
+    if again != *file {
+        let read = of_file(again.clone(), unwritten());
+        let outputs = [&[again], &after.buffers[1..]].concat();
+        READ_SUMMARY.expect_after(&read, WRITTEN, &outputs);
     }
 }

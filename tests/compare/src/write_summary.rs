@@ -114,7 +114,7 @@ fn library(call: &Call, lent: &[Lent]) -> i64 {
     }
 }
 
-/// A file that is written is read as the numbers that were handed over.
+/// A file that is written is read as the numbers that were handed over, mended.
 fn confirm(after: &Call, answer: i64) {
     if answer == WRITTEN {
         let read = of_file(after.buffers[5].clone(), unwritten());

@@ -11,6 +11,8 @@ use std::slice;
 use hankboulder_reference::entries::read_summary;
 use hankboulder_reference::generate::Generator;
 use hankboulder_reference::program::output;
+use hankboulder_reference::summary::read_problem;
+use hankboulder_reference::writer::file_of;
 
 use repair::repaired;
 
@@ -50,6 +52,27 @@ pub unsafe extern "C" fn fuzz_read(file: *const u8, size: usize, problem: *mut u
         buffer
     });
     read_summary(file, order, low, high, least, most, limit, centre)
+}
+
+/// Writes the file of the problem that a file is read as; its length, and 0 where the
+/// file is refused. A file with symmetric tables is this file itself.
+///
+/// # Safety
+///
+/// The file's bytes can be read, and so many bytes be written as a file has.
+#[no_mangle]
+pub unsafe extern "C" fn fuzz_again(
+    file: *const u8,
+    size: usize,
+    again: *mut u8,
+    room: usize,
+) -> usize {
+    // SAFETY: the caller's promise.
+    let (file, again) = unsafe { (read(file, size), slice::from_raw_parts_mut(again, room)) };
+    let Ok(problem) = read_problem(file) else {
+        return 0;
+    };
+    write(&file_of(&problem), again).expect("the file has room")
 }
 
 /// Puts right what refuses a file; its new length, the old where it has no room.

@@ -65,18 +65,21 @@ fn numbers(content: &[u8], width: usize, count: usize, range: i128) -> Vec<i64> 
     decode(&bytes, width).iter().map(within).collect()
 }
 
-/// Both tables symmetric, as above their diagonals, and no entry of low above
-/// that of high.
+/// Both tables with no pair of places that is refused: where one is, the two smaller of its
+/// four numbers are low, and the two greater high. Halves that differ stay so.
 fn ordered(low: &[i64], high: &[i64], order: usize) -> (Vec<i64>, Vec<i64>) {
-    let upper = |place: usize| {
-        let (i, j) = (place / order, place % order);
-        i.min(j) * order + i.max(j)
-    };
-    let mirrored = |table: &[i64]| -> Vec<i64> {
-        let places = (0..table_size(order)).map(upper);
-        places.map(|place| table[place]).collect()
-    };
-    sorted(&mirrored(low), &mirrored(high))
+    let (mut low, mut high) = (low.to_vec(), high.to_vec());
+    for (i, j) in (0..order).flat_map(|i| (i..order).map(move |j| (i, j))) {
+        let (place, mirrored) = (i * order + j, j * order + i);
+        let (lows, highs) = ([low[place], low[mirrored]], [high[place], high[mirrored]]);
+        if lows.iter().max() > highs.iter().min() {
+            let mut all = [lows, highs].concat();
+            all.sort_unstable();
+            (low[place], low[mirrored]) = (all[0], all[1]);
+            (high[place], high[mirrored]) = (all[3], all[2]);
+        }
+    }
+    (low, high)
 }
 
 /// The smaller of both numbers at each place, and the greater.

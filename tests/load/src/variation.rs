@@ -9,7 +9,7 @@ use hankboulder_reference::summary::NUMBER_WIDTH;
 
 use crate::call::{order_in, Act, Call};
 
-/// Low and high, the buffers that must be symmetric.
+/// Low and high, the buffers whose mirrored entries belong together.
 const TABLES: usize = 2;
 
 /// The ends of the linear terms, of the acts that have them.
@@ -136,14 +136,16 @@ fn change_number(call: &mut Call, random: &mut Random) {
         }
         return;
     }
-    let mirrored = mirrored(place, count);
     let other = 1 - choice;
     let also_other = random.one_in(2);
+    let mut halves = vec![place];
     if !random.one_in(6) {
-        write(&mut call.buffers[choice], mirrored, after);
+        halves.push(mirrored(place, count));
     }
-    if also_other {
-        write(&mut call.buffers[other], place, after);
-        write(&mut call.buffers[other], mirrored, after);
+    for place in halves {
+        write(&mut call.buffers[choice], place, after);
+        if also_other {
+            write(&mut call.buffers[other], place, after);
+        }
     }
 }

@@ -55,9 +55,11 @@ pub fn cases() -> Vec<Case> {
         cut_and_tag_refusals(),
         size_refusals(),
         entry_refusals(),
+        lopsided_refusals(),
         long_files(),
         verdicts(),
         boxes(),
+        lopsided(),
         listed(),
     ]
     .concat()
@@ -162,13 +164,16 @@ fn size_refusals() -> Vec<Case> {
     ]
 }
 
-/// 3, 4, 5 and 16
+/// The definite problem of an order with a change.
+fn changed(name: &str, order: usize, change: fn(&mut RawProblem)) -> Case {
+    let mut problem = definite(order);
+    change(&mut problem);
+    Case::of(name, &problem)
+}
+
+/// 3, 4 and 16
 fn entry_refusals() -> Vec<Case> {
-    let changed = |name: &str, change: fn(&mut RawProblem)| {
-        let mut problem = definite(2);
-        change(&mut problem);
-        Case::of(name, &problem)
-    };
+    let changed = |name: &str, change| changed(name, 2, change);
     vec![
         changed("refused-03-low-below", |p| p.low[3] = -(1 << 20) - 1),
         changed("refused-03-high-above", |p| p.high[0] = (1 << 20) + 1),
@@ -187,19 +192,41 @@ fn entry_refusals() -> Vec<Case> {
         changed("refused-04-crossed", |p| {
             p.low[3] = p.high[3] + 1;
         }),
-        changed("refused-04-comes-before-5", |p| p.low[2] = p.high[2] + 1),
-        changed("refused-05-low-lopsided", |p| p.low[1] -= 1),
-        changed("refused-05-high-lopsided", |p| p.high[2] += 1),
-        changed("refused-05-comes-before-16", |p| {
-            p.low[1] -= 1;
-            p.linear_low[0] = p.linear_high[0] + 1;
-        }),
         changed("refused-16-reversed", |p| {
             p.linear_low[1] = p.linear_high[1] + 1;
         }),
         changed("refused-16-comes-before-the-box-is-flat", |p| {
             p.low.fill(0);
             p.high.fill(0);
+            p.linear_low[0] = p.linear_high[0] + 1;
+        }),
+    ]
+}
+
+/// 5, and 3, 4 and 16 of lopsided tables. Low of one half is above high of the other, or
+/// high of one below low of the other; each half by itself is not crossed.
+fn lopsided_refusals() -> Vec<Case> {
+    let changed = |name: &str, change| changed(name, 2, change);
+    vec![
+        changed("refused-03-half-below-that-is-mended-away", |p| {
+            p.low[1] = -(1 << 20) - 1;
+        }),
+        changed("refused-04-comes-before-5", |p| p.low[2] = p.high[2] + 1),
+        changed("refused-05-low-lopsided", |p| {
+            p.low[1] = p.high[2] + 1;
+            p.high[1] = p.low[1];
+        }),
+        changed("refused-05-high-lopsided", |p| {
+            p.high[2] = p.low[1] - 1;
+            p.low[2] = p.high[2] - 5;
+        }),
+        changed("refused-05-comes-before-16", |p| {
+            p.low[1] = p.high[2] + 1;
+            p.high[1] = p.low[1];
+            p.linear_low[0] = p.linear_high[0] + 1;
+        }),
+        changed("refused-16-with-a-half-that-is-mended-away", |p| {
+            p.low[1] -= 1;
             p.linear_low[0] = p.linear_high[0] + 1;
         }),
     ]
@@ -291,6 +318,42 @@ fn boxes() -> Vec<Case> {
         ),
     ]);
     boxes
+}
+
+/// Upper and lower halves that differ, and are mended (R2.10)
+fn lopsided() -> Vec<Case> {
+    let of = |name: &str, low: &str, high: &str| Case::of(name, &bounds(low, high));
+    vec![
+        changed("sides-of-order-2-low-lopsided", 2, |p| p.low[1] -= 1),
+        changed("sides-of-order-2-high-lopsided", 2, |p| p.high[2] += 1),
+        changed("sides-of-order-4-each-pair-lopsided", 4, apart),
+        changed("sides-of-order-8-each-pair-lopsided", 8, apart),
+        changed("sides-of-order-3-half-at-the-ends-of-its-range", 3, |p| {
+            p.low[5] = -(1 << 20);
+            p.high[5] = 1 << 20;
+        }),
+        of(
+            "definite-lopsided-box-refused-8",
+            "[2 0; 1 2]",
+            "[2 1; 2 2]",
+        ),
+        of(
+            "definite-lopsided-one-number-left",
+            "[9 1; -5 9]",
+            "[9 7; 1 9]",
+        ),
+        of("not-lopsided", "[1 -9; 2 1]", "[1 2; 5 1]"),
+        of("undecided-lopsided", "[1 3; 2 10]", "[1 1000; 3 10]"),
+    ]
+}
+
+/// Moves one half of each pair outward: of L below the diagonal, of U above it.
+fn apart(problem: &mut RawProblem) {
+    let order = problem.order;
+    for (i, j) in (0..order).flat_map(|i| (0..i).map(move |j| (i, j))) {
+        problem.low[i * order + j] -= (1 + i) as i64;
+        problem.high[j * order + i] += (1 + 100 * j) as i64;
+    }
 }
 
 /// Case P (W21), its fields in falling order and two of them exchanged, and tags

@@ -30,6 +30,25 @@ const REFUSED: usize = 1500;
 const AT_AN_ORDER: usize = 200;
 const IN_A_WAY: usize = 50;
 
+/// At least so many of them have a lopsided table, and as many have none.
+const LOPSIDED: usize = 50;
+
+/// Whether an answer is given once the tables were looked at.
+fn after_the_tables(answer: i64) -> bool {
+    answer <= 0 || [3, 4, 5, 6, 7, 8, 9, 16, 18].contains(&answer)
+}
+
+/// Fails where an answer at an order came of lopsided tables, or of symmetric ones, too
+/// seldom. 5 comes of lopsided ones alone.
+fn expect_both_shapes(counts: &Counts, order: i64, answer: i64) {
+    let lopsided = counts.of_lopsided_at(Some(order), answer);
+    let symmetric = counts.of_answer_at(Some(order), answer) - lopsided;
+    let place = format!("order {order}: answer {answer}: {lopsided} lopsided, {symmetric} not");
+    assert_eq!(lopsided >= LOPSIDED, order > 1, "{place}");
+    assert_eq!(symmetric >= LOPSIDED, answer != 5, "{place}");
+    assert!(answer != 5 || symmetric == 0, "{place}");
+}
+
 fn agrees_on_generated_calls(act: &Act, seed: u64, answered: Answered) -> Counts {
     let counts = act.agree_on_generated(seed, answered.calls);
     println!("{}: {counts}", act.name);
@@ -45,6 +64,9 @@ fn agrees_on_generated_calls(act: &Act, seed: u64, answered: Answered) -> Counts
             let place = format!("order {order}: answer {answer}: {given} calls");
             if *answer != 1 && (act.possible)(order, *answer) {
                 assert!(given >= AT_AN_ORDER, "{place}");
+                if after_the_tables(*answer) {
+                    expect_both_shapes(&counts, order, *answer);
+                }
             } else {
                 assert_eq!(given, 0, "{place}");
             }

@@ -4,6 +4,7 @@
 mod acceptance;
 mod boxes;
 mod generated;
+mod mended;
 mod refusals;
 mod rides;
 mod shown;

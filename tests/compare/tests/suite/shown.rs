@@ -1,5 +1,7 @@
-//! The script `examples/summary.py` beside the library: what it shows of a file is what
-//! the library reads, and what it makes of a text is what the library writes.
+//! The script `examples/summary.py` beside the library: what it shows of a file are the
+//! numbers that stand there, which the library reads, tables mended; what it mends is what
+//! the library writes of them; and what it makes of a text with symmetric tables is what
+//! the library writes.
 
 use std::io::Write;
 use std::path::Path;
@@ -8,7 +10,11 @@ use std::process::{Command, Stdio};
 use hankboulder_compare::read_summary::{of_file, unwritten, writing_again, READ_SUMMARY};
 use hankboulder_compare::write_summary::WRITE_SUMMARY;
 use hankboulder_compare::{numbers, Call};
-use hankboulder_reference::generate::Generator;
+use hankboulder_reference::generate::{Generator, RawProblem};
+use hankboulder_reference::summary::{
+    decode, fields, NUMBER_WIDTH, TABLE_WIDTH, TAG_CENTRE, TAG_HIGH, TAG_LIMIT, TAG_LINEAR_HIGH,
+    TAG_LINEAR_LOW, TAG_LOW,
+};
 
 use crate::support::{write_call, FILE};
 
@@ -81,21 +87,35 @@ fn text_of(call: &Call) -> String {
 #[test]
 fn a_file_that_the_library_writes_is_shown_and_made_again() {
     let mut generator = Generator::new(121);
-    let calls: Vec<Call> = (0..1500)
-        .map(|_| write_call(&generator.any_problem()))
-        .collect();
-    let written = |call: &Call| {
-        let (answer, mut buffers) = WRITE_SUMMARY.given(call);
+    let problems: Vec<RawProblem> = (0..1500).map(|_| generator.any_problem()).collect();
+    let written = |problem: &RawProblem| {
+        let (answer, mut buffers) = WRITE_SUMMARY.given(&write_call(problem));
         assert_eq!(answer, 0);
         buffers.swap_remove(FILE)
     };
-    let files: Vec<Vec<u8>> = calls.iter().map(written).collect();
-    let texts: Vec<Vec<u8>> = calls.iter().map(|c| text_of(c).into_bytes()).collect();
+    let text = |problem: &RawProblem| text_of(&write_call(&problem.mended())).into_bytes();
+    let files: Vec<Vec<u8>> = problems.iter().map(written).collect();
+    let texts: Vec<Vec<u8>> = problems.iter().map(text).collect();
     for (shown, text) in run_many("show", &files).into_iter().zip(&texts) {
         assert_eq!(shown, (true, text.clone()));
     }
     for (made, file) in run_many("make", &texts).into_iter().zip(&files) {
         assert_eq!(made, (true, file.clone()));
+    }
+}
+
+/// The problem of a file as its numbers stand there.
+fn as_it_stands(file: &[u8]) -> RawProblem {
+    let found = fields(file).expect("its fields can be told");
+    let numbers = |tag: u8, width: usize| decode(found[usize::from(tag) - 1].content, width);
+    RawProblem {
+        order: found[0].content[0].into(),
+        low: numbers(TAG_LOW, TABLE_WIDTH),
+        high: numbers(TAG_HIGH, TABLE_WIDTH),
+        linear_low: numbers(TAG_LINEAR_LOW, NUMBER_WIDTH),
+        linear_high: numbers(TAG_LINEAR_HIGH, NUMBER_WIDTH),
+        limit: numbers(TAG_LIMIT, NUMBER_WIDTH)[0],
+        centre: numbers(TAG_CENTRE, NUMBER_WIDTH),
     }
 }
 
@@ -105,19 +125,30 @@ fn a_file_that_the_library_writes_is_shown_and_made_again() {
 fn what_the_library_reads_is_what_is_shown() {
     let mut generator = Generator::new(122);
     let files: Vec<Vec<u8>> = (0..3000).map(|_| generator.summary_file()).collect();
-    let (mut read, mut refused) = (0, 0);
-    for (file, (passed, printed)) in files.iter().zip(run_many("show", &files)) {
+    let (mut read, mut lopsided, mut refused) = (0, 0, 0);
+    let mended = run_many("mend", &files);
+    let done = run_many("show", &files).into_iter().zip(mended);
+    for (file, ((passed, printed), mended)) in files.iter().zip(done) {
         let (answer, buffers) = READ_SUMMARY.given(&of_file(file.clone(), unwritten()));
         if answer == 0 {
-            let after = of_file(file.clone(), buffers[1..].to_vec());
-            let text = text_of(&writing_again(&after));
+            let problem = as_it_stands(file);
+            let text = text_of(&write_call(&problem));
             assert_eq!((passed, printed), (true, text.into_bytes()));
+            let after = of_file(file.clone(), buffers[1..].to_vec());
+            let (again, call) = (writing_again(&after), write_call(&problem.mended()));
+            assert_eq!(again.buffers[..FILE], call.buffers[..FILE]);
+            assert_eq!((again.n, &again.numbers), (call.n, &call.numbers));
+            let (_, mut written) = WRITE_SUMMARY.given(&again);
+            assert_eq!(mended, (true, written.swap_remove(FILE)));
+            lopsided += usize::from(!problem.is_symmetric());
             read += 1;
         } else {
             assert_eq!(passed, [3, 4, 5, 16].contains(&answer), "{answer}");
             assert_eq!(printed.is_empty(), !passed);
+            assert_eq!(mended, (false, vec![]));
             refused += 1;
         }
     }
     assert!(read > 1000 && refused > 800, "{read} {refused}");
+    assert!(lopsided > 300, "{lopsided}");
 }

@@ -53,6 +53,32 @@ fn the_name_of_a_refused_file_has_its_number() {
     }
 }
 
+/// A lopsided file has the text of the file that it is mended to.
+#[test]
+fn the_text_of_a_lopsided_file_is_that_of_the_mended_one() {
+    let pairs = [
+        ("sides-of-order-2-low-lopsided", "sides-of-order-2"),
+        ("sides-of-order-2-high-lopsided", "sides-of-order-2"),
+        (
+            "sides-of-order-3-half-at-the-ends-of-its-range",
+            "sides-of-order-3",
+        ),
+        ("sides-of-order-4-each-pair-lopsided", "sides-of-order-4"),
+        ("sides-of-order-8-each-pair-lopsided", "sides-of-order-8"),
+        ("not-lopsided", "not-by-tried-vector"),
+        ("undecided-lopsided", "undecided"),
+    ];
+    let all = cases();
+    for (lopsided, mended) in pairs {
+        let [one, other] = [lopsided, mended].map(|name| {
+            let case = all.iter().find(|case| case.name == name);
+            case.expect("a case of the name")
+        });
+        assert_ne!(one.file, other.file);
+        assert_eq!(committed_text(one), committed_text(other), "{lopsided}");
+    }
+}
+
 #[test]
 fn the_committed_texts_have_every_kind_of_output_and_every_order() {
     let texts: Vec<String> = cases().iter().map(committed_text).collect();

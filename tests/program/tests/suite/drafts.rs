@@ -31,7 +31,8 @@ pub enum Fault {
     Range(i64),
     /// The last entry of L is above that of U.
     Crossed,
-    /// The first entry of the second row is another than its mirror image.
+    /// The first entry of the second row of both tables is at one end of its range, so
+    /// that with its mirror image no number is left.
     Lopsided,
     /// The last term of the low end is above that of the high end.
     Reversed,
@@ -154,7 +155,11 @@ pub fn put(drafts: &mut Vec<Draft>, (of, fault): FieldFault) {
         Order(n) => draft.content = vec![n],
         Range(number) => set_entry(draft, 0, number),
         Crossed => set_entry(draft, entries - 1, end),
-        Lopsided => set_entry(draft, entries.isqrt(), -end),
+        Lopsided => {
+            let tables = drafts.iter_mut();
+            let tables = tables.filter(|draft| [TAG_LOW, TAG_HIGH].contains(&draft.of));
+            tables.for_each(|draft| set_entry(draft, entries.isqrt(), end));
+        }
         Reversed => set_entry(draft, entries - 1, far),
     }
 }

@@ -1,9 +1,10 @@
 //! Refusals 1, 3, 4, 5, 11, 14 and 16 at every number of a file: each entry, each
-//! order, each tag and each length.
+//! order, each tag and each length; and lopsided tables that are mended.
 
 use hankboulder_program::problem_file::{definite, fields, file};
 use hankboulder_program::{on_threads, Program};
 use hankboulder_reference::generate::RawProblem;
+use hankboulder_reference::program::output;
 use hankboulder_reference::summary::{file_of_fields, TAG_ORDER};
 
 use crate::support::expect_all_refused;
@@ -74,19 +75,82 @@ fn refusal_4_at_every_entry() {
     expect_all_refused(places().map(crossed), 4);
 }
 
+/// The bounds of one place, low and high, from those of the other of its pair.
+type Change = fn(i64, i64) -> (i64, i64);
+
+/// Files of the problems that are `definite` but for the bounds at one place, at every
+/// order and every place off the diagonal.
+fn at_every_place(change: Change) -> Vec<Vec<u8>> {
+    let changed = |(order, i, j)| {
+        let mut problem = definite(order);
+        let (place, other) = (i * order + j, j * order + i);
+        let bounds = change(problem.low[other], problem.high[other]);
+        (problem.low[place], problem.high[place]) = bounds;
+        file(&problem)
+    };
+    let off_diagonal = places().filter(|(_, i, j)| i != j);
+    off_diagonal.map(changed).collect()
+}
+
+/// Above the high bound of the other half, or below its low one.
 #[test]
 fn refusal_5_at_every_entry_off_the_diagonal() {
-    for (lower, higher) in [(1, 0), (0, 1)] {
-        let lopsided = |(order, i, j)| {
-            let mut problem = definite(order);
-            let place = i * order + j;
-            problem.low[place] -= lower;
-            problem.high[place] += higher;
-            file(&problem)
-        };
-        let places = places().filter(|(_, i, j)| i != j);
-        expect_all_refused(places.map(lopsided), 5);
+    let changes: [Change; 4] = [
+        |_, high| (high + 1, high + 1),
+        |_, high| (high + 1, ENTRY),
+        |low, _| (low - 1, low - 1),
+        |low, _| (-ENTRY, low - 1),
+    ];
+    for change in changes {
+        expect_all_refused(at_every_place(change), 5);
     }
+}
+
+#[test]
+fn refusals_3_and_4_of_a_half_at_every_entry_off_the_diagonal() {
+    expect_all_refused(at_every_place(|_, high| (-ENTRY - 1, high)), 3);
+    expect_all_refused(at_every_place(|low, _| (low, ENTRY + 1)), 3);
+    expect_all_refused(at_every_place(|low, high| (high + 1, low)), 4);
+}
+
+/// One half wider than the other, on either side or both: the text is that of the mended
+/// file, whatever the place.
+#[test]
+fn a_half_that_is_mended_away_at_every_entry_off_the_diagonal() {
+    let changes: [Change; 4] = [
+        |low, high| (low - 1, high),
+        |low, high| (low, high + 1),
+        |low, high| (low - 7, high + 9),
+        |_, _| (-ENTRY, ENTRY),
+    ];
+    let program = Program::under_test();
+    let mended = at_every_place(|low, high| (low, high));
+    for files in changes.map(at_every_place) {
+        let pairs: Vec<_> = files.into_iter().zip(&mended).collect();
+        on_threads(&pairs, |(lopsided, mended)| {
+            assert_ne!(lopsided, *mended);
+            program.expect(lopsided, &output(mended));
+        });
+    }
+}
+
+/// Each half has one bound that counts, and one number is left.
+#[test]
+fn a_pair_that_leaves_one_number_at_every_entry_off_the_diagonal() {
+    let program = Program::under_test();
+    let lopsided = at_every_place(|_, high| (high, ENTRY));
+    let mut thin = vec![];
+    for (order, i, j) in places().filter(|(_, i, j)| i != j) {
+        let mut problem = definite(order);
+        for place in [i * order + j, j * order + i] {
+            problem.low[place] = problem.high[place];
+        }
+        thin.push(file(&problem));
+    }
+    let pairs: Vec<_> = lopsided.iter().zip(&thin).collect();
+    on_threads(&pairs, |(lopsided, thin)| {
+        program.expect(lopsided, &output(thin))
+    });
 }
 
 #[test]

@@ -11,6 +11,8 @@ use hankboulder_program::Program;
 use hankboulder_reference::cases::bytes;
 use hankboulder_reference::generate::{Generator, KINDS};
 use hankboulder_reference::program::output;
+use hankboulder_reference::summary::read_problem;
+use hankboulder_reference::writer::file_of;
 
 fn example(name: &str) -> PathBuf {
     let folder = PathBuf::from(env!("CARGO_MANIFEST_DIR")).join("../../examples");
@@ -97,7 +99,7 @@ fn without_comments(text: &str) -> String {
 
 #[test]
 fn the_examples_belong_together() {
-    for name in ["ellipse", "saddle", "ride"] {
+    for name in ["ellipse", "saddle", "ride", "halves"] {
         let read = |end: &str| fs::read(example(&format!("{name}.{end}"))).expect("an example");
         let read_text = |end: &str| String::from_utf8(read(end)).expect("a text");
         let summary = read("summary");
@@ -107,6 +109,25 @@ fn the_examples_belong_together() {
         assert_eq!(run("hex", &summary).text(), read_text("hex"));
         Program::under_test().expect(&summary, &read_text("expected"));
     }
+}
+
+/// The halves of `halves` are mended to those of `ellipse`; the other examples have none to
+/// mend.
+#[test]
+fn the_examples_are_mended() {
+    let summary = |name: &str| fs::read(example(&format!("{name}.summary"))).expect("an example");
+    for (name, mended) in [
+        ("halves", "ellipse"),
+        ("ellipse", "ellipse"),
+        ("saddle", "saddle"),
+        ("ride", "ride"),
+    ] {
+        let done = run("mend", &summary(name));
+        assert!(done.passed && done.message.is_empty(), "{done:?}");
+        assert_eq!(done.printed, summary(mended), "{name}");
+    }
+    let [halves, ellipse] = ["halves", "ellipse"].map(|name| output(&summary(name)));
+    assert_eq!(halves, ellipse);
 }
 
 /// A file that is named is read as one on standard input is; a name that is none is
@@ -124,7 +145,12 @@ fn a_file_may_be_named() {
         Done::new(status, done.stdout, done.stderr)
     };
     let path = |end: &str| example(&format!("ellipse.{end}")).display().to_string();
-    for (command, end) in [("show", "summary"), ("hex", "summary"), ("make", "txt")] {
+    for (command, end) in [
+        ("show", "summary"),
+        ("hex", "summary"),
+        ("mend", "summary"),
+        ("make", "txt"),
+    ] {
         let given = fs::read(path(end)).expect("an example");
         assert_eq!(named(command, &path(end)), run(command, &given));
         let missing = named(command, "no such file");
@@ -167,12 +193,31 @@ fn expect_shown(file: &[u8], shown: &Done, listed: &Done) {
     assert_eq!(bytes(&hex), file);
 }
 
-/// Shows and lists files, and makes those that have a problem again.
+/// Fails where a file is not mended as it should be: to the file of its mended problem,
+/// and one that the judge refuses not at all, with the judge's number.
+fn expect_mended(file: &[u8], mended: &Done) {
+    match read_problem(file) {
+        Ok(problem) => {
+            assert_eq!(mended.printed, file_of(&problem));
+            assert!(mended.passed && mended.message.is_empty(), "{mended:?}");
+        }
+        Err(refusal) => {
+            let message = format!("refused {}, {}: ", refusal.number(), refusal.word());
+            assert!(mended.message.starts_with(&message), "{mended:?}");
+            assert!(!mended.passed && mended.printed.is_empty(), "{mended:?}");
+        }
+    }
+}
+
+/// Shows, lists and mends files, and makes those that have a problem again.
 fn expect_round_trips(files: &[Vec<u8>]) {
     let shown = run_many("show", files);
     let listed = run_many("hex", files);
     for (file, (shown, listed)) in files.iter().zip(shown.iter().zip(&listed)) {
         expect_shown(file, shown, listed);
+    }
+    for (file, mended) in files.iter().zip(run_many("mend", files)) {
+        expect_mended(file, &mended);
     }
     let shown: Vec<&Done> = shown.iter().filter(|shown| shown.passed).collect();
     let texts: Vec<&[u8]> = shown.iter().map(|shown| shown.printed.as_slice()).collect();

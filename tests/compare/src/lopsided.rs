@@ -1,0 +1,51 @@
+//! Tables whose upper and lower halves differ.
+
+use hankboulder_reference::problem;
+use hankboulder_reference::summary::{decode, fields, TABLE_WIDTH, TAG_HIGH, TAG_LOW};
+
+use crate::act::{Call, Inputs};
+use crate::{bytes, numbers};
+
+/// The mended tables of two that are square, over bytes (R2.10).
+pub fn mended(low: &[u8], high: &[u8]) -> [Vec<u8>; 2] {
+    let square = |table: &[u8]| {
+        let list = numbers(table);
+        problem::square(list.len().isqrt(), &list)
+    };
+    let (low, high) = problem::mended(&square(low), &square(high));
+    [low, high].map(|table| {
+        let list: Vec<i64> = table.concat().iter().map(|entry| *entry as i64).collect();
+        bytes(&list)
+    })
+}
+
+/// Whether a table that a call is handed is not symmetric. One that is not square is
+/// not looked at.
+pub fn is_lopsided(call: &Call, inputs: Inputs) -> bool {
+    let tables = match inputs {
+        Inputs::File => tables_in(&call.buffers[0]),
+        _ => call.buffers[..2].iter().map(|t| whole_numbers(t)).collect(),
+    };
+    tables.iter().any(|table| {
+        let order = table.len().isqrt();
+        let mirrored = |place: usize| place % order * order + place / order;
+        let differs = |place: usize| table[place] != table[mirrored(place)];
+        order * order == table.len() && (0..table.len()).any(differs)
+    })
+}
+
+fn whole_numbers(bytes: &[u8]) -> Vec<i64> {
+    numbers(&bytes[..bytes.len() / 8 * 8])
+}
+
+/// The tables of a file whose fields can be told.
+fn tables_in(file: &[u8]) -> Vec<Vec<i64>> {
+    let found = fields(file).unwrap_or_default();
+    let tables = found
+        .iter()
+        .filter(|f| [TAG_LOW, TAG_HIGH].contains(&f.tag));
+    let whole = tables.filter(|field| field.content.len().is_multiple_of(TABLE_WIDTH));
+    whole
+        .map(|field| decode(field.content, TABLE_WIDTH))
+        .collect()
+}
