@@ -1,13 +1,15 @@
 /*
- * Times the library beside plain C, tuned C and the peers: each act at each order, the same problems, one after the other. Before that it compares all
- * answers and buffers of the first three, and ends with status 1 at the first difference.
+ * Times the library beside plain C, tuned C and the peers: each act at each order, the same problems, one after the other. Some acts are
+ * timed a second time, on problems with the upper and the lower half of each table rounded apart. Before that it compares all answers and
+ * buffers of the first three, and those on problems with halves apart with those on mended ones, and ends with status 1 at the first
+ * difference.
  *
  *     bench compare           only compares
  *     bench count             makes each call once, for callgrind, which writes down the instructions of each act, order and side
  *     bench time [COUNTS]     compares, times and prints the tables. Each line of the file COUNTS is an act, an order, a side and its instructions.
  *                             Ends with status 1 where the library takes longer beside plain C than it may
- *     bench alone             times the library alone, for bench/before: a line for each act and order with the nanoseconds of a call, a sum over all
- *                             answers and buffers, and the act's name
+ *     bench alone             times the library alone, for bench/before, on problems with symmetric tables: a line for each act and order
+ *                             with the nanoseconds of a call, a sum over all answers and buffers, and the act's name
  */
 #define _POSIX_C_SOURCE 199309L
 #include "peers.h"
@@ -34,8 +36,8 @@
 #define SLICE_NS 40e3
 #define MOST_NS 1e9
 
-/* Checks 3 to 5 and factoring, of an archive made for this bench: 0 where it ends, -1 where it stops, or a refusal. Lengths are in numbers. */
-int64_t hb_bench_factor(size_t n, const int64_t *low, size_t low_len, const int64_t *high, size_t high_len);
+/* Checks 1 to 5 and factoring, of an archive made for this bench: 0 where it ends, -1 where it stops, or a refusal. Lengths are in numbers. */
+int64_t hb_bench_factor(int64_t n, const int64_t *low, size_t low_len, const int64_t *high, size_t high_len);
 
 /* Where no archive has it, its address is null. */
 #pragma weak hb_bench_factor
@@ -70,7 +72,7 @@ static const uint8_t *bytes(const int64_t *numbers)
 static int64_t library_factor(int64_t n, const struct problem *problem)
 {
     size_t count = (size_t)(n * n);
-    return hb_bench_factor((size_t)n, problem->low, count, problem->high, count);
+    return hb_bench_factor(n, problem->low, count, problem->high, count);
 }
 
 static int64_t plain_factor_side(int64_t n, const struct problem *problem)
@@ -175,6 +177,17 @@ static int64_t tuned_box_side(int64_t n, const struct problem *problem)
                      HB_SIDES_BYTES(n));
 }
 
+/* Moves the halves of the running sums apart by 1. The first sample that is taken has them mended, so this is done before each. */
+static void move_sums_apart(void)
+{
+    for (int i = 1; i < HB_SAMPLE_ORDER; i++) {
+        for (int j = 0; j < i; j++) {
+            out.low[HB_SAMPLE_ORDER * i + j]--;
+            out.high[HB_SAMPLE_ORDER * j + i]++;
+        }
+    }
+}
+
 static void start_sums(const struct problem *problem)
 {
     if (own_sums) {
@@ -183,9 +196,12 @@ static void start_sums(const struct problem *problem)
         memcpy(out.linear_low, problem->linear_low, sizeof out.linear_low);
         memcpy(out.linear_high, problem->linear_high, sizeof out.linear_high);
         out.running_limit = problem->limit;
-    } else if (problem->place == 0) {
-        memset(&out, 0, sizeof out);
+        return;
     }
+    if (problem->place == 0)
+        memset(&out, 0, sizeof out);
+    if (problem->apart)
+        move_sums_apart();
 }
 
 static int64_t library_gather(int64_t n, const struct problem *problem)
@@ -312,6 +328,11 @@ enum {
     READ_SUMMARY,
     FACTORING_FLOATING,
     JUDGE_PAIRS,
+    APART_FACTOR_TEST,
+    APART_VECTOR_TEST,
+    APART_JUDGE,
+    APART_BOX,
+    APART_GATHER,
     CHOLESKY,
     ACTS
 };
@@ -330,6 +351,15 @@ static struct act acts[ACTS] = {
     [READ_SUMMARY] = {"reading a summary", DEFINITE, 1, HB_MAX_ORDER, {library_read_summary, plain_read_summary_side, tuned_read_summary_side}},
     [FACTORING_FLOATING] = {"factoring, where plain C has the processor's floating-point root", DEFINITE, 1, HB_MAX_ORDER, {library_factor, plain_floating_side}},
     [JUDGE_PAIRS] = {"judge, undecided, where plain C takes each pair of entries once", UNDECIDED, 2, HB_MAX_ORDER, {library_judge, plain_pairs_judge_side}},
+    [APART_FACTOR_TEST] = {"factor test, halves rounded apart", LOPSIDED, 1, HB_MAX_ORDER,
+                           {library_test_factor, plain_test_factor_side, tuned_test_factor_side}},
+    [APART_VECTOR_TEST] = {"vector test, halves rounded apart", LOPSIDED, 1, HB_MAX_ORDER,
+                           {library_test_vector, plain_test_vector_side, tuned_test_vector_side}},
+    [APART_JUDGE] = {"judge, definite, halves rounded apart", LOPSIDED, 1, HB_MAX_ORDER,
+                     {library_judge, plain_judge_side, tuned_judge_side}},
+    [APART_BOX] = {"box, halves rounded apart", LOPSIDED, 1, HB_MAX_ORDER, {library_box, plain_box_side, tuned_box_side}},
+    [APART_GATHER] = {"gathering, the halves of the sums apart", LOPSIDED, HB_SAMPLE_ORDER, HB_SAMPLE_ORDER,
+                      {library_gather, plain_gather_side}},
     [CHOLESKY] = {"peers: the judge on thin definite bounds, and the peers' factoring of the same matrices",
                   THIN,
                   1,
@@ -348,6 +378,15 @@ static void take_out(void)
         acts[CHOLESKY].sides[ARB_SIDE] = NULL;
 }
 
+/* The answer of a side on a problem, and what is written then */
+static int64_t answer_of(const struct act *act, int k, int64_t n, const struct problem *problem, char *written)
+{
+    memset(&out, 0x5A, sizeof out);
+    int64_t answer = act->sides[k](n, problem);
+    memcpy(written, &out, sizeof out);
+    return answer;
+}
+
 /* Ends the program where two sides differ on a problem, in the answer or in what they wrote. */
 static void compare(struct act *act, int64_t n, const struct problem *problem)
 {
@@ -357,9 +396,7 @@ static void compare(struct act *act, int64_t n, const struct problem *problem)
     for (int k = 0; k < COMPARED_SIDES; k++) {
         if (!act->sides[k])
             continue;
-        memset(&out, 0x5A, sizeof out);
-        answers[k] = act->sides[k](n, problem);
-        memcpy(written[k], &out, sizeof out);
+        answers[k] = answer_of(act, k, n, problem, written[k]);
         if (base < 0)
             base = k;
         if (answers[k] != answers[base] || memcmp(written[k], written[base], sizeof out) != 0) {
@@ -389,11 +426,57 @@ static const struct {
     {JUDGE_PAIRS, "judge, pairs once"},
 };
 
+#define ACTS_COMPARED ((int)(sizeof compared / sizeof compared[0]))
+
+/* Compares the sides of each act on a problem, and ends the program where one has written to what it was lent for reading. */
+static void compare_acts(int64_t n, const struct problem *problem)
+{
+    static struct problem before;
+    memcpy(&before, problem, sizeof before);
+    for (int a = 0; a < ACTS_COMPARED; a++)
+        compare(&acts[compared[a].act], n, problem);
+    if (memcmp(&before, problem, sizeof before) != 0) {
+        printf("order %d: a problem is written to\n", (int)n);
+        exit(1);
+    }
+}
+
+/* Ends the program where a side has another answer on a problem with halves apart than on the mended one, or writes something else. */
+static void compare_mended(const struct act *act, int64_t n, int place)
+{
+    char written[2][sizeof out];
+    for (int k = 0; k < COMPARED_SIDES; k++) {
+        if (!act->sides[k])
+            continue;
+        int64_t mended = answer_of(act, k, n, problem_of(DEFINITE, n, place), written[0]);
+        int64_t apart = answer_of(act, k, n, problem_of(LOPSIDED, n, place), written[1]);
+        if (apart != mended || memcmp(written[0], written[1], sizeof out) != 0) {
+            printf("%s, order %d: with halves apart the %s answers %lld, and mended %lld, or writes something else\n", act->name, (int)n,
+                   side_names[k], (long long)apart, (long long)mended);
+            exit(1);
+        }
+    }
+}
+
+/* The same of all acts with sides of their own, at their orders */
+static void compare_all_mended(void)
+{
+    own_sums = 1;
+    for (int a = 0; a < ACTS_COMPARED; a++) {
+        const struct act *act = &acts[compared[a].act];
+        for (int64_t n = act->first_order; n <= act->last_order; n++)
+            for (int place = 0; place < PROBLEMS; place++)
+                compare_mended(act, n, place);
+    }
+    own_sums = 0;
+    printf("each gave the same with the halves of the tables apart as with mended tables, on %d problems of each order\n", PROBLEMS);
+}
+
 /* Compares the sides of each act on the problems of all kinds and on many others, and on orders that are refused. */
 static void compare_all(void)
 {
     static struct problem any;
-    const int count = KINDS * PROBLEMS + COMPARED, acts_compared = sizeof compared / sizeof compared[0];
+    const int count = KINDS * PROBLEMS + COMPARED;
     own_sums = 1;
     for (int64_t n = 1; n <= HB_MAX_ORDER; n++) {
         for (int place = 0; place < count; place++) {
@@ -402,8 +485,7 @@ static void compare_all(void)
                 problem = problem_of((enum kind)(place / PROBLEMS), n, place % PROBLEMS);
             else
                 draw_any(n, &any);
-            for (int a = 0; a < acts_compared; a++)
-                compare(&acts[compared[a].act], n, problem);
+            compare_acts(n, problem);
         }
     }
     for (int64_t n = -1; n <= HB_MAX_ORDER + 1; n++)
@@ -411,7 +493,7 @@ static void compare_all(void)
             compare(&acts[a], n, problem_of(DEFINITE, 1, 0));
     own_sums = 0;
     printf("the library, plain C and tuned C gave the same answers and buffers, on %d problems of each order:\n", count);
-    for (int a = 0; a < acts_compared; a++) {
+    for (int a = 0; a < ACTS_COMPARED; a++) {
         printf("%-24s", compared[a].name);
         for (int answer = 0; answer < ANSWERS; answer++)
             if (acts[compared[a].act].answers[answer])
@@ -545,7 +627,10 @@ static uint64_t sum_of(const struct act *act, int64_t n)
     return sum;
 }
 
-/* Whether the library has an act, the same one not twice: those of FACTORING_FLOATING and after it have the library's sides of others */
+/*
+ * Whether the library has an act, the same one not twice: those of FACTORING_FLOATING and after it have the library's sides of others. The
+ * problems of these are symmetric, so that an archive before version 0.5 takes them too.
+ */
 static int has_act(int a)
 {
     const struct act *act = &acts[a];
@@ -652,7 +737,11 @@ static void print_longest(void)
 static const struct {
     int act;
     double most;
-} limits[] = {{FACTORING, 1.2}, {FACTOR_TEST, 1.2}, {JUDGE_DEFINITE, 1.2}, {BOX, 1.2}, {JUDGE_UNDECIDED, 0.01}, {GATHER, 1.5}, {READ_SUMS, 1.5}, {WRITE_SUMMARY, 1.5}, {READ_SUMMARY, 1.5}};
+} limits[] = {
+    {FACTORING, 1.2},         {FACTOR_TEST, 1.2},  {JUDGE_DEFINITE, 1.2}, {BOX, 1.2},       {JUDGE_UNDECIDED, 0.01},
+    {GATHER, 1.5},            {READ_SUMS, 1.5},    {WRITE_SUMMARY, 1.5},  {READ_SUMMARY, 1.5},
+    {APART_FACTOR_TEST, 1.2}, {APART_JUDGE, 1.2},  {APART_BOX, 1.2},      {APART_GATHER, 1.5},
+};
 
 /* Prints whether the limits are kept. What has no side of the library is not measured. */
 static int keeps_limits(void)
@@ -725,6 +814,7 @@ int main(int count, char **arguments)
         return 0;
     }
     compare_all();
+    compare_all_mended();
     if (strcmp(mode, "compare") == 0)
         return 0;
     if (count > 2 && !read_counts(arguments[2]))

@@ -131,13 +131,30 @@ static int crossed(const int64_t *low, const int64_t *high, int64_t count)
     return 0;
 }
 
-static int symmetric(const int64_t *table, int64_t n)
+static int64_t greater(int64_t x, int64_t y)
 {
-    for (int64_t i = 0; i < n; i++)
-        for (int64_t j = i + 1; j < n; j++)
-            if (table[i * n + j] != table[j * n + i])
-                return 0;
-    return 1;
+    return x > y ? x : y;
+}
+
+static int64_t lesser(int64_t x, int64_t y)
+{
+    return x < y ? x : y;
+}
+
+/* The mended tables: of each pair the greater low and the lesser high, in both places. Whether each pair leaves a number (check 5). */
+static int mend(int64_t n, const int64_t *low, const int64_t *high, int64_t *mended_low, int64_t *mended_high)
+{
+    int left = 1;
+    for (int64_t i = 0; i < n; i++) {
+        for (int64_t j = i; j < n; j++) {
+            int64_t place = i * n + j, mirrored = j * n + i;
+            int64_t l = greater(low[place], low[mirrored]), u = lesser(high[place], high[mirrored]);
+            mended_low[place] = mended_low[mirrored] = l;
+            mended_high[place] = mended_high[mirrored] = u;
+            left &= l <= u;
+        }
+    }
+    return left;
 }
 
 /* upper triangular, a diagonal of 1 to 2^26, the other entries within 2^26 */
@@ -199,33 +216,39 @@ static int tables_in_range(int64_t n, const int64_t *low, const int64_t *high)
     return in_range(low, n * n, ENTRY_RANGE) && in_range(high, n * n, ENTRY_RANGE);
 }
 
-/* Checks 4 and 5: 0, or the number of the refusal */
-static int64_t check_shape(int64_t n, const int64_t *low, const int64_t *high)
+/* Mended tables: what is worked out after the checks is worked out from these, and the tables that were lent are only read */
+struct mended {
+    int64_t low[PLAIN_MAX_ORDER * PLAIN_MAX_ORDER];
+    int64_t high[PLAIN_MAX_ORDER * PLAIN_MAX_ORDER];
+};
+
+/* Checks 4, of the tables as handed in, and 5, of the mended ones: 0, or the number of the refusal */
+static int64_t check_shape(int64_t n, const int64_t *low, const int64_t *high, int64_t *mended_low, int64_t *mended_high)
 {
     if (crossed(low, high, n * n))
         return 4;
-    if (!symmetric(low, n) || !symmetric(high, n))
-        return 5;
-    return 0;
+    return mend(n, low, high, mended_low, mended_high) ? 0 : 5;
 }
 
-/* Checks 3 to 5 of an act on the tables alone: 0, or the number of the refusal */
-static int64_t check_tables(int64_t n, const int64_t *low, const int64_t *high)
+/* Checks 3 to 5 of an act on the tables alone: 0, and the mended tables; or the number of the refusal */
+static int64_t check_tables(int64_t n, const int64_t *low, const int64_t *high, struct mended *mended)
 {
-    return tables_in_range(n, low, high) ? check_shape(n, low, high) : 3;
+    return tables_in_range(n, low, high) ? check_shape(n, low, high, mended->low, mended->high) : 3;
 }
 
 int64_t plain_checked_factor(int64_t n, const int64_t *low, const int64_t *high, int64_t *factor)
 {
-    int64_t refusal = check_tables(n, low, high);
-    return refusal ? refusal : plain_factor(n, low, high, factor);
+    struct mended mended;
+    int64_t refusal = check_tables(n, low, high, &mended);
+    return refusal ? refusal : plain_factor(n, mended.low, mended.high, factor);
 }
 
 int64_t plain_floating_factor(int64_t n, const int64_t *low, const int64_t *high, int64_t *factor)
 {
     struct stop stop;
-    int64_t refusal = check_tables(n, low, high);
-    return refusal ? refusal : factor_by(floating_root, n, low, high, factor, &stop);
+    struct mended mended;
+    int64_t refusal = check_tables(n, low, high, &mended);
+    return refusal ? refusal : factor_by(floating_root, n, mended.low, mended.high, factor, &stop);
 }
 
 int64_t plain_test_factor(int64_t n, const int64_t *low, size_t low_count, const int64_t *high, size_t high_count, const int64_t *factor,
@@ -236,13 +259,14 @@ int64_t plain_test_factor(int64_t n, const int64_t *low, size_t low_count, const
     size_t count = (size_t)(n * n);
     if (low_count != count || high_count != count || factor_count != count)
         return 2;
-    int64_t refusal = check_tables(n, low, high);
+    struct mended mended;
+    int64_t refusal = check_tables(n, low, high, &mended);
     if (refusal)
         return refusal;
     if (!proper_factor(factor, n))
         return 6;
     int64_t from_low[PLAIN_MAX_ORDER * PLAIN_MAX_ORDER], from_high[PLAIN_MAX_ORDER * PLAIN_MAX_ORDER];
-    residual(n, low, high, factor, from_low, from_high);
+    residual(n, mended.low, mended.high, factor, from_low, from_high);
     return rows_hold(n, from_low, from_high) ? 0 : -1;
 }
 
@@ -300,12 +324,13 @@ int64_t plain_test_vector(int64_t n, const int64_t *low, size_t low_count, const
     size_t count = (size_t)(n * n);
     if (low_count != count || high_count != count || vector_count != (size_t)n)
         return 2;
-    int64_t refusal = check_tables(n, low, high);
+    struct mended mended;
+    int64_t refusal = check_tables(n, low, high, &mended);
     if (refusal)
         return refusal;
     if (!proper_vector(n, vector))
         return 7;
-    return pairs_form(n, low, high, vector) <= 0 ? 0 : -1;
+    return pairs_form(n, mended.low, mended.high, vector) <= 0 ? 0 : -1;
 }
 
 /* One of the two forms above */
@@ -354,22 +379,23 @@ INLINED int64_t judge_by(form *least, int64_t n, const int64_t *low, size_t low_
                          size_t factor_count, int64_t *vector, size_t vector_count)
 {
     int64_t table[PLAIN_MAX_ORDER * PLAIN_MAX_ORDER], x[PLAIN_MAX_ORDER];
+    struct mended mended;
     struct stop stop;
     if (n < 1 || n > PLAIN_MAX_ORDER)
         return 1;
     size_t count = (size_t)(n * n);
     if (low_count != count || high_count != count || factor_count != count || vector_count != (size_t)n)
         return 2;
-    int64_t refusal = check_tables(n, low, high);
+    int64_t refusal = check_tables(n, low, high, &mended);
     if (refusal)
         return refusal;
-    if (factor_by(whole_root, n, low, high, table, &stop) == 0) {
+    if (factor_by(whole_root, n, mended.low, mended.high, table, &stop) == 0) {
         memcpy(factor, table, count * sizeof *factor);
         return 0;
     }
-    int shown = tried_by(least, n, low, high, x);
+    int shown = tried_by(least, n, mended.low, mended.high, x);
     for (int64_t s = 1; !shown && s <= 64; s *= 64)
-        shown = solve(n, table, &stop, s, x) && least(n, low, high, x) <= 0;
+        shown = solve(n, table, &stop, s, x) && least(n, mended.low, mended.high, x) <= 0;
     if (!shown)
         return -2;
     memcpy(vector, x, (size_t)n * sizeof *vector);
@@ -489,15 +515,17 @@ struct ellipsoid {
     const int64_t *centre;
 };
 
-/* Checks 3, 4, 5 and 16 of the box: 0, or the number of the refusal */
-static int64_t check_ellipsoid(const struct ellipsoid *e)
+/* Checks 3, 4, 5 and 16 of the box: 0, and its tables are the mended ones, in the places for them; or the number of the refusal */
+static int64_t check_ellipsoid(struct ellipsoid *e, int64_t *mended_low, int64_t *mended_high)
 {
     if (!tables_in_range(e->n, e->low, e->high) || !in_range(e->linear_low, e->n, LINEAR_RANGE) ||
         !in_range(e->linear_high, e->n, LINEAR_RANGE) || !within(e->limit, LIMIT_RANGE) || !in_range(e->centre, e->n, CENTRE_RANGE))
         return 3;
-    int64_t refusal = check_shape(e->n, e->low, e->high);
+    int64_t refusal = check_shape(e->n, e->low, e->high, mended_low, mended_high);
     if (refusal)
         return refusal;
+    e->low = mended_low;
+    e->high = mended_high;
     return crossed(e->linear_low, e->linear_high, e->n) ? 16 : 0;
 }
 
@@ -540,13 +568,14 @@ int64_t plain_box(int64_t n, const int64_t *low, size_t low_count, const int64_t
                   size_t centre_count, int64_t *sides, size_t sides_count)
 {
     struct ellipsoid ellipsoid = {n, low, high, linear_low, linear_high, limit, centre};
+    struct mended mended;
     if (n < 1 || n > PLAIN_MAX_ORDER)
         return 1;
     size_t order = (size_t)n, count = order * order;
     if (low_count != count || high_count != count || linear_low_count != order || linear_high_count != order || centre_count != order ||
         sides_count != 2 * order)
         return 2;
-    int64_t refusal = check_ellipsoid(&ellipsoid);
+    int64_t refusal = check_ellipsoid(&ellipsoid, mended.low, mended.high);
     return refusal ? refusal : enclose(&ellipsoid, sides);
 }
 
@@ -579,7 +608,7 @@ static struct ends end_products(const struct ends *x, const struct ends *y)
     return ends;
 }
 
-/* Running sums; those that are lent, and a copy with the sample in it */
+/* Running sums: a mended copy of those that are lent, to which the sample is added */
 struct sums {
     int64_t low[SAMPLE_ENTRIES];
     int64_t high[SAMPLE_ENTRIES];
@@ -596,10 +625,11 @@ static int sums_in_range(int64_t n, const int64_t *low, const int64_t *high, con
            within(running_limit, LIMIT_RANGE);
 }
 
-/* Checks 4, 5 and 16 of sums: 0, or the number of the refusal */
-static int64_t check_sums(int64_t n, const int64_t *low, const int64_t *high, const int64_t *linear_low, const int64_t *linear_high)
+/* Checks 4, 5 and 16 of sums: 0, and the mended tables; or the number of the refusal */
+static int64_t check_sums(int64_t n, const int64_t *low, const int64_t *high, const int64_t *linear_low, const int64_t *linear_high,
+                          int64_t *mended_low, int64_t *mended_high)
 {
-    int64_t refusal = check_shape(n, low, high);
+    int64_t refusal = check_shape(n, low, high, mended_low, mended_high);
     return refusal ? refusal : crossed(linear_low, linear_high, n) ? 16 : 0;
 }
 
@@ -639,11 +669,9 @@ int64_t plain_gather(hb_sample sample, int64_t n, int64_t *low, size_t low_count
         return 2;
     if (!sums_in_range(n, low, high, linear_low, linear_high, *running_limit))
         return 3;
-    int64_t refusal = check_sums(n, low, high, linear_low, linear_high);
+    int64_t refusal = check_sums(n, low, high, linear_low, linear_high, sums.low, sums.high);
     if (refusal)
         return refusal;
-    memcpy(sums.low, low, sizeof sums.low);
-    memcpy(sums.high, high, sizeof sums.high);
     memcpy(sums.linear_low, linear_low, sizeof sums.linear_low);
     memcpy(sums.linear_high, linear_high, sizeof sums.linear_high);
     sums.running_limit = *running_limit;
@@ -662,6 +690,7 @@ int64_t plain_read_sums(int64_t n, const int64_t *low, size_t low_count, const i
                         size_t linear_low_count, const int64_t *linear_high, size_t linear_high_count, int64_t running_limit,
                         int64_t allowance, int64_t *limit, size_t limit_count)
 {
+    struct mended mended;
     if (n < 1 || n > PLAIN_MAX_ORDER)
         return 1;
     size_t order = (size_t)n, count = order * order;
@@ -670,7 +699,7 @@ int64_t plain_read_sums(int64_t n, const int64_t *low, size_t low_count, const i
     if (!sums_in_range(n, low, high, linear_low, linear_high, running_limit) || allowance < 0 || allowance > MAX_ALLOWANCE ||
         !within(allowance + running_limit, LIMIT_RANGE))
         return 3;
-    int64_t refusal = check_sums(n, low, high, linear_low, linear_high);
+    int64_t refusal = check_sums(n, low, high, linear_low, linear_high, mended.low, mended.high);
     if (refusal)
         return refusal;
     *limit = allowance + running_limit;
@@ -709,18 +738,19 @@ int64_t plain_write_summary(int64_t n, const int64_t *low, size_t low_count, con
                             const int64_t *centre, size_t centre_count, uint8_t *file, size_t file_size)
 {
     struct ellipsoid ellipsoid = {n, low, high, linear_low, linear_high, limit, centre};
+    struct mended mended;
     if (n < 1 || n > PLAIN_MAX_ORDER)
         return 1;
     size_t order = (size_t)n, count = order * order;
     if (low_count != count || high_count != count || linear_low_count != order || linear_high_count != order || centre_count != order ||
         file_size != 30 + 8 * count + 24 * order)
         return 2;
-    int64_t refusal = check_ellipsoid(&ellipsoid);
+    int64_t refusal = check_ellipsoid(&ellipsoid, mended.low, mended.high);
     if (refusal)
         return refusal;
     file = put_field(file, ORDER_TAG, &n, 1, 1);
-    file = put_field(file, LOW_TAG, low, n * n, ENTRY_BYTES);
-    file = put_field(file, HIGH_TAG, high, n * n, ENTRY_BYTES);
+    file = put_field(file, LOW_TAG, mended.low, n * n, ENTRY_BYTES);
+    file = put_field(file, HIGH_TAG, mended.high, n * n, ENTRY_BYTES);
     file = put_field(file, LINEAR_LOW_TAG, linear_low, n, NUMBER_BYTES);
     file = put_field(file, LIMIT_TAG, &limit, 1, NUMBER_BYTES);
     file = put_field(file, CENTRE_TAG, centre, n, NUMBER_BYTES);
@@ -792,7 +822,7 @@ static void get_numbers(const struct content *content, int width, int64_t *numbe
         numbers[k] = get_number(content->bytes + k * width, width);
 }
 
-/* What a file holds, with room for the greatest order */
+/* What a file holds, with room for the greatest order. The tables are mended in their places */
 struct held {
     int64_t low[MAX_ENTRIES];
     int64_t high[MAX_ENTRIES];
@@ -828,7 +858,7 @@ int64_t plain_read_summary(const uint8_t *file, size_t file_size, int64_t *order
     get_numbers(&contents[CENTRE_TAG], NUMBER_BYTES, held.centre);
     get_numbers(&contents[LINEAR_HIGH_TAG], NUMBER_BYTES, held.linear_high);
     struct ellipsoid ellipsoid = {n, held.low, held.high, held.linear_low, held.linear_high, held.limit, held.centre};
-    refusal = check_ellipsoid(&ellipsoid);
+    refusal = check_ellipsoid(&ellipsoid, held.low, held.high);
     if (refusal)
         return refusal;
     *order = n;

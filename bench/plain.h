@@ -1,4 +1,7 @@
-/* A plain C version of the rules, to time the library against. Tables are int64_t, row by row; counts are in numbers. */
+/*
+ * A plain C version of the rules, to time the library against. Tables are int64_t, row by row; counts are in numbers. After the checks an
+ * act works on a mended copy of the tables.
+ */
 #ifndef PLAIN_H
 #define PLAIN_H
 
@@ -9,7 +12,10 @@
 
 #define PLAIN_MAX_ORDER 8
 
-/* Factors the bounds, and writes the factor. 0 where factoring ends, -1 where it stops. It makes no check: the order and the tables are good ones. */
+/*
+ * Factors the bounds, and writes the factor. 0 where factoring ends, -1 where it stops. It makes no check and mends nothing: the order is a
+ * good one, and the tables are good and symmetric.
+ */
 int64_t plain_factor(int64_t n, const int64_t *low, const int64_t *high, int64_t *factor);
 
 /* The same after checks 3 to 5 of the tables: 0, -1, or the number of the refusal. */
@@ -45,7 +51,10 @@ int64_t plain_box(int64_t n, const int64_t *low, size_t low_count, const int64_t
                   size_t linear_low_count, const int64_t *linear_high, size_t linear_high_count, int64_t limit, const int64_t *centre,
                   size_t centre_count, int64_t *sides, size_t sides_count);
 
-/* Gathering with its checks, by floorf and ceilf: 0, and the sums have the sample; or the number of the refusal, and they are as they were. */
+/*
+ * Gathering with its checks, by floorf and ceilf: 0, and the sums are the mended ones with the sample; or the number of the refusal, and
+ * they are as they were.
+ */
 int64_t plain_gather(hb_sample sample, int64_t n, int64_t *low, size_t low_count, int64_t *high, size_t high_count, int64_t *linear_low,
                      size_t linear_low_count, int64_t *linear_high, size_t linear_high_count, int64_t *running_limit,
                      size_t running_limit_count);
@@ -56,16 +65,16 @@ int64_t plain_read_sums(int64_t n, const int64_t *low, size_t low_count, const i
                         int64_t allowance, int64_t *limit, size_t limit_count);
 
 /*
- * Writing a summary file with its checks, field by field and byte by byte: 0, and the file is written; or the number of the refusal, and it is as it was.
- * The file's size is in bytes.
+ * Writing the summary file of the mended problem with its checks, field by field and byte by byte: 0, and the file is written; or the
+ * number of the refusal, and it is as it was. The file's size is in bytes.
  */
 int64_t plain_write_summary(int64_t n, const int64_t *low, size_t low_count, const int64_t *high, size_t high_count, const int64_t *linear_low,
                             size_t linear_low_count, const int64_t *linear_high, size_t linear_high_count, int64_t limit,
                             const int64_t *centre, size_t centre_count, uint8_t *file, size_t file_size);
 
 /*
- * Reading a summary file with its checks: the fields are walked over and noted, then looked at, and the problem is read into arrays and checked there. 0, and all
- * seven are written, zeros behind the problem; or the number of the refusal.
+ * Reading a summary file with its checks: the fields are walked over and noted, then looked at, and the problem is read into arrays,
+ * checked and mended there. 0, and all seven are written with the mended problem, zeros behind it; or the number of the refusal.
  */
 int64_t plain_read_summary(const uint8_t *file, size_t file_size, int64_t *order, size_t order_count, int64_t *low, size_t low_count,
                            int64_t *high, size_t high_count, int64_t *linear_low, size_t linear_low_count, int64_t *linear_high,

@@ -31,6 +31,23 @@ static void set_pair(int64_t n, struct problem *problem, int64_t i, int64_t j, i
     problem->high[i * n + j] = problem->high[j * n + i] = entry + width;
 }
 
+static int64_t cut_to_range(int64_t entry)
+{
+    return entry < -HB_ENTRY_RANGE ? -HB_ENTRY_RANGE : entry > HB_ENTRY_RANGE ? HB_ENTRY_RANGE : entry;
+}
+
+/* Moves the halves of both tables apart, within the range: of each pair one low goes down and one high goes up. Mending takes it back. */
+static void move_apart(int64_t n, struct problem *problem, int64_t most)
+{
+    for (int64_t i = 0; i < n; i++) {
+        for (int64_t j = 0; j < i; j++) {
+            int64_t *low = &problem->low[draw(0, 1) ? i * n + j : j * n + i], *high = &problem->high[draw(0, 1) ? i * n + j : j * n + i];
+            *low = cut_to_range(*low - draw(0, most));
+            *high = cut_to_range(*high + draw(0, most));
+        }
+    }
+}
+
 /* B'B, with something added on the diagonal, and bounds up to width apart */
 static void set_product(int64_t n, struct problem *problem, const int64_t *b, int64_t least, int64_t most, int64_t width)
 {
@@ -85,13 +102,27 @@ static void draw_sample(struct problem *problem)
     problem->allowance = draw(0, HB_MAX_ALLOWANCE);
 }
 
-/* The summary file of the problem, where it has one */
+/* Sets entry (i,j) of both tables in a file of order n. The low one starts behind the field of the order, 4 bytes, and a head of 3. */
+static void put_entry(int64_t n, struct problem *problem, int64_t i, int64_t j, int64_t low, int64_t high)
+{
+    uint8_t *low_at = problem->file + 7 + 4 * (i * n + j), *high_at = low_at + 4 * n * n + 3;
+    for (int k = 0; k < 4; k++) {
+        low_at[k] = (uint8_t)((uint64_t)low >> (8 * k));
+        high_at[k] = (uint8_t)((uint64_t)high >> (8 * k));
+    }
+}
+
+/* The summary file of the problem, where it has one. Its tables are as they are, and not mended. */
 static void draw_file(int64_t n, struct problem *problem)
 {
     size_t order = (size_t)n, count = order * order;
     problem->file_size = HB_SUMMARY_BYTES(n);
-    plain_write_summary(n, problem->low, count, problem->high, count, problem->linear_low, order, problem->linear_high, order, problem->limit,
-                        problem->centre, order, problem->file, problem->file_size);
+    if (plain_write_summary(n, problem->low, count, problem->high, count, problem->linear_low, order, problem->linear_high, order,
+                            problem->limit, problem->centre, order, problem->file, problem->file_size) != HB_WRITTEN)
+        return;
+    for (int64_t i = 0; i < n; i++)
+        for (int64_t j = 0; j < n; j++)
+            put_entry(n, problem, i, j, problem->low[i * n + j], problem->high[i * n + j]);
 }
 
 /* A factor of the bounds, a vector and an ellipsoid. One factor in eight is changed so that the last row, and only that, fails its test. */
@@ -170,6 +201,16 @@ static void make_thin(enum kind from, enum kind to, int64_t n, int place)
     draw_file(n, problem);
 }
 
+/* A definite problem with its halves apart: what mending makes of it is the definite one again */
+static void make_lopsided(int64_t n, int place)
+{
+    struct problem *problem = &problems[LOPSIDED][n][place];
+    *problem = problems[DEFINITE][n][place];
+    problem->apart = 1;
+    move_apart(n, problem, 2);
+    draw_file(n, problem);
+}
+
 void draw_problems(void)
 {
     for (int64_t n = 1; n <= HB_MAX_ORDER; n++) {
@@ -184,6 +225,9 @@ void draw_problems(void)
                 problems[kind][n][place].place = place;
         }
     }
+    for (int64_t n = 1; n <= HB_MAX_ORDER; n++)
+        for (int place = 0; place < PROBLEMS; place++)
+            make_lopsided(n, place);
 }
 
 /* Any entries of some size, greater ones on the diagonal, the bounds up to width apart, and now and then at the edge of the range */
@@ -207,10 +251,10 @@ static int64_t draw_wild(void)
     return k < 6 ? wild[k] : draw(INT64_MIN / 2, INT64_MAX / 2 - 1);
 }
 
-/* Changes one entry or two, or an entry and its mirror image, or one end of a linear term or both */
+/* Changes one entry or two, or an entry and its mirror image, or both bounds of one entry, or one end of a linear term or both */
 static void spoil(int64_t n, struct problem *problem)
 {
-    int64_t i = draw(0, n - 1), j = draw(0, n - 1), kind = draw(0, 6);
+    int64_t i = draw(0, n - 1), j = draw(0, n - 1), kind = draw(0, 7);
     int64_t *table = draw(0, 1) ? problem->low : problem->high, *end = draw(0, 1) ? problem->linear_low : problem->linear_high;
     if (kind == 0)
         table[i * n + j] = draw_wild();
@@ -224,6 +268,8 @@ static void spoil(int64_t n, struct problem *problem)
         problem->linear_low[i] = problem->linear_high[i] = draw(0, 1) ? draw_wild() : HB_LINEAR_RANGE + draw(0, 1);
     else if (kind == 5)
         end[i] = draw(0, 1) ? draw_wild() : draw(-HB_LINEAR_RANGE - 1, HB_LINEAR_RANGE + 1);
+    else if (kind == 6)
+        problem->low[i * n + j] = problem->high[i * n + j] = problem->high[j * n + i] + draw(-1, 1);
     else
         problem->linear_low[i] = problem->linear_high[i] + draw(-1, 1);
 }
@@ -245,7 +291,7 @@ static void draw_any_sample(struct problem *problem)
 /* Offers a factor and a vector that fit, or nearly so */
 static void draw_offers(int64_t n, struct problem *problem)
 {
-    plain_factor(n, problem->low, problem->high, problem->factor);
+    plain_checked_factor(n, problem->low, problem->high, problem->factor);
     if (draw(0, 2) == 0)
         problem->factor[draw(0, n * n - 1)] = draw(0, 1) ? HB_FACTOR_RANGE + draw(0, 1) : draw(-1, 1);
     int64_t size = draw(0, 3) ? draw(0, 3) : HB_VECTOR_RANGE + draw(0, 1);
@@ -253,16 +299,23 @@ static void draw_offers(int64_t n, struct problem *problem)
         problem->vector[i] = draw(-size, size);
 }
 
+/* Gives both bounds of an entry in the file one number, next to the high one of its mirror image: the pair may leave no number */
+static void put_thin_entry(int64_t n, struct problem *problem)
+{
+    int64_t i = draw(0, n - 1), j = draw(0, n - 1), entry = problem->high[j * n + i] + draw(-1, 1);
+    put_entry(n, problem, i, j, entry, entry);
+}
+
 /*
- * The file of the problem before it is spoiled, or of another one where it has none. In most of them a byte is changed, the order or the second tag is another, the
- * end is cut off or moved, or all bytes are any
+ * The file of the problem before it is spoiled, or of another one where it has none. In most of them a byte is changed, the order or the
+ * second tag is another, the end is cut off or moved, all bytes are any, or both bounds of an entry are one number
  */
 static void draw_any_file(int64_t n, struct problem *problem)
 {
     size_t at;
     draw_file(n, problem);
     at = (size_t)draw(0, (int64_t)problem->file_size - 1);
-    switch (draw(0, 9)) {
+    switch (draw(0, 10)) {
     case 0:
         problem->file[at] = (uint8_t)draw(0, 255);
         break;
@@ -289,6 +342,9 @@ static void draw_any_file(int64_t n, struct problem *problem)
         for (size_t k = 0; k < problem->file_size; k++)
             problem->file[k] = (uint8_t)(draw(0, 2) ? draw(0, 7) : draw(0, 255));
         break;
+    case 8:
+        put_thin_entry(n, problem);
+        break;
     default:
         break;
     }
@@ -304,6 +360,8 @@ void draw_any(int64_t n, struct problem *problem)
     } else {
         draw_entries(n, problem);
     }
+    if (draw(0, 2) == 0)
+        move_apart(n, problem, draw(0, 1) ? 2 : HB_ENTRY_RANGE);
     draw_terms(n, problem);
     if (draw(0, 3) == 0)
         problem->limit = draw(0, 1) ? problem->limit - draw(0, 2000000) : draw(-HB_LIMIT_RANGE - 1, HB_LIMIT_RANGE + 1);

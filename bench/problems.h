@@ -9,12 +9,14 @@
 #define FILE_ROOM 4100
 
 /*
- * The place among the problems of its kind and order; bounds; a factor and a vector that are offered for them; an ellipsoid; a sample, and an allowance; a
- * summary file, and how many bytes of it there are. Where sums are asked for they have the bounds and the linear terms, and the limit for a running
- * limit. The processor stores the low byte first, so that tables of int64_t are the library's bytes.
+ * The place among the problems of its kind and order; whether the halves of its tables are apart; bounds; a factor and a vector that are
+ * offered for them; an ellipsoid; a sample, and an allowance; a summary file, and how many bytes of it there are. Where sums are asked for
+ * they have the bounds and the linear terms, and the limit for a running limit. The processor stores the low byte first, so that tables of
+ * int64_t are the library's bytes.
  */
 struct problem {
     int place;
+    int apart;
     int64_t low[MAX_ENTRIES];
     int64_t high[MAX_ENTRIES];
     int64_t factor[MAX_ENTRIES];
@@ -33,10 +35,12 @@ struct problem {
  * By the judge's answer. Definite ones have bounds up to 2 apart and ends of the linear terms up to 100 apart; their factor is accepted, but
  * for one in eight; a box is given. Of those that are not definite, three in four have a tried vector, anywhere in the list, and one in four
  * is made for a solved one. Undecided ones are thin, and B'B for a whole-number B that is not singular: x'Mx >= 1 for all whole x but 0, so
- * that all vectors are looked at. There is none of order 1. The last two kinds are thin: the low tables of the definite ones, and those of
- * the ones that are not, which are singular.
+ * that all vectors are looked at. There is none of order 1. The next two kinds are thin: the low tables of the definite ones, and those of
+ * the ones that are not, which are singular. The last are the definite ones with the upper and the lower half of each table rounded apart:
+ * of each pair one low is less, and one high more, by up to 2, in the tables and in the file. Mended, they are the definite ones. Those of
+ * order 1 have no pair.
  */
-enum kind { DEFINITE, NOT_DEFINITE, UNDECIDED, THIN, SINGULAR, KINDS };
+enum kind { DEFINITE, NOT_DEFINITE, UNDECIDED, THIN, SINGULAR, LOPSIDED, KINDS };
 
 /* Draws the problems of each kind and order. It comes first. */
 void draw_problems(void);

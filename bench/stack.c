@@ -15,7 +15,7 @@
 #define STACK_BYTES 65536
 #define MAX_ENTRIES (HB_MAX_ORDER * HB_MAX_ORDER)
 #define ENTRIES 8
-#define KINDS 10
+#define KINDS 11
 #define LEAST_ANSWER (-2)
 #define ANSWERS (HB_REFUSED_FALLING - LEAST_ANSWER + 1)
 
@@ -225,7 +225,7 @@ static void draw_undecided(void)
     set_pair(at + 1, at + 1, 10, 0);
 }
 
-/* Bounds with one entry of low changed: beyond the range, above its entry of high, or off from its mirror image */
+/* Bounds with one entry changed: beyond the range, its low above its high, or both by 1, so that it and its mirror image leave no number */
 static void draw_refused(int kind)
 {
     int64_t place = draw(0, input.n * input.n - 1);
@@ -235,10 +235,25 @@ static void draw_refused(int kind)
     else if (kind == 1)
         input.low[place] = input.high[place] + 1;
     else
-        input.low[place]--;
+        input.high[place] = --input.low[place];
 }
 
-/* Bounds of one kind: with a good margin, with little, with none; small and great entries of any signs; a stop without a vector; refused */
+/* Bounds with a good margin, their halves rounded apart: of each pair one low is less by 1, and one high more */
+static void draw_apart(void)
+{
+    draw_product(input.n, 300, draw(100, 10000), 2);
+    for (int64_t i = 0; i < input.n; i++) {
+        for (int64_t j = 0; j < i; j++) {
+            input.low[draw(0, 1) ? i * input.n + j : j * input.n + i]--;
+            input.high[draw(0, 1) ? i * input.n + j : j * input.n + i]++;
+        }
+    }
+}
+
+/*
+ * Bounds of one kind: with a good margin, with little, with none; small and great entries of any signs; a stop without a vector; refused;
+ * with halves that were rounded apart
+ */
 static void draw_bounds(int kind)
 {
     if (kind == 0)
@@ -255,8 +270,10 @@ static void draw_bounds(int kind)
         draw_entries(HB_ENTRY_RANGE, HB_ENTRY_RANGE, HB_ENTRY_RANGE);
     else if (kind == 6)
         draw_undecided();
-    else
+    else if (kind < 10)
         draw_refused(kind - 7);
+    else
+        draw_apart();
 }
 
 /*

@@ -84,31 +84,59 @@ INLINED int within(int64_t x, int64_t range)
     return -range <= x && x <= range;
 }
 
-/*
- * What checks 3 to 5 look at, of all entries. The first gathers the bits of three numbers that add up to 2^21. Where 3 and 4 pass, each is from 0 to
- * 2^21, and the bits are below 2^22. The second gathers the bits of differences, and is 0 where 5 passes.
- */
-struct seen {
-    uint64_t sizes;
-    uint64_t differences;
+/* The bounds that an entry and its mirror image leave: mended ones */
+struct pair {
+    int64_t low;
+    int64_t high;
 };
 
-INLINED void see(struct seen *seen, int64_t low, int64_t high)
+INLINED struct pair mend(int64_t low, int64_t low_mirror, int64_t high, int64_t high_mirror)
 {
-    seen->sizes |= (uint64_t)(low + ENTRY_RANGE) | (uint64_t)(ENTRY_RANGE - high) | (uint64_t)(high - low);
+    return (struct pair){low > low_mirror ? low : low_mirror, high < high_mirror ? high : high_mirror};
 }
 
-INLINED void see_mirror(struct seen *seen, int64_t low, int64_t low_mirror, int64_t high, int64_t high_mirror)
+/*
+ * Checks 3 to 5, of all entries: gathers the bits of low + 2^20 and 2^20 - high, as handed in, and of high - low, mended. Where the checks
+ * pass each of these is from 0 to 2^21. Where all bits are below 2^22, each low is at least -2^20, each high at most 2^20, and none of the
+ * sums has passed 64 bits; a low is at most the mended one, that at most the mended high, and that at most a high: so the checks pass.
+ */
+INLINED void see(uint64_t *seen, int64_t low, int64_t high)
 {
-    seen->differences |= (uint64_t)(low ^ low_mirror) | (uint64_t)(high ^ high_mirror);
+    *seen |= (uint64_t)(low + ENTRY_RANGE) | (uint64_t)(ENTRY_RANGE - high) | (uint64_t)(high - low);
 }
 
-INLINED int refused(const struct seen *seen)
+INLINED struct pair see_pair(uint64_t *seen, int64_t low, int64_t low_mirror, int64_t high, int64_t high_mirror)
 {
-    return seen->sizes >> 22 || seen->differences;
+    struct pair pair = mend(low, low_mirror, high, high_mirror);
+    *seen |= (uint64_t)(low + ENTRY_RANGE) | (uint64_t)(low_mirror + ENTRY_RANGE) | (uint64_t)(ENTRY_RANGE - high) |
+             (uint64_t)(ENTRY_RANGE - high_mirror) | (uint64_t)(pair.high - pair.low);
+    return pair;
 }
 
-/* Which of 3 to 5 it is */
+INLINED int refused(uint64_t seen)
+{
+    return seen >> 22 != 0;
+}
+
+/* The mended tables, of bounds that pass the checks */
+struct mended {
+    int64_t low[ORDER * ORDER];
+    int64_t high[ORDER * ORDER];
+};
+
+static void fill_mended(int64_t n, const number *low, const number *high, struct mended *mended)
+{
+    for (int64_t j = 0; j < n; j++) {
+        for (int64_t i = 0; i <= j; i++) {
+            int64_t place = j * n + i, mirror = i * n + j;
+            struct pair pair = mend(low[place], low[mirror], high[place], high[mirror]);
+            mended->low[place] = mended->low[mirror] = pair.low;
+            mended->high[place] = mended->high[mirror] = pair.high;
+        }
+    }
+}
+
+/* Which of 3 to 5 it is, where one of them fails */
 static __attribute__((noinline, cold)) int64_t refusal(int64_t n, const number *low, const number *high)
 {
     for (int64_t place = 0; place < n * n; place++)
@@ -120,21 +148,19 @@ static __attribute__((noinline, cold)) int64_t refusal(int64_t n, const number *
     return 5;
 }
 
-/* H(i,j) to h[i][j], i <= j, and the checks, each pair read once. A width counts in both of its rows. */
+/* H(i,j) of the mended tables to h[i][j], i <= j, and the checks, each pair read once. A width counts in both of its rows. */
 INLINED int scale(int64_t n, const number *low, const number *high, int64_t h[ORDER][ORDER])
 {
-    struct seen seen = {0, 0};
+    uint64_t seen = 0;
     int64_t widths[ORDER];
     for (int64_t j = 0; j < n; j++) {
         const number *low_row = low + j * n, *high_row = high + j * n;
         int64_t row_width = 0;
         for (int64_t i = 0; i < j; i++) {
-            int64_t l = low_row[i], u = high_row[i];
-            see(&seen, l, u);
-            see_mirror(&seen, l, low[i * n + j], u, high[i * n + j]);
-            h[i][j] = (l + u) << 31;
-            widths[i] += u - l;
-            row_width += u - l;
+            struct pair pair = see_pair(&seen, low_row[i], low[i * n + j], high_row[i], high[i * n + j]);
+            h[i][j] = (pair.low + pair.high) << 31;
+            widths[i] += pair.high - pair.low;
+            row_width += pair.high - pair.low;
         }
         see(&seen, low_row[j], high_row[j]);
         h[j][j] = (low_row[j] << 32) - MARGIN;
@@ -142,7 +168,7 @@ INLINED int scale(int64_t n, const number *low, const number *high, int64_t h[OR
     }
     for (int64_t j = 0; j < n; j++)
         h[j][j] -= widths[j] << 31;
-    return !refused(&seen);
+    return !refused(seen);
 }
 
 /* Where factoring stops: the column, from 0, and how many of its rows were worked out */
@@ -217,20 +243,18 @@ int64_t tuned_test_factor(int64_t n, const uint8_t *low_bytes, size_t low_len, c
     size_t size = (size_t)(8 * n * n);
     if (low_len != size || high_len != size || factor_len != size)
         return 2;
-    struct seen seen = {0, 0};
-    /* or of numbers that are from 0 to 2^27, and of those that are 0, where check 6 passes */
-    uint64_t sizes = 0, below = 0;
+    /* the last two: or of numbers that are from 0 to 2^27, and of those that are 0, where check 6 passes */
+    uint64_t seen = 0, sizes = 0, below = 0;
     int64_t over[ORDER], negative = 0;
     for (int64_t j = 0; j < n; j++) {
         const number *low_row = low + j * n, *high_row = high + j * n, *factor_row = factor + j * n;
         int64_t own = 0;
         for (int64_t i = 0; i < j; i++) {
-            int64_t l = low_row[i], u = high_row[i], f = factor[i * n + j];
-            see(&seen, l, u);
-            see_mirror(&seen, l, low[i * n + j], u, high[i * n + j]);
+            struct pair pair = see_pair(&seen, low_row[i], low[i * n + j], high_row[i], high[i * n + j]);
+            int64_t f = factor[i * n + j];
             sizes |= (uint64_t)(f + FACTOR_RANGE) | (uint64_t)(FACTOR_RANGE - f);
             below |= (uint64_t)factor_row[i];
-            int64_t radius = spread(l, u, product(n, factor, i, j));
+            int64_t radius = spread(pair.low, pair.high, product(n, factor, i, j));
             over[i] -= radius;
             own -= radius;
         }
@@ -241,7 +265,7 @@ int64_t tuned_test_factor(int64_t n, const uint8_t *low_bytes, size_t low_len, c
     }
     for (int64_t i = 0; i < n; i++)
         negative |= over[i];
-    if (refused(&seen))
+    if (refused(seen))
         return refusal(n, low, high);
     if (sizes >> 28 || below)
         return 6;
@@ -277,24 +301,21 @@ int64_t tuned_test_vector(int64_t n, const uint8_t *low_bytes, size_t low_len, c
     size_t size = (size_t)(8 * n * n);
     if (low_len != size || high_len != size || vector_len != (size_t)(8 * n))
         return 2;
-    struct seen seen = {0, 0};
-    uint64_t sizes = 0, bits = 0;
+    uint64_t seen = 0, sizes = 0, bits = 0;
     int64_t value = 0;
     for (int64_t j = 0; j < n; j++) {
         const number *low_row = low + j * n, *high_row = high + j * n;
         int64_t x = vector[j], pairs = 0;
         for (int64_t i = 0; i < j; i++) {
-            int64_t l = low_row[i], u = high_row[i];
-            see(&seen, l, u);
-            see_mirror(&seen, l, low[i * n + j], u, high[i * n + j]);
-            pairs += least_term(x * vector[i], l, u);
+            struct pair pair = see_pair(&seen, low_row[i], low[i * n + j], high_row[i], high[i * n + j]);
+            pairs += least_term(x * vector[i], pair.low, pair.high);
         }
         see(&seen, low_row[j], high_row[j]);
         sizes |= (uint64_t)(x + VECTOR_RANGE) | (uint64_t)(VECTOR_RANGE - x);
         bits |= (uint64_t)x;
         value += 2 * pairs + x * x * low_row[j];
     }
-    if (refused(&seen))
+    if (refused(seen))
         return refusal(n, low, high);
     if (sizes >> 17 || !bits)
         return 7;
@@ -621,6 +642,7 @@ int64_t tuned_judge(int64_t n, const uint8_t *low_bytes, size_t low_len, const u
 {
     const number *low = numbers(low_bytes), *high = numbers(high_bytes);
     int64_t h[ORDER][ORDER], x[ORDER];
+    struct mended mended;
     struct stop stop;
     if (n < 1 || n > ORDER)
         return 1;
@@ -633,7 +655,8 @@ int64_t tuned_judge(int64_t n, const uint8_t *low_bytes, size_t low_len, const u
         write_factor(n, h, (number *)factor_bytes);
         return 0;
     }
-    if (!listed(n, low, high, h, &stop, x))
+    fill_mended(n, low, high, &mended);
+    if (!listed(n, mended.low, mended.high, h, &stop, x))
         return -2;
     number *vector = (number *)vector_bytes;
     for (int64_t i = 0; i < n; i++)
@@ -724,6 +747,18 @@ static int64_t gradient(int64_t n, const number *low, const number *high, const 
     return magnitude(least) > magnitude(greatest) ? magnitude(least) : magnitude(greatest);
 }
 
+/* g, and whether check 9 passes */
+static int gradients(int64_t n, const struct mended *tables, const number *centre, const number *linear_low, const number *linear_high,
+                     int64_t *g)
+{
+    for (int64_t k = 0; k < n; k++) {
+        g[k] = gradient(n, tables->low + k * n, tables->high + k * n, centre, linear_low[k], linear_high[k]);
+        if (g[k] > GRADIENT_RANGE)
+            return 0;
+    }
+    return 1;
+}
+
 /* a / d rounded up, for d >= 1 */
 INLINED int64_t ceiling_quotient(int64_t a, int64_t d)
 {
@@ -793,6 +828,7 @@ int64_t tuned_box(int64_t n, const uint8_t *low_bytes, size_t low_len, const uin
     const number *linear_low = numbers(linear_low_bytes), *linear_high = numbers(linear_high_bytes);
     number *sides = (number *)sides_bytes;
     int64_t h[ORDER][ORDER], g[ORDER], y[ORDER], steps[ORDER], bound;
+    struct mended mended;
     if (n < 1 || n > ORDER)
         return 1;
     size_t table = (size_t)(8 * n * n), entries = (size_t)(8 * n);
@@ -808,12 +844,10 @@ int64_t tuned_box(int64_t n, const uint8_t *low_bytes, size_t low_len, const uin
     int64_t t = greatest_step(n, 0, 1, h);
     if (t == 0)
         return 8;
-    for (int64_t k = 0; k < n; k++) {
-        g[k] = gradient(n, low + k * n, high + k * n, centre, linear_low[k], linear_high[k]);
-        if (g[k] > GRADIENT_RANGE)
-            return 9;
-    }
-    if (!halves(n, t, at_centre(n, low, high, linear_low, linear_high, limit, centre), g, y, &bound))
+    fill_mended(n, low, high, &mended);
+    if (!gradients(n, &mended, centre, linear_low, linear_high, g))
+        return 9;
+    if (!halves(n, t, at_centre(n, mended.low, mended.high, linear_low, linear_high, limit, centre), g, y, &bound))
         return -1;
     steps_at(n, h, steps);
     for (int64_t k = 0; k < n; k++) {
@@ -837,18 +871,32 @@ INLINED size_t file_size(int64_t n)
     return (size_t)(30 + 8 * n * n + 24 * n);
 }
 
-/* Checks 3 to 5, each pair read once */
-INLINED int tables_pass(int64_t n, const number *low, const number *high)
+/* The mended tables with the entries of a file */
+struct narrow_mended {
+    int32_t low[ORDER * ORDER];
+    int32_t high[ORDER * ORDER];
+};
+
+INLINED void set_pair(struct narrow_mended *mended, int64_t place, int64_t mirror, struct pair pair)
 {
-    struct seen seen = {0, 0};
+    mended->low[place] = mended->low[mirror] = (int32_t)pair.low;
+    mended->high[place] = mended->high[mirror] = (int32_t)pair.high;
+}
+
+/* Checks 3 to 5, each pair read once, and the mended tables where they pass */
+INLINED int tables_pass(int64_t n, const number *low, const number *high, struct narrow_mended *mended)
+{
+    uint64_t seen = 0;
     for (int64_t j = 0; j < n; j++) {
         for (int64_t i = 0; i < j; i++) {
-            see(&seen, low[j * n + i], high[j * n + i]);
-            see_mirror(&seen, low[j * n + i], low[i * n + j], high[j * n + i], high[i * n + j]);
+            int64_t place = j * n + i, mirror = i * n + j;
+            set_pair(mended, place, mirror, see_pair(&seen, low[place], low[mirror], high[place], high[mirror]));
         }
-        see(&seen, low[j * n + j], high[j * n + j]);
+        int64_t place = j * n + j;
+        see(&seen, low[place], high[place]);
+        set_pair(mended, place, place, (struct pair){low[place], high[place]});
     }
-    return !refused(&seen);
+    return !refused(seen);
 }
 
 /* A field's tag and length; the place of its content */
@@ -859,12 +907,11 @@ INLINED uint8_t *put_head(uint8_t *at, int tag, int64_t size)
     return at + 3;
 }
 
-INLINED uint8_t *put_table(uint8_t *at, int tag, int64_t n, const number *table)
+INLINED uint8_t *put_table(uint8_t *at, int tag, int64_t n, const int32_t *table)
 {
-    narrow *to = (narrow *)put_head(at, tag, 4 * n * n);
-    for (int64_t k = 0; k < n * n; k++)
-        to[k] = (int32_t)table[k];
-    return (uint8_t *)(to + n * n);
+    uint8_t *to = put_head(at, tag, 4 * n * n);
+    __builtin_memcpy(to, table, (size_t)(4 * n * n));
+    return to + 4 * n * n;
 }
 
 INLINED uint8_t *put_list(uint8_t *at, int tag, int64_t count, const number *list)
@@ -881,6 +928,7 @@ int64_t tuned_write_summary(int64_t n, const uint8_t *low_bytes, size_t low_len,
 {
     const number *low = numbers(low_bytes), *high = numbers(high_bytes), *centre = numbers(centre_bytes);
     const number *linear_low = numbers(linear_low_bytes), *linear_high = numbers(linear_high_bytes);
+    struct narrow_mended mended;
     if (n < 1 || n > ORDER)
         return 1;
     size_t table = (size_t)(8 * n * n), entries = (size_t)(8 * n);
@@ -889,14 +937,14 @@ int64_t tuned_write_summary(int64_t n, const uint8_t *low_bytes, size_t low_len,
         return 2;
     if (!terms_in_range(n, linear_low, linear_high, limit, centre))
         return 3;
-    if (!tables_pass(n, low, high))
+    if (!tables_pass(n, low, high, &mended))
         return refusal(n, low, high);
     if (reversed(n, linear_low, linear_high))
         return 16;
     file = put_head(file, ORDER_TAG, 1);
     *file++ = (uint8_t)n;
-    file = put_table(file, LOW_TAG, n, low);
-    file = put_table(file, HIGH_TAG, n, high);
+    file = put_table(file, LOW_TAG, n, mended.low);
+    file = put_table(file, HIGH_TAG, n, mended.high);
     file = put_list(file, LINEAR_LOW_TAG, n, linear_low);
     file = put_list(file, LIMIT_TAG, 1, &limit);
     file = put_list(file, CENTRE_TAG, n, centre);
@@ -967,18 +1015,20 @@ INLINED int find_places(int64_t n, const uint8_t *file, struct places *places)
            head_is(linear_high, LINEAR_HIGH_TAG, list);
 }
 
-/* Checks 3 to 5 of the tables in a file */
-INLINED int held_tables_pass(int64_t n, const narrow *low, const narrow *high)
+/* Checks 3 to 5 of the tables in a file, each pair read once, and the mended tables where they pass */
+INLINED int held_tables_pass(int64_t n, const narrow *low, const narrow *high, struct narrow_mended *mended)
 {
-    struct seen seen = {0, 0};
+    uint64_t seen = 0;
     for (int64_t j = 0; j < n; j++) {
         for (int64_t i = 0; i < j; i++) {
-            see(&seen, low[j * n + i], high[j * n + i]);
-            see_mirror(&seen, low[j * n + i], low[i * n + j], high[j * n + i], high[i * n + j]);
+            int64_t place = j * n + i, mirror = i * n + j;
+            set_pair(mended, place, mirror, see_pair(&seen, low[place], low[mirror], high[place], high[mirror]));
         }
-        see(&seen, low[j * n + j], high[j * n + j]);
+        int64_t place = j * n + j;
+        see(&seen, low[place], high[place]);
+        set_pair(mended, place, place, (struct pair){low[place], high[place]});
     }
-    return !refused(&seen);
+    return !refused(seen);
 }
 
 /* Which of 3 to 5 it is */
@@ -992,7 +1042,7 @@ static __attribute__((noinline, cold)) int64_t held_refusal(int64_t n, const nar
     return refusal(n, wide_low, wide_high);
 }
 
-INLINED void give_table(uint8_t *to, int64_t n, const narrow *table)
+INLINED void give_table(uint8_t *to, int64_t n, const int32_t *table)
 {
     number *entries = (number *)to;
     __builtin_memset(entries, 0, 8 * ORDER * ORDER);
@@ -1013,6 +1063,7 @@ int64_t tuned_read_summary(const uint8_t *file, size_t file_len, uint8_t *order,
                            uint8_t *limit, size_t limit_len, uint8_t *centre, size_t centre_len)
 {
     const size_t table = 8 * ORDER * ORDER, list = 8 * ORDER;
+    struct narrow_mended mended;
     struct places places;
     if (order_len != 8 || low_len != table || high_len != table || linear_low_len != list || linear_high_len != list || limit_len != 8 ||
         centre_len != list)
@@ -1022,13 +1073,13 @@ int64_t tuned_read_summary(const uint8_t *file, size_t file_len, uint8_t *order,
         return file_refusal(file, file_len);
     if (!terms_in_range(n, places.linear_low, places.linear_high, *places.limit, places.centre))
         return 3;
-    if (!held_tables_pass(n, places.low, places.high))
+    if (!held_tables_pass(n, places.low, places.high, &mended))
         return held_refusal(n, places.low, places.high);
     if (reversed(n, places.linear_low, places.linear_high))
         return 16;
     *(number *)order = n;
-    give_table(low, n, places.low);
-    give_table(high, n, places.high);
+    give_table(low, n, mended.low);
+    give_table(high, n, mended.high);
     give_list(linear_low, n, places.linear_low);
     give_list(linear_high, n, places.linear_high);
     *(number *)limit = *places.limit;

@@ -1,7 +1,7 @@
 /*
  * The library's acts in C that is written for speed, with the same answers and the same buffers: the arguments are those of include/hankboulder.h. It uses
  * whole numbers alone and no floating point, as the library does. Numbers are read where they lie, and the processor stores the low byte first. One code
- * serves all orders.
+ * serves all orders. Tables are mended as they are read for the checks, and copied only where an act reads them a second time.
  */
 #ifndef TUNED_H
 #define TUNED_H
@@ -9,7 +9,10 @@
 #include <stddef.h>
 #include <stdint.h>
 
-/* Checks 3 to 5 and factoring, for a good n, over numbers: 0 where it ends, -1 where it stops, or the refusal. Entry (i,j), i <= j, is left at 8 i + j. */
+/*
+ * Checks 3 to 5 and factoring of the mended tables, for a good n, over numbers: 0 where it ends, -1 where it stops, or the refusal. Entry
+ * (i,j), i <= j, is left at 8 i + j.
+ */
 int64_t tuned_factor(int64_t n, const int64_t *low, const int64_t *high, int64_t *factor);
 
 int64_t tuned_test_factor(int64_t n, const uint8_t *low, size_t low_len, const uint8_t *high, size_t high_len, const uint8_t *factor,
