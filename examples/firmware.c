@@ -386,7 +386,9 @@ static void show_rides(void)
     gather_all(&sums, ride, 1, &nothing, 2);
     display(&sums, factor, 0);
     printf("the same, the tables damaged too\n");
+    /* One entry of both tables: it and its mirror image leave no number. */
     sums.low[HB_NUMBER_BYTES] ^= 1;
+    sums.high[HB_NUMBER_BYTES] ^= 1;
     display(&sums, factor, 1);
     printf("a ride, and a stretch whose draw was not measured\n");
     gather_all(&many, ride, COUNT(ride), &nothing, 2);

@@ -1,4 +1,4 @@
-/* Judges four matrices and prints each verdict with what was written: the rows of the factor, or the witness vector. */
+/* Judges five problems and prints each verdict with what was written: the rows of the factor, or the witness vector. */
 #include <inttypes.h>
 #include <stdio.h>
 
@@ -47,11 +47,15 @@ int main(void)
     const int64_t round_low[4] = {2, 1, 1, 2}, round_high[4] = {3, 1, 1, 3};
     const int64_t saddle[4] = {1, 1000, 1000, 10000};
     const int64_t thin[4] = {1, 3, 3, 10};
+    /* The halves were rounded apart: of each pair the greater low and the smaller high apply, so this is the first problem again. */
+    const int64_t apart_low[4] = {2, 0, 1, 2}, apart_high[4] = {3, 1, 2, 3};
+    /* A pair that leaves no number: 2 and 3 for one entry */
     const int64_t lopsided[4] = {1, 2, 3, 4};
 
     judge(2, round_low, round_high);
     judge(2, saddle, saddle);
     judge(2, thin, thin);
+    judge(2, apart_low, apart_high);
     judge(2, lopsided, lopsided);
     return 0;
 }

@@ -4,10 +4,15 @@
     python3 examples/summary.py show problem.summary
     python3 examples/summary.py hex problem.summary
     python3 examples/summary.py make problem.txt > problem.summary
+    python3 examples/summary.py mend problem.summary > mended.summary
 
 `show` prints the problem of a file, `hex` lists a file's bytes, a line for each field, and `make` writes the file of a problem. Without a
-name they read standard input. What `show` prints, `make` takes. For a problem that is not refused `make` writes the bytes that
-hb_write_summary writes, and the numbers that `show` prints are those that hb_read_summary reads.
+name they read standard input. What `show` prints, `make` takes.
+
+The upper and lower halves of low and high may differ, from a hub that rounds each entry by itself. `show`, `hex` and `make` keep the halves
+as they are given. The judge reads the mended problem: of the entries (i,j) and (j,i) the greater low and the smaller high, in both places.
+`mend` writes its file, the one that hb_write_summary writes. `show` prints of that file the numbers that hb_read_summary reads from either.
+Where the halves agree, both files are the same.
 
 The text form is this. `#` starts a comment, and empty lines are passed over. All numbers are whole.
 
@@ -27,9 +32,9 @@ The text form is this. `#` starts a comment, and empty lines are passed over. Al
 same numbers. `show` prints them so where both are equal. The parts after `order` may stand in any order; `show` prints them in the order
 above, and `make` writes their fields with rising tags, the high end of a as the last.
 
-Where a file is damaged, `show` and `hex` say which of the judge's refusals it meets and why, and end with status 1; `hex` lists first
-what can be read. A file can hold a problem that the judge refuses for its numbers (refusals 3 to 5 and 16): `make` writes it and `show`
-prints it, with a note.
+Where a file is damaged, `show`, `hex` and `mend` say which of the judge's refusals it meets and why, and end with status 1; `hex` lists
+first what can be read. A file can hold a problem that the judge refuses for its numbers (refusals 3 to 5 and 16): `make` writes it and
+`show` prints it, with a note, and `mend` refuses it.
 """
 
 import re
@@ -249,20 +254,32 @@ def check_above(number, problem, low, high):
             raise Refused(number, f"{at[0]} is {least}, above {at[1]}, which is {most}")
 
 
+def mirrored(index, order):
+    """The index of (j,i) in a table, from that of (i,j)."""
+    return index % order * order + index // order
+
+
+def mended(problem):
+    """The problem with mended tables: of each pair the greater low and the smaller high, in both places."""
+    order = problem["order"][0]
+    mirror = lambda table: [table[mirrored(index, order)] for index in range(order**2)]
+    low, high = problem["low"], problem["high"]
+    return {**problem, "low": list(map(max, low, mirror(low))), "high": list(map(min, high, mirror(high)))}
+
+
 def check_numbers(problem):
-    """Refusals 3, 4, 5 and 16, each over the whole problem before the next."""
+    """Refusals 3, 4, 5 and 16, each over the whole problem before the next. After 4, a pair leaves no number where low(i,j) > high(j,i)."""
     order = problem["order"][0]
     for word in list(WIDTH)[1:]:
         for index, number in enumerate(problem[word]):
             if abs(number) > RANGE[word]:
                 raise Refused(3, f"{place(word, index, order)} is {number}, beyond {RANGE[word]} either way")
     check_above(4, problem, "low", "high")
-    for word in ["low", "high"]:
-        for index in range(order**2):
-            mirror = index % order * order + index // order
-            if problem[word][index] != problem[word][mirror]:
-                at = place(word, index, order), place(word, mirror, order)
-                raise Refused(5, f"{at[0]} is {problem[word][index]}, and {at[1]} is {problem[word][mirror]}")
+    for index, low in enumerate(problem["low"]):
+        mirror = mirrored(index, order)
+        if low > problem["high"][mirror]:
+            at = place("low", index, order), place("high", mirror, order)
+            raise Refused(5, f"{at[0]} is {low}, above {at[1]}, which is {problem['high'][mirror]}: the pair leaves no number")
     check_above(16, problem, "linear_low", "linear_high")
 
 
@@ -342,6 +359,12 @@ def make(given):
     sys.stdout.buffer.write(write(problem))
 
 
+def mend(file):
+    problem = read(file)
+    check_numbers(problem)
+    sys.stdout.buffer.write(write(mended(problem)))
+
+
 def show(file):
     problem = read(file)
     note(problem)
@@ -356,7 +379,7 @@ def hex_listing(file):
     note(read(file))
 
 
-COMMANDS = {"make": make, "show": show, "hex": hex_listing}
+COMMANDS = {"make": make, "show": show, "hex": hex_listing, "mend": mend}
 
 
 def contents(names):
@@ -372,7 +395,7 @@ def main(arguments):
         print(__doc__, end="")
         return 0
     if len(arguments) not in (1, 2) or arguments[0] not in COMMANDS:
-        print("summary.py: it takes make, show or hex, and the name of a file or none; summary.py --help says more", file=sys.stderr)
+        print("summary.py: it takes make, show, hex or mend, and the name of a file or none; summary.py --help says more", file=sys.stderr)
         return 2
     command, *names = arguments
     try:

@@ -4,8 +4,9 @@
  *
  * NUMBERS AND TABLES
  *
- * A problem has an order n, from 1 to HB_MAX_ORDER, and two symmetric n by n tables, low and high: the bounds of a symmetric matrix, entry by entry.
- * That of an ellipsoid has a low and a high end of n linear terms, a limit and a centre of n entries besides.
+ * A problem has an order n, from 1 to HB_MAX_ORDER, and two n by n tables, low and high: the bounds of a symmetric matrix, entry by entry.
+ * Their upper and lower halves may differ: see HALVES ROUNDED APART. The problem of an ellipsoid has a low and a high end of n linear
+ * terms, a limit and a centre of n entries besides.
  *
  * Running sums, which samples of rides are gathered into, have the same two tables and the same two ends of linear terms, and a running limit in
  * place of the limit. "Limit" is always that of an ellipsoid, and "running limit" always the sum; hb_read_sums makes the first of the second, and
@@ -21,6 +22,27 @@
  *     int64_t low[4] = {2, 1, 1, 2};
  *     ... (const uint8_t *)low, sizeof low ...
  *
+ * HALVES ROUNDED APART
+ *
+ * The entries (i,j) and (j,i) of a table are a pair, and (i,i) is one by itself. The matrix is symmetric, so that a pair bounds one number.
+ * A hub that rounds each entry by itself hands over tables whose upper and lower halves differ. Both bounds of a pair apply then, in both
+ * places: before anything is worked out, the tables are mended.
+ *
+ *     low(i,j) and low(j,i) become the greater of the two
+ *     high(i,j) and high(j,i) become the smaller of the two
+ *
+ * For example low = 2 0 / 1 2 and high = 3 1 / 2 3, row by row, are read as low = 2 1 / 1 2 and high = 3 1 / 1 3.
+ *
+ * - Every function does so. Its answer, what it writes, and every refusal after HB_REFUSED_CROSSED are those of the mended tables. Where a
+ *   comment below works something out from low and high, these are the mended ones.
+ * - Nothing is lost: the symmetric matrices from low to high are the same before and after. Symmetric tables stay as they are.
+ * - HB_REFUSED_RANGE and HB_REFUSED_CROSSED look at low and high as they are handed over, each entry in its own place. After these,
+ *   HB_REFUSED_LOPSIDED refuses a pair that leaves no number: low(i,j) is above high(j,i) for some i and j, so that the greater low is
+ *   above the smaller high. Halves that differ are not refused for that.
+ * - A table that is lent for reading, so const, is never written: it stays as it was handed over. Only hb_gather and hb_read_summary write
+ *   low and high, and what they leave there is symmetric.
+ * - Where low and high are the same table its halves have to agree: two numbers for one entry leave none.
+ *
  * SUMMARY FILES
  *
  * A summary file holds one problem of an ellipsoid, centre included, in a form of its own: seven fields one after the other, each a tag of one byte, a
@@ -34,8 +56,13 @@
  *     06  the centre, 8 bytes to an entry                     8 * n bytes
  *     07  linear_high, 8 bytes to a term                      8 * n bytes
  *
- * Numbers are signed, low byte first, but for n. So a problem has exactly one file, of HB_SUMMARY_BYTES(n) bytes: hb_write_summary writes it, and
- * hb_read_summary, like the program "judge", takes it and no other. A file is bytes, the same on any processor: it can be kept, sent and compared.
+ * Numbers are signed, low byte first, but for n. A file has HB_SUMMARY_BYTES(n) bytes, the same on any processor: it can be kept, sent and
+ * compared.
+ *
+ * hb_write_summary writes the file of the mended problem: each problem has exactly one. hb_read_summary, like the program "judge", takes
+ * this file, and takes one whose tables have halves that differ as its mended problem. So a file that is read and then written has the
+ * bytes that it had exactly if its tables are symmetric. Of every other file the one of its mended problem is written, which has the same
+ * size and is read as the same problem.
  *
  * WHAT HOLDS FOR EVERY FUNCTION
  *
@@ -77,10 +104,11 @@ extern "C" {
  * The version of this header and of the archive that it is installed with, as numbers and as a string. It is said here alone: the file for
  * pkg-config has it from here. Since 0.2 hb_box has two parameters more, which a linker does not see: header and archive have to be of one
  * version. Since 0.3 there are hb_gather and hb_read_sums, and a summary file has its tags rising (19). Since 0.4 there are hb_write_summary and
- * hb_read_summary.
+ * hb_read_summary. Since 0.5 the halves of low and high may differ, and HB_REFUSED_LOPSIDED refuses only a pair that leaves no number: what
+ * 0.4 answers by any number but 5 is answered as before.
  */
 #define HB_VERSION_MAJOR 0
-#define HB_VERSION_MINOR 4
+#define HB_VERSION_MINOR 5
 #define HB_VERSION_PATCH 0
 #define HB_VERSION_STRING HB_VERSION_JOINED(HB_VERSION_MAJOR, HB_VERSION_MINOR, HB_VERSION_PATCH)
 #define HB_VERSION_JOINED(major, minor, patch) HB_VERSION_QUOTED(major) "." HB_VERSION_QUOTED(minor) "." HB_VERSION_QUOTED(patch)
@@ -159,7 +187,7 @@ enum {
     HB_REFUSED_LENGTH = 2,    /* "length": a buffer has not exactly the size that its function asks for or, in hb_gather, n is another order than 4 */
     HB_REFUSED_RANGE = 3,     /* "range": an entry of low or high, a linear term, a limit, running limit, centre entry or allowance is beyond its range */
     HB_REFUSED_CROSSED = 4,   /* "crossed": an entry of low is above its entry of high */
-    HB_REFUSED_LOPSIDED = 5,  /* "lopsided": low or high is not symmetric */
+    HB_REFUSED_LOPSIDED = 5,  /* "lopsided": low(i,j) is above high(j,i) for some i and j: the pair leaves no number */
     HB_REFUSED_FACTOR = 6,    /* "factor": not upper triangular, a diagonal entry below 1 or above 2^26, or any other beyond +-2^26 */
     HB_REFUSED_VECTOR = 7,    /* "vector": all zero, or an entry beyond +-2^15 */
     HB_REFUSED_FLAT = 8,      /* "flat": of a box, t, the step that can be taken off the diagonal, is 0 */
@@ -213,7 +241,8 @@ static inline void hb_store_number(uint8_t *bytes, int64_t number)
  * hb_judge: is every matrix between the bounds positive definite?
  *
  *   n                       the order, 1 to 8
- *   low, high               the bounds: HB_TABLE_BYTES(n) bytes each, entries within +-2^20, symmetric, no entry of low above its entry of high
+ *   low, high               the bounds: HB_TABLE_BYTES(n) bytes each, entries within +-2^20, no low of a pair above a high of the same
+ *                           pair. Their halves may differ: the mended tables count, and low and high are only read
  *   factor                  HB_TABLE_BYTES(n) bytes, written where the answer is HB_DEFINITE and kept as they were where it is any other
  *   vector                  HB_VECTOR_BYTES(n) bytes, written where the answer is HB_NOT_DEFINITE and kept as they were where it is any other
  *   low_len, high_len,      the lengths of the four buffers, in bytes. All four have their full size in every call: which of the two outputs will be
@@ -236,7 +265,7 @@ static inline void hb_store_number(uint8_t *bytes, int64_t number)
  *   HB_REFUSED_LENGTH    a length is not HB_TABLE_BYTES(n), or HB_VECTOR_BYTES(n) for the vector; too long is refused like too short
  *   HB_REFUSED_RANGE     an entry of low or high is beyond +-2^20
  *   HB_REFUSED_CROSSED   an entry of low is above its entry of high
- *   HB_REFUSED_LOPSIDED  low or high is not symmetric
+ *   HB_REFUSED_LOPSIDED  low(i,j) is above high(j,i) for some i and j: the pair leaves no number
  *
  * and nothing else. What factor and vector hold before the call plays no part.
  *
@@ -251,13 +280,14 @@ int64_t hb_judge(int64_t n, const uint8_t *low, size_t low_len, const uint8_t *h
  * hb_test_factor: does this factor show that every matrix between the bounds is positive definite?
  *
  *   n                   the order, 1 to 8
- *   low, high           the bounds: HB_TABLE_BYTES(n) bytes each, entries within +-2^20, symmetric, no entry of low above its entry of high
+ *   low, high           the bounds: HB_TABLE_BYTES(n) bytes each, entries within +-2^20, no low of a pair above a high of the same pair.
+ *                       Their halves may differ: the mended tables count, and low and high are only read
  *   factor              the offered Cholesky factor R, scaled by 2^16: HB_TABLE_BYTES(n) bytes, upper triangular (0 below the diagonal), diagonal
  *                       entries 1 to 2^26, entries above the diagonal within +-2^26
  *   low_len, high_len,  the lengths of the three buffers, in bytes
  *   factor_len
  *
- * Let P(i,j) be the sum over k of R(k,i) * R(k,j). The test asks of every row i that
+ * Let P(i,j) be the sum over k of R(k,i) * R(k,j). The test asks of every row i, with the mended low and high, that
  *
  *     2^32 * low(i,i) - P(i,i)  >=  the sum over j other than i of the greater of |2^32 * low(i,j) - P(i,j)| and |2^32 * high(i,j) - P(i,j)|
  *
@@ -271,7 +301,7 @@ int64_t hb_judge(int64_t n, const uint8_t *low, size_t low_len, const uint8_t *h
  *   HB_REFUSED_LENGTH    a length is not HB_TABLE_BYTES(n); too long is refused like too short
  *   HB_REFUSED_RANGE     an entry of low or high is beyond +-2^20
  *   HB_REFUSED_CROSSED   an entry of low is above its entry of high
- *   HB_REFUSED_LOPSIDED  low or high is not symmetric
+ *   HB_REFUSED_LOPSIDED  low(i,j) is above high(j,i) for some i and j: the pair leaves no number
  *   HB_REFUSED_FACTOR    the factor is not of the form above
  *
  * and nothing else. Nothing is written.
@@ -285,13 +315,14 @@ int64_t hb_test_factor(int64_t n, const uint8_t *low, size_t low_len, const uint
  * hb_test_vector: does this vector show that not every matrix between the bounds is positive definite?
  *
  *   n                   the order, 1 to 8
- *   low, high           the bounds: HB_TABLE_BYTES(n) bytes each, entries within +-2^20, symmetric, no entry of low above its entry of high
+ *   low, high           the bounds: HB_TABLE_BYTES(n) bytes each, entries within +-2^20, no low of a pair above a high of the same pair.
+ *                       Their halves may differ: the mended tables count, and low and high are only read
  *   vector              the offered witness vector x: HB_VECTOR_BYTES(n) bytes, entries within +-2^15, not all zero
  *   low_len, high_len,  the lengths of the three buffers, in bytes
  *   vector_len
  *
- * The least value of x is the sum over all i and j of x(i) * x(j) * m(i,j), where m(i,j) is low(i,j) if i = j or x(i) * x(j) > 0, and high(i,j) if not.
- * The answer is yes exactly if it is 0 or less.
+ * The least value of x is the sum over all i and j of x(i) * x(j) * m(i,j), where m(i,j), of the mended tables, is low(i,j) if i = j or
+ * x(i) * x(j) > 0, and high(i,j) if not. The answer is yes exactly if it is 0 or less.
  *
  * Returns
  *
@@ -301,7 +332,7 @@ int64_t hb_test_factor(int64_t n, const uint8_t *low, size_t low_len, const uint
  *   HB_REFUSED_LENGTH    a length is not HB_TABLE_BYTES(n), or HB_VECTOR_BYTES(n) for the vector; too long is refused like too short
  *   HB_REFUSED_RANGE     an entry of low or high is beyond +-2^20
  *   HB_REFUSED_CROSSED   an entry of low is above its entry of high
- *   HB_REFUSED_LOPSIDED  low or high is not symmetric
+ *   HB_REFUSED_LOPSIDED  low(i,j) is above high(j,i) for some i and j: the pair leaves no number
  *   HB_REFUSED_VECTOR    the vector is all zero, or an entry is beyond +-2^15
  *
  * and nothing else. Nothing is written.
@@ -315,7 +346,8 @@ int64_t hb_test_vector(int64_t n, const uint8_t *low, size_t low_len, const uint
  * hb_box: between which numbers does each coordinate of the ellipsoid lie?
  *
  *   n                        the order, 1 to 8
- *   low, high                the bounds: HB_TABLE_BYTES(n) bytes each, entries within +-2^20, symmetric, no entry of low above its entry of high
+ *   low, high                the bounds: HB_TABLE_BYTES(n) bytes each, entries within +-2^20, no low of a pair above a high of the same
+ *                            pair. Their halves may differ: the mended tables count, and low and high are only read
  *   linear_low, linear_high  the ends of the linear terms a: HB_VECTOR_BYTES(n) bytes each, terms within +-2^36, none of linear_low above
  *                            its term of linear_high
  *   limit                    the limit, a number within +-2^54
@@ -348,7 +380,7 @@ int64_t hb_test_vector(int64_t n, const uint8_t *low, size_t low_len, const uint
  *   HB_REFUSED_RANGE     an entry of low or high is beyond +-2^20, a term of linear_low or linear_high beyond +-2^36, the limit beyond
  *                        +-2^54, or an entry of the centre beyond +-2^12
  *   HB_REFUSED_CROSSED   an entry of low is above its entry of high
- *   HB_REFUSED_LOPSIDED  low or high is not symmetric
+ *   HB_REFUSED_LOPSIDED  low(i,j) is above high(j,i) for some i and j: the pair leaves no number
  *   HB_REFUSED_REVERSED  a term of linear_low is above its term of linear_high
  *   HB_REFUSED_FLAT      t is 0: with 1 taken off the diagonal factoring does not end. Not every matrix from low to high is positive
  *                        definite, or by too little, or the bounds are too far apart to show it. Linear terms, limit and centre play no
@@ -380,8 +412,8 @@ typedef struct {
  *
  *   sample                   five numbers, finite and within +-8. It is passed by value
  *   n                        the order of the sums: 4, HB_SAMPLE_ORDER
- *   low, high                the tables of the sums: HB_TABLE_BYTES(4) = 128 bytes each, entries within +-2^20, symmetric, no entry of low above
- *                            its entry of high
+ *   low, high                the tables of the sums: HB_TABLE_BYTES(4) = 128 bytes each, entries within +-2^20, no low of a pair above a
+ *                            high of the same pair. Their halves may differ: they are mended before the sample is added
  *   linear_low, linear_high  the ends of their linear terms: HB_VECTOR_BYTES(4) = 32 bytes each, terms within +-2^36, none of linear_low above
  *                            its term of linear_high
  *   running_limit            their running limit, a number within +-2^54: HB_NUMBER_BYTES = 8 bytes
@@ -392,6 +424,9 @@ typedef struct {
  *
  * All five buffers are read, and where the answer is HB_TAKEN all are written. Sums begin with all bytes 0, and are handed over for one sample after
  * the other.
+ *
+ * low and high are mended, and the sample is added to the mended tables. So HB_TAKEN leaves the mended sums plus the sample, and the tables
+ * are symmetric then, whatever they were before. Sums that began with all bytes 0 and were fed samples alone are symmetric always.
  *
  * Each of the five numbers is multiplied by 16. F(0) to F(3), of the factors, and D, of the draw, lie between the whole numbers next below and next
  * above, which are equal where the product is a whole number; -0 is 0. low(i,j) gains the least and high(i,j) the greatest of the four products of an
@@ -411,11 +446,13 @@ typedef struct {
  *   HB_REFUSED_RANGE     an entry of low or high is beyond +-2^20, a term of linear_low or linear_high beyond +-2^36, or the running limit beyond
  *                        +-2^54
  *   HB_REFUSED_CROSSED   an entry of low is above its entry of high
- *   HB_REFUSED_LOPSIDED  low or high is not symmetric
+ *   HB_REFUSED_LOPSIDED  low(i,j) is above high(j,i) for some i and j: the pair leaves no number
  *   HB_REFUSED_REVERSED  a term of linear_low is above its term of linear_high
- *   HB_REFUSED_FULL      with the sample in it, one of the sums would be beyond its range. The sums are good ones still, and are full for this sample
+ *   HB_REFUSED_FULL      with the sample in it, one of the mended sums would be beyond its range. The sums are good ones still, and are
+ *                        full for this sample
  *
- * and nothing else. On a refusal no sum is altered, on HB_REFUSED_FULL neither: the sample is dropped, and the sums stand for the samples before it.
+ * and nothing else. On a refusal no sum is altered, and none is mended, on HB_REFUSED_FULL neither: the sample is dropped, and the sums
+ * stand for the samples before it.
  *
  * Buffers: at any address; none overlaps another. Nothing is allocated. Reentrant.
  * Stack: HB_GATHER_STACK bytes.
@@ -427,7 +464,8 @@ int64_t hb_gather(hb_sample sample, int64_t n, uint8_t *low, size_t low_len, uin
  * hb_read_sums: the limit that running sums give with an allowance, after the checks of all that hb_box will be handed but the centre.
  *
  *   n                        the order of the sums, 1 to 8: that of samples is 4
- *   low, high                their tables: HB_TABLE_BYTES(n) bytes each, entries within +-2^20, symmetric, no entry of low above its entry of high
+ *   low, high                their tables: HB_TABLE_BYTES(n) bytes each, entries within +-2^20, no low of a pair above a high of the same
+ *                            pair. Their halves may differ: low and high are only read
  *   linear_low, linear_high  the ends of their linear terms: HB_VECTOR_BYTES(n) bytes each, terms within +-2^36, none of linear_low above its
  *                            term of linear_high
  *   running_limit            their running limit, a number within +-2^54, as a number: hb_load_number reads it from the bytes that hb_gather keeps it in
@@ -439,8 +477,9 @@ int64_t hb_gather(hb_sample sample, int64_t n, uint8_t *low, size_t low_len, uin
  *   linear_high_len,
  *   limit_len
  *
- * The limit is allowance + running_limit. The tables and linear terms of the sums are handed to hb_judge and hb_box as they are, and the limit to hb_box
- * as a number, by hb_load_number. The same sums may be read with another allowance at any time.
+ * The limit is allowance + running_limit. The tables and linear terms of the sums are handed to hb_judge and hb_box as they are, which mend
+ * the tables for themselves, and the limit to hb_box as a number, by hb_load_number. The same sums may be read with another allowance at
+ * any time.
  *
  * Returns
  *
@@ -451,7 +490,7 @@ int64_t hb_gather(hb_sample sample, int64_t n, uint8_t *low, size_t low_len, uin
  *   HB_REFUSED_RANGE     an entry of low or high is beyond +-2^20, a term of linear_low or linear_high beyond +-2^36, the running limit beyond +-2^54,
  *                        the allowance below 0 or above 2^40, or the limit would be beyond +-2^54
  *   HB_REFUSED_CROSSED   an entry of low is above its entry of high
- *   HB_REFUSED_LOPSIDED  low or high is not symmetric
+ *   HB_REFUSED_LOPSIDED  low(i,j) is above high(j,i) for some i and j: the pair leaves no number
  *   HB_REFUSED_REVERSED  a term of linear_low is above its term of linear_high
  *
  * and nothing else. Any 64-bit running limit and allowance are answered. What the limit's buffer holds before the call plays no part.
@@ -468,7 +507,8 @@ int64_t hb_read_sums(int64_t n, const uint8_t *low, size_t low_len, const uint8_
  * hb_write_summary: writes the summary file of a problem.
  *
  *   n                        the order, 1 to 8
- *   low, high                the bounds: HB_TABLE_BYTES(n) bytes each, entries within +-2^20, symmetric, no entry of low above its entry of high
+ *   low, high                the bounds: HB_TABLE_BYTES(n) bytes each, entries within +-2^20, no low of a pair above a high of the same
+ *                            pair. Their halves may differ: the mended tables are written to the file, and low and high are only read
  *   linear_low, linear_high  the ends of the linear terms: HB_VECTOR_BYTES(n) bytes each, terms within +-2^36, none of linear_low above its term of
  *                            linear_high
  *   limit                    the limit, a number within +-2^54: not a running limit, of which hb_read_sums makes it
@@ -481,8 +521,9 @@ int64_t hb_read_sums(int64_t n, const uint8_t *low, size_t low_len, const uint8_
  *   centre_len, file_len
  *
  * What is asked is what hb_box asks of a problem before 8. So a problem that hb_box answers by any number but 1 to 5 and 16 has a file, also one that is
- * not definite. The bytes depend on the numbers alone: two problems have the same file exactly if they are the same. hb_read_summary takes the file back
- * to these numbers, and the program "judge" reads it.
+ * not definite. The file has the mended tables, and all else as it is handed over. Its bytes depend on the numbers alone: two problems have
+ * the same file exactly if they are the same once mended. hb_read_summary takes the file back to the mended problem, so to these very
+ * numbers where low and high are symmetric, and the program "judge" reads it.
  *
  * Returns
  *
@@ -493,7 +534,7 @@ int64_t hb_read_sums(int64_t n, const uint8_t *low, size_t low_len, const uint8_
  *   HB_REFUSED_RANGE     an entry of low or high is beyond +-2^20, a term of linear_low or linear_high beyond +-2^36, the limit beyond +-2^54, or an
  *                        entry of the centre beyond +-2^12. Numbers are looked at whole: 2^32 + 4 is not written as 4
  *   HB_REFUSED_CROSSED   an entry of low is above its entry of high
- *   HB_REFUSED_LOPSIDED  low or high is not symmetric
+ *   HB_REFUSED_LOPSIDED  low(i,j) is above high(j,i) for some i and j: the pair leaves no number
  *   HB_REFUSED_REVERSED  a term of linear_low is above its term of linear_high
  *
  * and nothing else. What file holds before the call plays no part.
@@ -521,15 +562,18 @@ int64_t hb_write_summary(int64_t n, const uint8_t *low, size_t low_len, const ui
  *   linear_high_len,
  *   limit_len, centre_len
  *
- * Where the answer is HB_WRITTEN the seven buffers are written whole. order has n and limit the limit, as numbers. The tables of order n stand in the
- * first HB_TABLE_BYTES(n) bytes, row by row with n entries to a row, the vectors in the first HB_VECTOR_BYTES(n) bytes, and all bytes behind them are 0.
- * So they go on to the other functions as they are:
+ * Where the answer is HB_WRITTEN the seven buffers are written whole. order has n and limit the limit, as numbers. low and high have the
+ * mended tables of the file. The tables of order n stand in the first HB_TABLE_BYTES(n) bytes, row by row with n entries to a row, the
+ * vectors in the first HB_VECTOR_BYTES(n) bytes, and all bytes behind them are 0. So they go on to the other functions as they are:
  *
  *     n = hb_load_number(order);
  *     ... hb_judge(n, low, HB_TABLE_BYTES(n), high, HB_TABLE_BYTES(n), ...
  *
- * and hb_write_summary, with HB_SUMMARY_BYTES(n) bytes for a file, writes the file that was read, byte for byte. Where the answer is any other number,
- * all seven are kept as they were.
+ * and hb_write_summary, with HB_SUMMARY_BYTES(n) bytes for a file, writes the file that was read, byte for byte, exactly if the tables in
+ * it are symmetric. Where they are not, it writes the one file of the mended problem, which has the same size and is read as the same
+ * numbers.
+ *
+ * Where the answer is any other number, all seven are kept as they were.
  *
  * Returns
  *
@@ -547,7 +591,7 @@ int64_t hb_write_summary(int64_t n, const uint8_t *low, size_t low_len, const ui
  *   HB_REFUSED_RANGE     an entry of low or high is beyond +-2^20, a term of linear_low or linear_high beyond +-2^36, the limit beyond +-2^54, or an
  *                        entry of the centre beyond +-2^12
  *   HB_REFUSED_CROSSED   an entry of low is above its entry of high
- *   HB_REFUSED_LOPSIDED  low or high is not symmetric
+ *   HB_REFUSED_LOPSIDED  low(i,j) is above high(j,i) for some i and j: the pair leaves no number
  *   HB_REFUSED_REVERSED  a term of linear_low is above its term of linear_high
  *
  * and nothing else, asked in this order. What the seven buffers hold before the call plays no part.
