@@ -90,7 +90,7 @@ contentsOf p Kind.Limit = bytesOf w64 (p .constraint .limit ∷ []) 1
 contentsOf p Kind.Centre = bytesOf w64 (p .centre) (p .constraint .order)
 contentsOf p Kind.LinearHigh = bytesOf w64 (p .constraint .linear .high) (p .constraint .order)
 
--- R24.1: the file of a problem
+-- R17.6: the seven fields of a problem, with its tables as they stand
 unfoldable pub fileOf : Problem → List ℕ
 fileOf p = wholeFile (contentsOf p)
 
@@ -186,7 +186,7 @@ SymmetricTables p = let c = p .constraint in Symmetric (c .order) (c .low) (c .h
 pub record ReadingMeaning (s : List ℕ) (r : Reading) : Type 0 where
   -- it is let through
   pub through : r .checked ≡ Checked.Passed → LetThrough (r .problem)
-  -- it is the mended one of the problem that the file spells, and the file is the one file of that (R17.5, R24.1)
+  -- it is the mended one of the problem that the file spells (R17.5), and the file is the seven fields of that, no more (R17.6)
   pub problem : r .checked ≡ Checked.Passed → r .problem ≡ mendedProblem (spelledBy s)
   pub spelled : r .checked ≡ Checked.Passed → fileOf (spelledBy s) ≡ s
   -- R24.3: its own file is s, byte for byte, where the tables of s are symmetric, and only there

@@ -40,9 +40,6 @@ module _ {x x′ : List ℤ} (p : Padded x x′) where
   pub padded-at : (n : ℕ) → at n x′ ≡ at n x
   padded-at n = rw (p .list) (at-padded n x (p .rest))
 
-  pub padded-length : length x ≤ length x′
-  padded-length = omega (arith, ap length (p .list) ∙ length-append x (zeros (p .rest)))
-
 -- numbers laid over zeros
 pub laid-zeros : (room : ℕ) (x : List ℤ) → length x ≤ room → Padded x (x ++ drop (length x) (zeros room))
 laid-zeros room x h = record { rest = room - length x; list = ap (λ (z : List ℤ). x ++ z) (split room (length x) h) }

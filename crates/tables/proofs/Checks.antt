@@ -1,4 +1,5 @@
--- Laws of the checks: of &&, of `all`, of each test and of `firstRefusal`; and that tables pass exactly where they are bounds.
+-- Laws of the checks: of &&, of `all`, of each test and of `firstRefusal`; that the mended tables of tables which pass are bounds, and that tables pass
+-- exactly where each pair does.
 use mathlib.Core.Path.{_≡_, refl, sym, ap, _∙_, subst}
 use mathlib.Core.Logic.{_⊎_, inl, inr}
 use mathlib.Core.Bool.{Bool, true, false, false≢true, not, _&&_}

@@ -1,17 +1,17 @@
 -- Laws of the mended tables, R2.10 of docs/RULES.md: they are symmetric, symmetric tables are mended already, mending twice is mending once, zeros
 -- behind a table play no part, and the members of tables are the members of the mended ones.
-use mathlib.Core.Path.{_≡_, refl, sym, ap, ap₂, _∙_}
-use mathlib.Core.List.{List, [], _++_, append-nil}
+use mathlib.Core.Path.{_≡_, refl, sym, ap, _∙_}
+use mathlib.Core.List.{List, _++_, append-nil}
 use Prim.Native.Nat.{ℕ, _+_, _*_, _/_, _%_, _≤_, _<_}
 use native.Mathlib.Omega.{arith}
 use lib.IntN.{ℤ, pos, _*ℤ_}
-use lib.Signed.{_≤ℤ_, ≤ℤ-refl}
-use lib.ListN.{length, take, drop, replicate, take-append-drop, length-append, length-drop, drop-of-length-le, List·getD-append}
+use lib.Signed.{_≤ℤ_}
+use lib.ListN.{length, take, drop, take-append-drop, length-append, length-drop, drop-of-length-le, List·getD-append}
 use lib.Seq.{ext-getD, getD-take, length-take-le, drop-at}
 use Rattle.integers.specs.Numbers.{minℤ, maxℤ}
 use Rattle.integers.proofs.Parts.{≤ℤ-antisym, ≤ℤ-trans, pos-nonneg}
 use Rattle.integers.proofs.Order.{*ℤ-mono, min-by, max-by, min-≤ˡ, min-≤ʳ, ≤-maxˡ, ≤-maxʳ, max-≤}
-use Rattle.tables.specs.Matrix.{Matrix, nth, at, table}
+use Rattle.tables.specs.Matrix.{Matrix, at, table}
 use Rattle.tables.specs.Mending.{mendedBy, mendedLow, mendedHigh, Symmetric}
 use Rattle.tables.specs.Members.{Member, PositiveDefinite}
 use Rattle.tables.specs.Entering.{lowBounds, highBounds}
@@ -35,7 +35,7 @@ smaller-pairing = record { turned = λ x y. ≤ℤ-antisym (one x y) (one y x); 
     one x y = min-by y x (λ z. minℤ x y ≤ℤ z) (λ h. min-≤ʳ x y) (λ h. min-≤ˡ x y)
 
 -- ---- a table is its entries, and what stands behind them
-pub table-whole : (n : ℕ) (t : List ℤ) (M : Matrix) → n * n ≤ length t → ((i j : ℕ) → i < n → j < n → at n t i j ≡ M i j) →
+table-whole : (n : ℕ) (t : List ℤ) (M : Matrix) → n * n ≤ length t → ((i j : ℕ) → i < n → j < n → at n t i j ≡ M i j) →
     t ≡ table n M ++ drop (n * n) t
 unfolding table
 table-whole n t M h e = sym (take-append-drop (n * n) t) ∙ ap (λ (z : List ℤ). z ++ drop (n * n) t) front
@@ -46,7 +46,7 @@ table-whole n t M h e = sym (take-append-drop (n * n) t) ∙ ap (λ (z : List �
         (λ k l. let q : k < n * n = omega (arith, l, length-take-le (n * n) t h) in
         getD-take (n * n) t k (pos 0) q ∙ nth-at n k t ∙ e (k / n) (k % n) (row-inside n k q) (column-inside n k q) ∙ sym (nth-tabulate (n * n) _ k q))
 
-pub at-front : (n : ℕ) (M : Matrix) (r : List ℤ) (i j : ℕ) → i < n → j < n → at n (table n M ++ r) i j ≡ M i j
+at-front : (n : ℕ) (M : Matrix) (r : List ℤ) (i j : ℕ) → i < n → j < n → at n (table n M ++ r) i j ≡ M i j
 unfolding at
 at-front n M r i j h k = List·getD-append (table n M) r (pos 0) (i * n + j) (omega (arith, inside h k, length-table n M)) ∙ at-table n M i j h k
 
@@ -59,10 +59,6 @@ module _ (m : ℤ → ℤ → ℤ) (n : ℕ) where
   pub mended-length : (t : List ℤ) → n * n ≤ length t → length (mendedBy m n t) ≡ length t
   unfolding mendedBy
   mended-length t h = rw (length-append, length-table, length-drop) (omega arith)
-
-  pub mended-behind : (t : List ℤ) → drop (n * n) (mendedBy m n t) ≡ drop (n * n) t
-  unfolding mendedBy
-  mended-behind t = drop-at (table n _) (drop (n * n) t) (n * n) (length-table n _)
 
   -- what stands behind the n² numbers of x plays no part
   pub mended-over : (x r : List ℤ) → length x ≡ n * n → at n (x ++ r) ≡ at n x → mendedBy m n (x ++ r) ≡ mendedBy m n x ++ r

@@ -92,7 +92,8 @@ checkReversed n a b = record { passes = nowhereCrossed n a b; otherwise = Revers
 unfoldable pub entryChecks : ℤ → Bool → List Check
 entryChecks n sized = checkOrder n ∷ checkLength sized ∷ []
 
--- 3 and 4 of bounds l and u of order n as they are handed in, and 5 of the mended ones: `others` says whether the act's other numbers are in their ranges
+-- 3 and 4 of bounds l and u of order n as they are handed in, and 5 of the mended ones: `others` says whether the act's other numbers
+-- are in their ranges
 unfoldable pub boundsChecks : Bool → ℕ → List ℤ → List ℤ → List Check
 boundsChecks others n l u = checkRange (others && tablesWithin (n * n) l u) ∷ checkCrossed n l u ∷ checkLopsided n l u ∷ []
 

@@ -31,7 +31,7 @@ endsOf a b = record { low = nth a; high = nth b }
 abbrev pub endsIn : Constraint → Ends
 endsIn c = endsOf (c .linear .low) (c .linear .high)
 
--- R2.10: the same with the mended tables
+-- R2.10: a constraint, and a problem, with its tables mended
 abbrev pub mendedConstraint : Constraint → Constraint
 mendedConstraint c =
     constraintOf (c .order) (mendedLow (c .order) (c .low)) (mendedHigh (c .order) (c .high)) (c .linear .low) (c .linear .high) (c .limit)

@@ -39,7 +39,8 @@ pub fn check_entry(n: i64, sized: bool) -> Checked
 // says whether the call's other numbers are in their ranges.
 pub fn check_laid(n: usize, within: bool, l: &mut Table, u: &mut Table) -> Checked
     requires { ⌜ (n ≤ greatestOrder) × (n * n ≤ tableRoom) × Rooms (now l) (now u) ⌝ }
-    ensures { λ r. ⌜ Mended (boundsChecks within n (now (l .entry)) (now (u .entry))) n (now (l .entry)) (now (u .entry)) r (now (l .exit)) (now (u .exit)) ⌝ }
+    ensures { λ r. ⌜ Mended (boundsChecks within n (now (l .entry)) (now (u .entry))) n (now (l .entry)) (now (u .entry)) r (now (l .exit))
+        (now (u .exit)) ⌝ }
 {
     mend_bounds(n, within, l, u)
 }
@@ -48,7 +49,8 @@ pub fn check_laid(n: usize, within: bool, l: &mut Table, u: &mut Table) -> Check
 // says whether all buffers of the call have their sizes, `within` whether its other numbers are in their ranges.
 fn check_door(n: i64, sized: bool, within: bool, l: &mut Table, u: &mut Table) -> Checked
     requires { ⌜ Rooms (now l) (now u) ⌝ }
-    ensures { λ r. ⌜ Mended (doorChecks n sized within (now (l .entry)) (now (u .entry))) (orderOf n) (now (l .entry)) (now (u .entry)) r (now (l .exit)) (now (u .exit)) ⌝ }
+    ensures { λ r. ⌜ Mended (doorChecks n sized within (now (l .entry)) (now (u .entry))) (orderOf n) (now (l .entry)) (now (u .entry)) r
+        (now (l .exit)) (now (u .exit)) ⌝ }
 {
     let checked = check_entry(n, sized);
     if let Checked::Refused(r) = checked {

@@ -1,5 +1,5 @@
 use mathlib.Core.Path.{_≡_, sym, _∙_}
-use mathlib.Core.Bool.{false, false≢true}
+use mathlib.Core.Bool.{false≢true}
 use borrow.Author.Needs.{needs}
 use Rattle.tables.specs.Checks.{checkLopsided, boundsChecks}
 use Rattle.tables.proofs.Checks.{false-of, call-false, call-true, first-passes, first-refuses, first-none, passed-bounded}

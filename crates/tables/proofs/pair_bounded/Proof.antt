@@ -1,5 +1,4 @@
 use mathlib.Core.Path.{_≡_, _∙_}
-use mathlib.Core.Bool.{true, false}
 use borrow.Author.Needs.{needs}
 use Rattle.integers.proofs.Machine.{clean}
 use Rattle.tables.specs.Pairs.{pairEven, pairBounded}

@@ -1,6 +1,5 @@
 use mathlib.Core.Path.{_≡_, _∙_}
-use mathlib.Core.Bool.{true, false}
-use lib.Signed.{leZ}
+use mathlib.Core.Bool.{true}
 use borrow.Author.Needs.{needs}
 use Rattle.integers.proofs.Parts.{leZ-true, leZ-false}
 use Rattle.integers.proofs.Machine.{clean, lt-yes, lt-no}

@@ -1,5 +1,5 @@
 -- The loop's invariant: the first i rows are joined, in both tables. The measure is how many are left.
-use mathlib.Core.Path.{_≡_, refl, sym, ap, _∙_}
+use mathlib.Core.Path.{_≡_, refl, ap, _∙_}
 use mathlib.Core.List.{List}
 use Prim.Native.Nat.{_*_, _-_, _≤_}
 use native.Mathlib.Omega.{arith}
@@ -35,7 +35,7 @@ mend-spec =
     (λ c. (omega arith, refl, refl))
     (λ c κs.
     let l = c .before .before .before in
-    (l .before .pre .0, omega arith, omega (arith, low-kept l), omega (arith, high-kept l)))
+    (l .before .pre .0, omega arith, omega (arith, low-kept l, high-kept l), omega (arith, low-kept l, high-kept l)))
     (λ c. omega arith)
     (λ c. omega arith)
     (λ c.
