@@ -118,6 +118,26 @@ fn residual_unfit() {
     print_two(b"high", &short);
 }
 
+// The same residual, of tables whose halves are rounded apart: mended they are the same tables.
+fn residual_apart() {
+    let low = [2i64, 0, 1, 2];
+    let high = [3i64, 1, 2, 3];
+    let factor = [89738i64, 47861, 0, 75910];
+    let mut from_low = [5i64; 4];
+    let mut from_high = [5i64; 4];
+    let written = residual::residual::residual(
+        2,
+        &low,
+        &high,
+        &factor,
+        &mut from_low,
+        &mut from_high,
+    );
+    print_checked(b"residual", written);
+    print_four(b"low", &from_low);
+    print_four(b"high", &from_high);
+}
+
 // The entries (1,1), (1,8), (8,7) and (8,8) of a table of order 8.
 fn print_corners(word: &[u8], x: &[i64; 64])
     requires { ⌜ length (now word) ≤ 16 ⌝ }
@@ -373,6 +393,7 @@ fn main() {
     definite();
     residuals();
     residual_unfit();
+    residual_apart();
     residual_widest();
     not_definite();
     refused();

@@ -142,10 +142,10 @@ lines =
     ∷ refusedFile (fieldsOf (1 ∷ 2 ∷ 1 ∷ []) []) Again
     ∷ refusedFile (fieldsOf (1 ∷ 3 ∷ 2 ∷ []) []) Falling
     ∷ refusedFile (fieldsOf (2 ∷ 1 ∷ []) (3 ∷ [])) Falling
-    -- halves rounded apart: judge, factor test and box on the mended tables, W39, W43 and W44
+    -- halves rounded apart: judge, factor test, vector test and box on the mended tables, W39, W43 and W44
     ∷ bounded 2 apartLow apartHigh (definite (pos 89738 ∷ pos 47861 ∷ pos 0 ∷ pos 75910 ∷ []))
     ∷ offered-for 2 apartLow apartHigh (pos 89738 ∷ pos 47861 ∷ pos 0 ∷ pos 75910 ∷ []) Yes
-    ∷ tried-on 2 (pos 1 ∷ negsuc 0 ∷ pos 1 ∷ pos 1 ∷ []) (pos 1 ∷ pos 1 ∷ pos 2 ∷ pos 1 ∷ []) (pos 1 ∷ pos 1 ∷ []) No
+    ∷ tried-on 2 (pos 1 ∷ negsuc 2 ∷ pos 1 ∷ pos 1 ∷ []) (pos 1 ∷ pos 1 ∷ pos 2 ∷ pos 1 ∷ []) (pos 1 ∷ pos 1 ∷ []) No
     ∷ boxed-for 2 (pos 9 ∷ negsuc 8 ∷ pos 0 ∷ pos 9 ∷ []) (pos 9 ∷ pos 0 ∷ pos 9 ∷ pos 9 ∷ []) (pos 0 ∷ pos 0 ∷ []) (pos 0 ∷ pos 0 ∷ []) (pos 9) (pos 0 ∷ pos 0 ∷ [])
     (sides (negsuc 1 ∷ pos 2 ∷ negsuc 1 ∷ pos 2 ∷ []))
     -- a pair that leaves no number, 5; but 4 and 3 of the tables as they are handed in come first, W40 to W42
