@@ -36,7 +36,9 @@
 #define SLICE_NS 40e3
 #define MOST_NS 1e9
 
-/* Checks 1 to 5 and factoring, of an archive made for this bench: 0 where it ends, -1 where it stops, or a refusal. Lengths are in numbers. */
+/*
+ * Checks 1 to 5 and factoring, of an archive made for this bench: 0 where it ends, -1 where it stops, or a refusal. Lengths are in numbers.
+ */
 int64_t hb_bench_factor(int64_t n, const int64_t *low, size_t low_len, const int64_t *high, size_t high_len);
 
 /* Where no archive has it, its address is null. */
@@ -177,7 +179,10 @@ static int64_t tuned_box_side(int64_t n, const struct problem *problem)
                      HB_SIDES_BYTES(n));
 }
 
-/* Moves the halves of the running sums apart by 1. The first sample that is taken has them mended, so this is done before each. */
+/*
+ * Moves the halves of the running sums apart by 1. The first sample that is taken has them mended, so this is done before each, and what is
+ * measured of gathering with the halves apart includes it, on every side.
+ */
 static void move_sums_apart(void)
 {
     for (int i = 1; i < HB_SAMPLE_ORDER; i++) {
@@ -629,7 +634,7 @@ static uint64_t sum_of(const struct act *act, int64_t n)
 
 /*
  * Whether the library has an act, the same one not twice: those of FACTORING_FLOATING and after it have the library's sides of others. The
- * problems of these are symmetric, so that an archive before version 0.5 takes them too.
+ * problems of the others are symmetric, so that an archive before version 0.5 takes them too.
  */
 static int has_act(int a)
 {

@@ -201,7 +201,7 @@ fn lopsided_tables() -> Vec<Case> {
         wide("[2 0; 1 2]", "[2 0; 2 2]", "refused 5"),
         wide("[2 3; 1 2]", "[2 1; 2 2]", "refused 4"),
         wide("[2 -1048577; 1 2]", "[2 1; 2 2]", "refused 3"),
-        shown("[1 -1; 1 1]", "[1 1; 2 1]", &[1, 1], "no"),
+        shown("[1 -3; 1 1]", "[1 1; 2 1]", &[1, 1], "no"),
         Case::new(
             &format!("box, L {low}, U {high}, a = 0, α = 9, c = 0"),
             "side -2 2; side -2 2",

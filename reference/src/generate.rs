@@ -11,7 +11,7 @@ mod rides;
 mod simulated;
 
 pub use calls::{BoxCall, FactorCall, JudgeCall, VectorCall, WriteCall};
-pub use files::{DrawnFile, ReadCall};
+pub use files::{DrawnFile, Field, ReadCall};
 pub use points::{Fractions, Point};
 pub use rides::{GatherCall, SumsCall, EDGES};
 pub use simulated::{Ride, Road};

@@ -89,10 +89,11 @@ static void run_factor_case(const struct factor_case *test)
     expect(test->what, hb_test_factor(test->n, low + 1, WHOLE, high + 1, WHOLE, factor + 1, test->factor_len), test->expected);
 }
 
-/* A call of the vector test of one table as low and high, and its expected answer. */
+/* A call of the vector test and its expected answer. */
 struct vector_case {
     const char *what;
-    int64_t table[ENTRIES];
+    int64_t low[ENTRIES];
+    int64_t high[ENTRIES];
     int64_t vector[ORDER];
     size_t vector_len;
     int64_t expected;
@@ -101,20 +102,21 @@ struct vector_case {
 #define WHOLE_VECTOR HB_VECTOR_BYTES(ORDER)
 
 static const struct vector_case vector_cases[] = {
-    {"(1, -1) of [1 2; 2 1]", {1, 2, 2, 1}, {1, -1}, WHOLE_VECTOR, HB_YES},
-    {"(1, -1) of [2 1; 1 2]", MATRIX, {1, -1}, WHOLE_VECTOR, HB_NO},
-    {"a vector one byte short", MATRIX, {1, -1}, WHOLE_VECTOR - 1, HB_REFUSED_LENGTH},
-    {"the zero vector", MATRIX, {0, 0}, WHOLE_VECTOR, HB_REFUSED_VECTOR},
-    {"an entry above the range of vectors", MATRIX, {0, HB_VECTOR_RANGE + 1}, WHOLE_VECTOR, HB_REFUSED_VECTOR},
-    {"an entry at its end", MATRIX, {0, HB_VECTOR_RANGE}, WHOLE_VECTOR, HB_NO},
-    {"halves of one table that leave no number", {1, 2, 3, 1}, {1, -1}, WHOLE_VECTOR, HB_REFUSED_LOPSIDED},
+    {"(1, -1) of [1 2; 2 1]", {1, 2, 2, 1}, {1, 2, 2, 1}, {1, -1}, WHOLE_VECTOR, HB_YES},
+    {"(1, -1) of [2 1; 1 2]", MATRIX, MATRIX, {1, -1}, WHOLE_VECTOR, HB_NO},
+    {"a vector one byte short", MATRIX, MATRIX, {1, -1}, WHOLE_VECTOR - 1, HB_REFUSED_LENGTH},
+    {"the zero vector", MATRIX, MATRIX, {0, 0}, WHOLE_VECTOR, HB_REFUSED_VECTOR},
+    {"an entry above the range of vectors", MATRIX, MATRIX, {0, HB_VECTOR_RANGE + 1}, WHOLE_VECTOR, HB_REFUSED_VECTOR},
+    {"an entry at its end", MATRIX, MATRIX, {0, HB_VECTOR_RANGE}, WHOLE_VECTOR, HB_NO},
+    {"halves of one table that leave no number", {1, 2, 3, 1}, {1, 2, 3, 1}, {1, -1}, WHOLE_VECTOR, HB_REFUSED_LOPSIDED},
+    {"(1, 1) of halves apart, mended [1 1; 1 1]", {1, -3, 1, 1}, {1, 1, 2, 1}, {1, 1}, WHOLE_VECTOR, HB_NO},
 };
 
 static void run_vector_case(const struct vector_case *test)
 {
     uint8_t low[1 + WHOLE], high[1 + WHOLE], vector[1 + WHOLE_VECTOR];
-    store(low + 1, test->table, ENTRIES);
-    store(high + 1, test->table, ENTRIES);
+    store(low + 1, test->low, ENTRIES);
+    store(high + 1, test->high, ENTRIES);
     store(vector + 1, test->vector, ORDER);
     expect(test->what, hb_test_vector(ORDER, low + 1, WHOLE, high + 1, WHOLE, vector + 1, test->vector_len), test->expected);
 }
@@ -201,11 +203,12 @@ static void run_judge_case(const struct judge_case *test)
     }
 }
 
-/* A call of the box of one table as low and high, the answer it gives, and the sides it writes where that is 0. */
+/* A call of the box, the answer it gives, and the sides it writes where that is 0. */
 struct box_case {
     const char *what;
     int64_t n;
-    int64_t table[ENTRIES];
+    int64_t low[ENTRIES];
+    int64_t high[ENTRIES];
     int64_t linear_low[ORDER];
     int64_t linear_high[ORDER];
     int64_t limit;
@@ -217,7 +220,11 @@ struct box_case {
 };
 
 #define WHOLE_SIDES HB_SIDES_BYTES(ORDER)
-#define ROUND {5, 1, 1, 5}
+
+/* One table as low and high */
+#define BOTH(a, b, c, d) {a, b, c, d}, {a, b, c, d}
+
+#define ROUND BOTH(5, 1, 1, 5)
 #define ZEROS {0, 0}
 
 /* The lengths of the high linear terms and of the sides */
@@ -225,10 +232,11 @@ struct box_case {
 
 static const struct box_case box_cases[] = {
     {"box of [5 1; 1 5] from (1, 0)", 2, ROUND, {1, 1}, {1, 1}, 12, {1, 0}, GOOD, HB_BOX, {-4, 6, -4, 4}},
-    {"box of [4 0; 0 100]", 2, {4, 0, 0, 100}, ZEROS, ZEROS, 400, ZEROS, GOOD, HB_BOX, {-12, 12, -3, 3}},
+    {"box of [4 0; 0 100]", 2, BOTH(4, 0, 0, 100), ZEROS, ZEROS, 400, ZEROS, GOOD, HB_BOX, {-12, 12, -3, 3}},
     {"box of limit 0", 2, ROUND, ZEROS, ZEROS, 0, ZEROS, GOOD, HB_BOX, {0, 0, 0, 0}},
-    {"box of linear terms from -4 to 4 and 0", 2, {4, 0, 0, 4}, {-4, 0}, {4, 0}, 0, ZEROS, GOOD, HB_BOX, {-4, 4, -2, 2}},
-    {"box of linear terms from 4 to 8 and 0, from (-2, 0)", 2, {4, 0, 0, 4}, {4, 0}, {8, 0}, 0, {-2, 0}, GOOD, HB_BOX, {-7, 3, -3, 3}},
+    {"box of linear terms from -4 to 4 and 0", 2, BOTH(4, 0, 0, 4), {-4, 0}, {4, 0}, 0, ZEROS, GOOD, HB_BOX, {-4, 4, -2, 2}},
+    {"box of linear terms from 4 to 8 and 0, from (-2, 0)", 2, BOTH(4, 0, 0, 4), {4, 0}, {8, 0}, 0, {-2, 0}, GOOD, HB_BOX, {-7, 3, -3, 3}},
+    {"box of halves apart, mended [9 0; 0 9]", 2, {9, -9, 0, 9}, {9, 0, 9, 9}, ZEROS, ZEROS, 9, ZEROS, GOOD, HB_BOX, {-2, 2, -2, 2}},
     {"box of limit -1", 2, ROUND, ZEROS, ZEROS, -1, ZEROS, GOOD, HB_EMPTY, {0}},
     {"box of limit -3 and linear terms from -1 to 1", 2, ROUND, {-1, -1}, {1, 1}, -3, ZEROS, GOOD, HB_EMPTY, {0}},
     {"box of the least limit", 2, ROUND, ZEROS, ZEROS, -HB_LIMIT_RANGE, ZEROS, GOOD, HB_EMPTY, {0}},
@@ -238,18 +246,18 @@ static const struct box_case box_cases[] = {
     {"box with sides one number long", 2, ROUND, ZEROS, ZEROS, 0, ZEROS, WHOLE_VECTOR, WHOLE_SIDES + 8, HB_REFUSED_LENGTH, {0}},
     {"box with high terms one byte short", 2, ROUND, ZEROS, ZEROS, 0, ZEROS, WHOLE_VECTOR - 1, WHOLE_SIDES, HB_REFUSED_LENGTH, {0}},
     {"box with no high terms", 2, ROUND, ZEROS, ZEROS, 0, ZEROS, 0, WHOLE_SIDES, HB_REFUSED_LENGTH, {0}},
-    {"box of an entry above the range", 2, {HB_ENTRY_RANGE + 1, 1, 1, 5}, ZEROS, ZEROS, 0, ZEROS, GOOD, HB_REFUSED_RANGE, {0}},
+    {"box of an entry above the range", 2, BOTH(HB_ENTRY_RANGE + 1, 1, 1, 5), ZEROS, ZEROS, 0, ZEROS, GOOD, HB_REFUSED_RANGE, {0}},
     {"box of a low term below the range", 2, ROUND, {0, -HB_LINEAR_RANGE - 1}, ZEROS, 0, ZEROS, GOOD, HB_REFUSED_RANGE, {0}},
     {"box of a high term above the range", 2, ROUND, ZEROS, {0, HB_LINEAR_RANGE + 1}, 0, ZEROS, GOOD, HB_REFUSED_RANGE, {0}},
     {"box of a limit above the range", 2, ROUND, ZEROS, ZEROS, HB_LIMIT_RANGE + 1, ZEROS, GOOD, HB_REFUSED_RANGE, {0}},
     {"box of the least 64-bit limit", 2, ROUND, ZEROS, ZEROS, INT64_MIN, ZEROS, GOOD, HB_REFUSED_RANGE, {0}},
     {"box from a centre beyond the range", 2, ROUND, ZEROS, ZEROS, 0, {0, -HB_CENTRE_RANGE - 1}, GOOD, HB_REFUSED_RANGE, {0}},
-    {"box of a lopsided table", 2, {5, 1, 2, 5}, ZEROS, ZEROS, 0, ZEROS, GOOD, HB_REFUSED_LOPSIDED, {0}},
-    {"box of the same, the linear terms reversed", 2, {5, 1, 2, 5}, {0, 1}, ZEROS, 0, ZEROS, GOOD, HB_REFUSED_LOPSIDED, {0}},
+    {"box of a lopsided table", 2, BOTH(5, 1, 2, 5), ZEROS, ZEROS, 0, ZEROS, GOOD, HB_REFUSED_LOPSIDED, {0}},
+    {"box of the same, the linear terms reversed", 2, BOTH(5, 1, 2, 5), {0, 1}, ZEROS, 0, ZEROS, GOOD, HB_REFUSED_LOPSIDED, {0}},
     {"box of reversed linear terms", 2, ROUND, {0, 1}, ZEROS, 0, ZEROS, GOOD, HB_REFUSED_REVERSED, {0}},
-    {"box of [1 2; 2 1]", 2, {1, 2, 2, 1}, ZEROS, ZEROS, 0, ZEROS, GOOD, HB_REFUSED_FLAT, {0}},
-    {"box of the same, and far", 2, {1, 2, 2, 1}, {HB_LINEAR_RANGE, 0}, {HB_LINEAR_RANGE, 0}, 0, ZEROS, GOOD, HB_REFUSED_FLAT, {0}},
-    {"box of the same, the linear terms reversed", 2, {1, 2, 2, 1}, {1, 0}, ZEROS, 0, ZEROS, GOOD, HB_REFUSED_REVERSED, {0}},
+    {"box of [1 2; 2 1]", 2, BOTH(1, 2, 2, 1), ZEROS, ZEROS, 0, ZEROS, GOOD, HB_REFUSED_FLAT, {0}},
+    {"box of the same, and far", 2, BOTH(1, 2, 2, 1), {HB_LINEAR_RANGE, 0}, {HB_LINEAR_RANGE, 0}, 0, ZEROS, GOOD, HB_REFUSED_FLAT, {0}},
+    {"box of the same, the linear terms reversed", 2, BOTH(1, 2, 2, 1), {1, 0}, ZEROS, 0, ZEROS, GOOD, HB_REFUSED_REVERSED, {0}},
     {"box of a low term at its end", 2, ROUND, {0, -HB_LINEAR_RANGE}, ZEROS, 0, ZEROS, GOOD, HB_REFUSED_FAR, {0}},
     {"box of a high term at its end", 2, ROUND, ZEROS, {0, HB_LINEAR_RANGE}, 0, ZEROS, GOOD, HB_REFUSED_FAR, {0}},
 };
@@ -259,8 +267,8 @@ static void run_box_case(const struct box_case *test)
     uint8_t low[1 + WHOLE], high[1 + WHOLE], linear_low[1 + WHOLE_VECTOR], linear_high[1 + WHOLE_VECTOR], centre[1 + WHOLE_VECTOR];
     uint8_t sides[1 + WHOLE_SIDES + HB_NUMBER_BYTES + 1];
     int64_t answer;
-    store(low + 1, test->table, ENTRIES);
-    store(high + 1, test->table, ENTRIES);
+    store(low + 1, test->low, ENTRIES);
+    store(high + 1, test->high, ENTRIES);
     store(linear_low + 1, test->linear_low, ORDER);
     store(linear_high + 1, test->linear_high, ORDER);
     store(centre + 1, test->centre, ORDER);
@@ -268,6 +276,7 @@ static void run_box_case(const struct box_case *test)
     answer = hb_box(test->n, low + 1, WHOLE, high + 1, WHOLE, linear_low + 1, WHOLE_VECTOR, linear_high + 1, test->linear_high_len,
                     test->limit, centre + 1, WHOLE_VECTOR, sides + 1, test->sides_len);
     expect(test->what, answer, test->expected);
+    expect("the tables are as they were", holds(low + 1, test->low, ENTRIES) && holds(high + 1, test->high, ENTRIES), 1);
     if (answer == HB_BOX) {
         expect("the sides are written", holds(sides + 1, test->sides, 2 * ORDER), 1);
         expect("no byte beside them is", kept(sides, 1) && kept(sides + 1 + WHOLE_SIDES, sizeof sides - 1 - WHOLE_SIDES), 1);
@@ -376,7 +385,7 @@ static void run_numbers(void)
 /* One table may be lent as low and as high, and one buffer as both ends of the linear terms. */
 static void run_one_table(void)
 {
-    const int64_t numbers[ENTRIES] = ROUND, zeros[ORDER] = ZEROS, still[2 * ORDER] = {0, 0, 0, 0};
+    const int64_t numbers[ENTRIES] = {5, 1, 1, 5}, zeros[ORDER] = ZEROS, still[2 * ORDER] = {0, 0, 0, 0};
     const int64_t ones[ORDER] = {1, 1}, unit[ORDER] = {1, 0}, around[2 * ORDER] = {-4, 6, -4, 4};
     uint8_t table[WHOLE], factor[WHOLE], vector[WHOLE_VECTOR], terms[WHOLE_VECTOR], middle[WHOLE_VECTOR], sides[WHOLE_SIDES];
     store(table, numbers, ENTRIES);

@@ -5,7 +5,7 @@ use crate::problem::{table_size, MAX_ORDER};
 use crate::summary::{file_of_fields, problem_fields, MAX_FILE, TAG_ORDER};
 
 /// A field to be written: tag and content.
-type Field = (u8, Vec<u8>);
+pub type Field = (u8, Vec<u8>);
 
 /// A summary file, and whether it was damaged: it is another than was written
 /// for its problem, or entries of the problem were damaged before.
@@ -33,6 +33,26 @@ pub struct ReadCall {
 
 /// One call of reading in this many has an output of a wrong size.
 const FAULT_SHARE: usize = 12;
+
+impl RawProblem {
+    /// The seven fields that have the problem's numbers as they are, tags rising.
+    pub fn fields(&self) -> Vec<Field> {
+        problem_fields(
+            self.order as u8,
+            &self.low,
+            &self.high,
+            &self.linear_low,
+            &self.linear_high,
+            self.limit,
+            &self.centre,
+        )
+    }
+
+    /// The file of these fields.
+    pub fn file(&self) -> Vec<u8> {
+        file_of_fields(&self.fields())
+    }
+}
 
 impl Generator {
     /// A call of reading a summary.
@@ -170,15 +190,12 @@ fn file_fields(problem: &RawProblem) -> Vec<Field> {
         let ends = (i64::from(i32::MIN), i64::from(i32::MAX));
         table.iter().map(|m| *m.clamp(&ends.0, &ends.1)).collect()
     };
-    problem_fields(
-        problem.order as u8,
-        &four_bytes(&problem.low),
-        &four_bytes(&problem.high),
-        &problem.linear_low,
-        &problem.linear_high,
-        problem.limit,
-        &problem.centre,
-    )
+    let problem = RawProblem {
+        low: four_bytes(&problem.low),
+        high: four_bytes(&problem.high),
+        ..problem.clone()
+    };
+    problem.fields()
 }
 
 fn set_content(fields: &mut [Field], content: Vec<u8>) {

@@ -1,5 +1,6 @@
 //! Problems whose upper and lower halves differ: R2.10 and R4.5.
 
+use super::numbers::is_lopsided;
 use super::{Generator, RawProblem};
 use crate::problem::{mended, pairs, square, Table, ENTRY_RANGE};
 
@@ -26,9 +27,7 @@ impl RawProblem {
 
     /// Whether both tables are symmetric.
     pub fn is_symmetric(&self) -> bool {
-        let mirrored = |place: usize| place % self.order * self.order + place / self.order;
-        let same = |table: &[i64]| (0..table.len()).all(|k| table[k] == table[mirrored(k)]);
-        same(&self.low) && same(&self.high)
+        !is_lopsided(&self.low) && !is_lopsided(&self.high)
     }
 }
 

@@ -56,6 +56,12 @@ pub fn mirrored(place: usize, count: usize) -> usize {
     place % order * order + place / order
 }
 
+/// Whether a table is not symmetric. One that is not square is not looked at.
+pub fn is_lopsided(table: &[i64]) -> bool {
+    let (count, order) = (table.len(), table.len().isqrt());
+    order * order == count && (0..count).any(|k| table[k] != table[mirrored(k, count)])
+}
+
 /// A float's bits a little or much different.
 pub fn changed_float(bits: u32, random: &mut Random) -> u32 {
     match random.index(4) {

@@ -3,6 +3,7 @@
 use std::collections::{BTreeMap, BTreeSet};
 
 use hankboulder_reference::entries;
+use hankboulder_reference::generate::numbers::is_lopsided;
 use hankboulder_reference::generate::{Generator, RawProblem, EDGES, KINDS};
 use hankboulder_reference::judge::{verdict, List, Verdict};
 use hankboulder_reference::problem::Bounds;
@@ -122,14 +123,10 @@ fn calls_of_reading_a_summary_meet_every_answer() {
     assert_met(&counts, &answers);
 }
 
-/// Whether a table of a call is not symmetric. One that is not square is not counted.
-fn is_lopsided(low: &[u8], high: &[u8]) -> bool {
-    [low, high].iter().any(|table| {
-        let list = numbers(&table[..table.len() / 8 * 8]);
-        let order = list.len().isqrt();
-        let mirrored = |place: usize| place % order * order + place / order;
-        order * order == list.len() && (0..list.len()).any(|k| list[k] != list[mirrored(k)])
-    })
+/// Whether a table of a call is not symmetric.
+fn has_lopsided(low: &[u8], high: &[u8]) -> bool {
+    let whole = |table: &[u8]| numbers(&table[..table.len() / 8 * 8]);
+    [low, high].iter().any(|table| is_lopsided(&whole(table)))
 }
 
 /// The answers of a call that is lopsided, and how often one is in 4000 calls.
@@ -149,25 +146,25 @@ fn lopsided_calls_on_a_problem_meet_every_answer() {
     let counts = count_lopsided(|| {
         let call = own.factor_call();
         let answer = entries::test_factor(call.n, &call.low, &call.high, &call.factor);
-        (is_lopsided(&call.low, &call.high), answer)
+        (has_lopsided(&call.low, &call.high), answer)
     });
     assert_met(&counts, &[-1, 0, 1, 2, 3, 4, 5, 6]);
     let counts = count_lopsided(|| {
         let call = own.vector_call();
         let answer = entries::test_vector(call.n, &call.low, &call.high, &call.vector);
-        (is_lopsided(&call.low, &call.high), answer)
+        (has_lopsided(&call.low, &call.high), answer)
     });
     assert_met(&counts, &[-1, 0, 1, 2, 3, 4, 5, 7]);
     let counts = count_lopsided(|| {
         let mut call = own.judge_call();
         let (factor, vector) = (&mut call.factor, &mut call.vector);
         let answer = entries::judge(call.n, &call.low, &call.high, factor, vector);
-        (is_lopsided(&call.low, &call.high), answer)
+        (has_lopsided(&call.low, &call.high), answer)
     });
     assert_met(&counts, &[-2, -1, 0, 1, 2, 3, 4, 5]);
     let counts = count_lopsided(|| {
         let mut call = own.box_call();
-        (is_lopsided(&call.low, &call.high), run_box(&mut call))
+        (has_lopsided(&call.low, &call.high), run_box(&mut call))
     });
     assert_met(&counts, &[-1, 0, 1, 2, 3, 4, 5, 8, 9, 16]);
 }
@@ -177,18 +174,18 @@ fn lopsided_sums_and_summaries_meet_every_answer() {
     let mut own = Generator::new(67);
     let counts = count_lopsided(|| {
         let mut call = own.gather_call();
-        let lopsided = is_lopsided(&call.low, &call.high);
+        let lopsided = has_lopsided(&call.low, &call.high);
         (lopsided, run_gather(&mut call))
     });
     assert_met(&counts, &[0, 1, 2, 3, 4, 5, 16, 17, 18]);
     let counts = count_lopsided(|| {
         let mut call = own.sums_call();
-        (is_lopsided(&call.low, &call.high), run_sums(&mut call))
+        (has_lopsided(&call.low, &call.high), run_sums(&mut call))
     });
     assert_met(&counts, &[0, 1, 2, 3, 4, 5, 16]);
     let counts = count_lopsided(|| {
         let mut call = own.write_call();
-        (is_lopsided(&call.low, &call.high), run_write(&mut call))
+        (has_lopsided(&call.low, &call.high), run_write(&mut call))
     });
     assert_met(&counts, &[0, 1, 2, 3, 4, 5, 16]);
     // Of the files that are read, more than one in five is lopsided: not the same again.

@@ -12,7 +12,7 @@ use hankboulder_reference::random::Random;
 use hankboulder_reference::refusal::Refusal;
 use hankboulder_reference::residual::residual_tables;
 use hankboulder_reference::rides::Sample;
-use hankboulder_reference::summary::{fields, file_of_fields, problem_fields, read_problem};
+use hankboulder_reference::summary::{fields, read_problem};
 use hankboulder_reference::writer::file_of;
 
 use crate::support::{
@@ -160,18 +160,6 @@ fn offered(problem: &RawProblem) -> Offered {
     offered
 }
 
-fn raw_file(problem: &RawProblem) -> Vec<u8> {
-    file_of_fields(&problem_fields(
-        problem.order as u8,
-        &problem.low,
-        &problem.high,
-        &problem.linear_low,
-        &problem.linear_high,
-        problem.limit,
-        &problem.centre,
-    ))
-}
-
 fn sums_call(problem: &RawProblem) -> SumsCall {
     SumsCall {
         n: problem.order as i64,
@@ -210,7 +198,7 @@ fn answers(problem: &RawProblem, offered: &Offered) -> Vec<(i64, Vec<u8>)> {
     let (factor, vector) = (bytes(&offered.factor), bytes(&offered.vector));
     let (boxed, sides) = enclose_problem(problem);
     let (mut sums, mut write) = (sums_call(problem), write_call(problem));
-    let mut read = read_call(&raw_file(problem));
+    let mut read = read_call(&problem.file());
     let (sums_read, written) = (run_sums(&mut sums), run_write(&mut write));
     let (code, tables) = match residual(problem, &offered.factor) {
         Ok(tables) => (0, format!("{tables:?}").into_bytes()),
@@ -255,7 +243,7 @@ fn expect_mended(apart: &RawProblem, problem: &RawProblem) {
         answers(problem, &offered),
         "{apart:?}"
     );
-    assert_eq!(output(&raw_file(apart)), output(&raw_file(problem)));
+    assert_eq!(output(&apart.file()), output(&problem.file()));
     if problem.order == 4 {
         let drawn = sample([0.5, -0.3, 0.0, 7.9, 1.0]);
         let [mut one, mut other] = [apart, problem].map(|sums| gather_call(sums, drawn));
@@ -275,7 +263,7 @@ fn expect_refused(problem: &RawProblem, number: i64) {
     let offered = offered(problem);
     let codes: Vec<i64> = answers(problem, &offered).iter().map(|a| a.0).collect();
     assert_eq!(codes, [number; 8], "{problem:?}");
-    assert_eq!(output(&raw_file(problem)), format!("refused {number}\n"));
+    assert_eq!(output(&problem.file()), format!("refused {number}\n"));
     if problem.order == 4 {
         let before = gather_call(problem, sample([1.0; 5]));
         let mut after = before.clone();
@@ -557,11 +545,11 @@ fn a_lopsided_problem_is_written_as_the_file_of_the_mended_one() {
             let mut call = write_call(&apart);
             assert_eq!(run_write(&mut call), 0);
             // The numbers of a symmetric problem stand in its file as they are.
-            assert_eq!(call.file, raw_file(&problem));
+            assert_eq!(call.file, problem.file());
             // A file of the lopsided numbers comes back as that file.
-            let read = read_problem(&raw_file(&apart)).unwrap();
-            assert_eq!(file_of(&read), raw_file(&problem));
-            assert_eq!(read_problem(&raw_file(&problem)), Ok(read));
+            let read = read_problem(&apart.file()).unwrap();
+            assert_eq!(file_of(&read), problem.file());
+            assert_eq!(read_problem(&problem.file()), Ok(read));
         }
     }
 }

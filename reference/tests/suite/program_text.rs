@@ -123,17 +123,7 @@ fn the_program_and_the_byte_entries_agree() {
     for kind in KINDS {
         for order in 1..=8 {
             let problem = generator.problem(kind, order, order % 2 == 0);
-            let fields = problem_fields(
-                order as u8,
-                &problem.low,
-                &problem.high,
-                &problem.linear_low,
-                &problem.linear_high,
-                problem.limit,
-                &problem.centre,
-            );
-            let text = output(&file_of_fields(&fields));
-            assert_eq!(text, text_of_entries(&problem));
+            assert_eq!(output(&problem.file()), text_of_entries(&problem));
         }
     }
 }

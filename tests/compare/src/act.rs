@@ -8,7 +8,7 @@ use hankboulder_reference::rides::Sample;
 
 use crate::counts::{Counts, Outcome};
 use crate::guarded::{Guarded, Lent, Surroundings};
-use crate::lopsided::is_lopsided;
+use crate::lopsided::has_lopsided;
 use crate::variation::varied;
 
 /// The arguments of a call.
@@ -192,7 +192,7 @@ impl Act {
         while counts.answered() < answered {
             let call = (self.generate)(&mut generator);
             let outcome = self.agree(&call, random.index(8));
-            counts.add(call.n, outcome, is_lopsided(&call, self.inputs));
+            counts.add(call.n, outcome, has_lopsided(&call, self.inputs));
             let variations = if outcome.refused() {
                 VARIATIONS_OF_REFUSED
             } else {
@@ -201,7 +201,7 @@ impl Act {
             for _ in 0..variations {
                 let call = varied(&call, self.inputs, &mut random);
                 let outcome = self.agree(&call, random.index(8));
-                counts.add(call.n, outcome, is_lopsided(&call, self.inputs));
+                counts.add(call.n, outcome, has_lopsided(&call, self.inputs));
             }
         }
         counts

@@ -25,7 +25,7 @@ pub mod write_summary;
 pub use act::{Act, Call, Inputs};
 pub use counts::{Counts, Detail, Kind, Outcome};
 pub use guarded::Lent;
-pub use lopsided::is_lopsided;
+pub use lopsided::has_lopsided;
 
 /// Numbers as 8 bytes each, low byte first.
 pub fn bytes(numbers: &[i64]) -> Vec<u8> {

@@ -1,5 +1,6 @@
 //! Tables whose upper and lower halves differ.
 
+use hankboulder_reference::generate::numbers::is_lopsided;
 use hankboulder_reference::problem;
 use hankboulder_reference::summary::{decode, fields, TABLE_WIDTH, TAG_HIGH, TAG_LOW};
 
@@ -21,17 +22,12 @@ pub fn mended(low: &[u8], high: &[u8]) -> [Vec<u8>; 2] {
 
 /// Whether a table that a call is handed is not symmetric. One that is not square is
 /// not looked at.
-pub fn is_lopsided(call: &Call, inputs: Inputs) -> bool {
+pub fn has_lopsided(call: &Call, inputs: Inputs) -> bool {
     let tables = match inputs {
         Inputs::File => tables_in(&call.buffers[0]),
         _ => call.buffers[..2].iter().map(|t| whole_numbers(t)).collect(),
     };
-    tables.iter().any(|table| {
-        let order = table.len().isqrt();
-        let mirrored = |place: usize| place % order * order + place / order;
-        let differs = |place: usize| table[place] != table[mirrored(place)];
-        order * order == table.len() && (0..table.len()).any(differs)
-    })
+    tables.iter().any(|table| is_lopsided(table))
 }
 
 fn whole_numbers(bytes: &[u8]) -> Vec<i64> {

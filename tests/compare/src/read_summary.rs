@@ -8,7 +8,7 @@ use hankboulder_reference::writer::file_of;
 use crate::act::{symmetric_at_1, Act, Call, Inputs};
 use crate::counts::Outcome;
 use crate::guarded::Lent;
-use crate::lopsided::{is_lopsided, mended};
+use crate::lopsided::{has_lopsided, mended};
 use crate::write_summary::WRITE_SUMMARY;
 use crate::{bytes, numbers};
 
@@ -179,7 +179,7 @@ fn confirm(after: &Call, answer: i64) {
     WRITE_SUMMARY.expect_after(&call, WRITTEN, &buffers);
     assert_eq!(
         again != *file,
-        is_lopsided(after, Inputs::File),
+        has_lopsided(after, Inputs::File),
         "{after:?}"
     );
     if again != *file {

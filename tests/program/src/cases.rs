@@ -11,7 +11,7 @@ use hankboulder_reference::summary::{
     TAG_LINEAR_HIGH, TAG_LINEAR_LOW, TAG_LOW, TAG_ORDER,
 };
 
-use crate::problem_file::{bounds, definite, ends, fields, file, thin, wide, Fields};
+use crate::problem_file::{bounds, definite, ends, thin, wide, Fields};
 
 /// A file of the folder. A name that begins with `refused-` goes on with the
 /// number.
@@ -30,7 +30,7 @@ impl Case {
     }
 
     fn of(name: &str, problem: &RawProblem) -> Case {
-        Case::new(name, file(problem))
+        Case::new(name, problem.file())
     }
 
     /// Where the file stands.
@@ -67,7 +67,7 @@ pub fn cases() -> Vec<Case> {
 
 /// The fields of the problem that the refused files are made of, of order 2.
 fn good() -> Fields {
-    fields(&definite(2))
+    definite(2).fields()
 }
 
 /// The file of the good problem with another content for a tag.
@@ -100,7 +100,7 @@ fn cut_and_tag_refusals() -> Vec<Case> {
     no_centre_and_long_order.retain(|field| field.0 != TAG_CENTRE);
     set(&mut no_centre_and_long_order, TAG_ORDER, &[2, 0]);
     // The file of the time before tag 07
-    let case_p = fields(&thin("[4]", &[-8], 0, &[2]));
+    let case_p = thin("[4]", &[-8], 0, &[2]).fields();
     let mut past_the_end = file_of_fields(&good());
     past_the_end.pop();
     vec![
@@ -360,9 +360,9 @@ fn apart(problem: &mut RawProblem) {
 /// that fall (W31 to W33)
 fn listed() -> Vec<Case> {
     let case_p = thin("[4]", &[-8], 0, &[2]);
-    let mut falling = fields(&case_p);
+    let mut falling = case_p.fields();
     falling.reverse();
-    let mut exchanged = fields(&case_p);
+    let mut exchanged = case_p.fields();
     exchanged.swap(1, 2);
     let tags = |name: &str, fields: &str| Case::new(name, bytes(fields));
     vec![

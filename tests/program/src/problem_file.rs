@@ -1,11 +1,10 @@
-//! Files of problems.
+//! Problems that files are made of.
 
 use hankboulder_reference::cases::numbers;
-use hankboulder_reference::generate::RawProblem;
-use hankboulder_reference::summary::{file_of_fields, problem_fields};
+use hankboulder_reference::generate::{Field, RawProblem};
 
-/// The fields of a file in the order they stand: tag and content.
-pub type Fields = Vec<(u8, Vec<u8>)>;
+/// The fields of a file in the order they stand.
+pub type Fields = Vec<Field>;
 
 /// A problem whose bounds are written as in docs/RULES.md, such as `[2 1; 1 2]`,
 /// with equal ends of the linear terms.
@@ -61,22 +60,4 @@ pub fn definite(order: usize) -> RawProblem {
         limit: 5000,
         centre: indices.map(|k| k % 3 - 1).collect(),
     }
-}
-
-/// The seven fields of a problem, tags rising.
-pub fn fields(problem: &RawProblem) -> Fields {
-    problem_fields(
-        problem.order as u8,
-        &problem.low,
-        &problem.high,
-        &problem.linear_low,
-        &problem.linear_high,
-        problem.limit,
-        &problem.centre,
-    )
-}
-
-/// The file of a problem, tags rising.
-pub fn file(problem: &RawProblem) -> Vec<u8> {
-    file_of_fields(&fields(problem))
 }

@@ -16,7 +16,6 @@ use hankboulder_reference::cases::{self, bytes as hexadecimal};
 use hankboulder_reference::generate::{Generator, ProblemKind, RawProblem, KINDS};
 use hankboulder_reference::random::Random;
 use hankboulder_reference::rides::Sample;
-use hankboulder_reference::summary::{file_of_fields, problem_fields};
 
 use crate::support::{
     call_on, judge_call, places, problem_call, square, write_call, ENTRY_RANGE, FILE, SCALE, SIDES,
@@ -68,7 +67,7 @@ fn offered(problem: &RawProblem) -> Offered {
 /// Makes a call of an act on a problem.
 type Caller = fn(&RawProblem, &Offered) -> Call;
 
-/// Every act. Gathering refuses an order other than 4.
+/// Every act. Those from the box on are handed linear terms.
 const ACTS: [(&Act, Caller); 8] = [
     (&JUDGE, |p, _| judge_call(&p.low, &p.high)),
     (&TEST_FACTOR, |p, o| {
@@ -83,7 +82,7 @@ const ACTS: [(&Act, Caller); 8] = [
     }),
     (&READ_SUMS, |p, _| sums_call(p)),
     (&WRITE_SUMMARY, |p, _| write_call(p)),
-    (&READ_SUMMARY, |p, _| of_file(raw_file(p), unwritten())),
+    (&READ_SUMMARY, |p, _| of_file(p.file(), unwritten())),
 ];
 
 fn sample(numbers: [f32; 5]) -> Sample {
@@ -107,19 +106,6 @@ fn sums_call(problem: &RawProblem) -> Call {
         numbers: vec![problem.limit.min(0), 1000],
         ..call_on(&problem.low, &problem.high, &others)
     }
-}
-
-/// The file that has the problem's numbers as they are.
-fn raw_file(problem: &RawProblem) -> Vec<u8> {
-    file_of_fields(&problem_fields(
-        problem.order as u8,
-        &problem.low,
-        &problem.high,
-        &problem.linear_low,
-        &problem.linear_high,
-        problem.limit,
-        &problem.centre,
-    ))
 }
 
 /// Fails where an act does not answer a lopsided problem as it answers the one that it is
@@ -148,16 +134,21 @@ fn expect_mended(apart: &RawProblem, problem: &RawProblem) {
 }
 
 /// Fails where the library or the reference does not refuse a problem by the number, in
-/// every act, or writes.
-fn expect_refused(problem: &RawProblem, number: i64) {
+/// every one of these acts, or writes. Gathering refuses an order other than 4 before.
+fn expect_refused_by(acts: &[(&Act, Caller)], problem: &RawProblem, number: i64) {
     let offered = offered(problem);
-    for (act, call) in ACTS {
+    for (act, call) in acts {
         let other_order = act.name == GATHER.name && problem.order != ORDER;
         let number = if other_order { REFUSED_LENGTH } else { number };
         let call = call(problem, &offered);
         act.expect(&call, number);
         assert_eq!(act.agree(&call, 1).answer, number);
     }
+}
+
+/// The same of every act.
+fn expect_refused(problem: &RawProblem, number: i64) {
+    expect_refused_by(&ACTS, problem, number);
 }
 
 #[test]
@@ -280,6 +271,28 @@ fn a_half_that_would_be_mended_away_is_refused_by_3_or_4() {
     }
 }
 
+/// Each check is completed over all of the input before another begins (R5.1): a pair
+/// that leaves no number does not hide an entry that 4 or 3 refuses, before it or behind it.
+#[test]
+fn refusal_5_at_every_entry_comes_after_4_and_3_at_either_end_of_the_diagonal() {
+    for (order, i, j) in off_diagonal() {
+        for half in [(3, 3), (3, 9), (-1, -1), (-9, -1)] {
+            let lopsided = with(order, i * order + j, half);
+            for end in [0, order * order - 1] {
+                let mut crossed = lopsided.clone();
+                crossed.low[end] = crossed.high[end] + 1;
+                expect_refused(&crossed, REFUSED_CROSSED);
+                let (mut below, mut above) = (lopsided.clone(), crossed);
+                below.low[end] = -END - 1;
+                expect_refused(&below, REFUSED_RANGE);
+                // 4 too, at the other end
+                above.high[order * order - 1 - end] = END + 1;
+                expect_refused(&above, REFUSED_RANGE);
+            }
+        }
+    }
+}
+
 /// 16, 6, 7, 8 and 9 are asked of lopsided tables that are let through.
 #[test]
 fn what_comes_after_5_is_asked_of_the_mended_tables() {
@@ -287,10 +300,7 @@ fn what_comes_after_5_is_asked_of_the_mended_tables() {
         let apart = with(order, i * order + j, (-END, END));
         let mut reversed = apart.clone();
         reversed.linear_low[order - 1] = 6;
-        for (act, call) in [ACTS[3], ACTS[5], ACTS[6], ACTS[7]] {
-            let call = call(&reversed, &offered(&apart));
-            act.expect(&call, REFUSED_REVERSED);
-        }
+        expect_refused_by(&ACTS[3..], &reversed, REFUSED_REVERSED);
         let (mut flat, mut far) = (apart.clone(), apart.clone());
         flat.low[0] = 1;
         BOX.expect(&problem_call(&flat), REFUSED_FLAT);
@@ -495,7 +505,7 @@ fn round_trips_of_lopsided_files_of_every_kind_and_order() {
         for round in 0..40 {
             let problem = generator.problem(kind, order, round % 2 == 1);
             let apart = generator.rounded_apart(&problem);
-            let (symmetric, lopsided) = (raw_file(&problem), raw_file(&apart));
+            let (symmetric, lopsided) = (problem.file(), apart.file());
             let (outputs, file) = read_and_written(&lopsided);
             assert_eq!(file, symmetric, "{apart:?}");
             assert_eq!(read_and_written(&symmetric), (outputs, symmetric.clone()));

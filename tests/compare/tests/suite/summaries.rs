@@ -9,7 +9,7 @@ use hankboulder_compare::read_summary::{
     of_file, unwritten, writing_again, written_for, READ_SUMMARY, SIZES,
 };
 use hankboulder_compare::write_summary::WRITE_SUMMARY;
-use hankboulder_compare::{is_lopsided, numbers, Call, Inputs, Lent};
+use hankboulder_compare::{has_lopsided, numbers, Call, Inputs, Lent};
 use hankboulder_reference::cases::bytes as hexadecimal;
 use hankboulder_reference::generate::{Generator, ProblemKind, RawProblem, KINDS};
 
@@ -195,7 +195,7 @@ fn the_program_s_committed_files() {
             let after = READ_SUMMARY.given(&call).1;
             let again = writing_again(&of_file(file.clone(), after[1..].to_vec()));
             let same = WRITE_SUMMARY.given(&again).1[FILE] == file;
-            assert_eq!(same, !is_lopsided(&call, Inputs::File), "{name}");
+            assert_eq!(same, !has_lopsided(&call, Inputs::File), "{name}");
         } else {
             READ_SUMMARY.expect(&call, number);
         }

@@ -1,7 +1,7 @@
 //! Tags rise through a file, and every other order of its fields is refused by 19
 //! (R16.3).
 
-use hankboulder_program::problem_file::{definite, fields, file, Fields};
+use hankboulder_program::problem_file::{definite, Fields};
 use hankboulder_program::Program;
 use hankboulder_reference::program::output;
 use hankboulder_reference::summary::file_of_fields;
@@ -25,13 +25,13 @@ fn arrangements(fields: &Fields) -> Vec<Fields> {
 #[test]
 fn one_problem_with_its_fields_in_every_order() {
     let problem = definite(3);
-    let text = output(&file(&problem));
+    let text = output(&problem.file());
     let sides = "side -14 12\nside -13 13\nside -12 14\n";
     assert!(
         text.starts_with("definite\n") && text.ends_with(sides),
         "{text}"
     );
-    let rising = fields(&problem);
+    let rising = problem.fields();
     Program::under_test().expect(&file_of_fields(&rising), &text);
     let all = arrangements(&rising).into_iter();
     let others: Vec<Fields> = all.filter(|fields| *fields != rising).collect();
@@ -43,7 +43,7 @@ fn one_problem_with_its_fields_in_every_order() {
 fn each_pair_of_fields_exchanged_at_every_order() {
     let mut files = vec![];
     for order in 1..=8 {
-        let rising = fields(&definite(order));
+        let rising = definite(order).fields();
         for (first, second) in (1..7).flat_map(|second| (0..second).map(move |f| (f, second))) {
             let mut fields = rising.clone();
             fields.swap(first, second);

@@ -1,7 +1,7 @@
 //! Files with faults, and the refusal that is expected: that of the fault which
 //! is found first.
 
-use hankboulder_program::problem_file::{definite, fields, Fields};
+use hankboulder_program::problem_file::{definite, Fields};
 use hankboulder_reference::summary::{
     encode, file_of_fields, TAG_CENTRE, TAG_HIGH, TAG_LIMIT, TAG_LINEAR_HIGH, TAG_LINEAR_LOW,
     TAG_LOW, TAG_ORDER,
@@ -192,7 +192,7 @@ pub fn written(drafts: &[Draft]) -> Vec<u8> {
 /// A good file's fields, of an order, with some tags at places of their own and
 /// the other tags rising.
 pub fn arranged(order: usize, placed: &[(u8, usize)]) -> Vec<Draft> {
-    let good: Fields = fields(&definite(order));
+    let good: Fields = definite(order).fields();
     let (mut moved, mut rest): (Fields, Fields) = good
         .into_iter()
         .partition(|(tag, _)| placed.iter().any(|(of, _)| of == tag));

@@ -1,7 +1,7 @@
 //! Refusals 1, 3, 4, 5, 11, 14 and 16 at every number of a file: each entry, each
 //! order, each tag and each length; and lopsided tables that are mended.
 
-use hankboulder_program::problem_file::{definite, fields, file};
+use hankboulder_program::problem_file::definite;
 use hankboulder_program::{on_threads, Program};
 use hankboulder_reference::generate::RawProblem;
 use hankboulder_reference::program::output;
@@ -36,7 +36,7 @@ fn files_with(change: impl Fn(&mut i64, i64)) -> Vec<Vec<u8>> {
             let mut problem = definite(order);
             let (number, range) = numbers(&mut problem).swap_remove(place);
             change(number, range);
-            files.push(file(&problem));
+            files.push(problem.file());
         }
     }
     files
@@ -70,7 +70,7 @@ fn refusal_4_at_every_entry() {
         let mut problem = definite(order);
         let place = i * order + j;
         problem.low[place] = problem.high[place] + 1;
-        file(&problem)
+        problem.file()
     };
     expect_all_refused(places().map(crossed), 4);
 }
@@ -86,7 +86,7 @@ fn at_every_place(change: Change) -> Vec<Vec<u8>> {
         let (place, other) = (i * order + j, j * order + i);
         let bounds = change(problem.low[other], problem.high[other]);
         (problem.low[place], problem.high[place]) = bounds;
-        file(&problem)
+        problem.file()
     };
     let off_diagonal = places().filter(|(_, i, j)| i != j);
     off_diagonal.map(changed).collect()
@@ -145,7 +145,7 @@ fn a_pair_that_leaves_one_number_at_every_entry_off_the_diagonal() {
         for place in [i * order + j, j * order + i] {
             problem.low[place] = problem.high[place];
         }
-        thin.push(file(&problem));
+        thin.push(problem.file());
     }
     let pairs: Vec<_> = lopsided.iter().zip(&thin).collect();
     on_threads(&pairs, |(lopsided, thin)| {
@@ -161,7 +161,7 @@ fn refusal_16_at_every_term() {
             let mut problem = definite(order);
             problem.linear_low[k] = least;
             problem.linear_high[k] = most;
-            files.push(file(&problem));
+            files.push(problem.file());
         }
     }
     expect_all_refused(files, 16);
@@ -169,7 +169,7 @@ fn refusal_16_at_every_term() {
 
 /// The file of a problem of an order with another content for a tag.
 fn with(order: usize, tag: u8, content: Vec<u8>) -> Vec<u8> {
-    let mut fields = fields(&definite(order));
+    let mut fields = definite(order).fields();
     fields[usize::from(tag - TAG_ORDER)].1 = content;
     file_of_fields(&fields)
 }
@@ -185,7 +185,7 @@ fn refusal_11_of_every_other_tag() {
     let mut files = vec![];
     for tag in (0..=255).filter(|tag| !(1..=7).contains(tag)) {
         for place in [0, 7] {
-            let mut fields = fields(&definite(2));
+            let mut fields = definite(2).fields();
             fields.insert(place, (tag, vec![]));
             files.push(file_of_fields(&fields));
         }
@@ -196,9 +196,9 @@ fn refusal_11_of_every_other_tag() {
 #[test]
 fn refusal_14_of_every_other_length() {
     let mut files = vec![];
-    let of_orders = |tag: usize| (1..=8).map(move |order| fields(&definite(order))[tag].1.len());
+    let of_orders = |tag: usize| (1..=8).map(move |order| definite(order).fields()[tag].1.len());
     for order in 1..=8 {
-        for (place, (tag, content)) in fields(&definite(order)).into_iter().enumerate() {
+        for (place, (tag, content)) in definite(order).fields().into_iter().enumerate() {
             let size = content.len();
             let near = [0, 1, size - 1, size + 1, size + 4, size + 8, size + 256];
             for length in near.into_iter().chain(of_orders(place)) {

@@ -3,7 +3,7 @@
 
 use std::cmp::Ordering;
 
-use hankboulder_program::problem_file::{definite, fields, file};
+use hankboulder_program::problem_file::definite;
 use hankboulder_program::Program;
 use hankboulder_reference::program::output;
 use hankboulder_reference::summary::{
@@ -110,7 +110,7 @@ fn two_faults_of_one_field() {
 
 #[test]
 fn a_field_with_the_tag_of_an_earlier_one_is_12_unless_a_tag_falls_before() {
-    let good = fields(&definite(2));
+    let good = definite(2).fields();
     let mut files = vec![];
     for turn in 0..FIELDS {
         for (earlier, later) in (1..FIELDS).flat_map(|later| (0..later).map(move |e| (e, later))) {
@@ -134,7 +134,7 @@ fn a_field_with_the_tag_of_an_earlier_one_is_12_unless_a_tag_falls_before() {
 #[test]
 fn a_length_that_reaches_the_end_is_not_cut() {
     let program = Program::under_test();
-    let good = output(&file(&definite(2)));
+    let good = output(&definite(2).file());
     for (tag, place) in tags_and_places() {
         let mut drafts = arranged(2, &[(tag, place)]);
         put(&mut drafts, (tag, PastEnd(0)));
@@ -151,7 +151,7 @@ fn a_length_that_reaches_the_end_is_not_cut() {
 
 #[test]
 fn every_shorter_part_of_a_file_is_10_or_13() {
-    let good = fields(&definite(2));
+    let good = definite(2).fields();
     let file = file_of_fields(&good);
     let starts: Vec<usize> = (0..FIELDS)
         .map(|count| file_of_fields(&good[..count]).len())

@@ -6,7 +6,7 @@ use std::io::Write;
 use std::thread::sleep;
 use std::time::Duration;
 
-use hankboulder_program::problem_file::{definite, file, thin};
+use hankboulder_program::problem_file::{definite, thin};
 use hankboulder_program::Program;
 use hankboulder_reference::program::output;
 use hankboulder_reference::summary::MAX_FILE;
@@ -40,10 +40,10 @@ fn expect_in_pieces(file: &[u8], sizes: &'static [usize], pause: Duration) {
 
 #[test]
 fn a_file_that_comes_in_pieces() {
-    let case_p = file(&thin("[4]", &[-8], 0, &[2]));
+    let case_p = thin("[4]", &[-8], 0, &[2]).file();
     expect_in_pieces(&case_p, &[1], PAUSE);
     assert_eq!(output(&case_p), "definite\nrow 129007\nside -1 5\n");
-    let order_8 = file(&definite(8));
+    let order_8 = definite(8).file();
     expect_in_pieces(&order_8, &[1], Duration::ZERO);
     expect_in_pieces(&order_8, &[1, 2, 3, 5, 7], PAUSE);
     expect_in_pieces(&order_8, &[3, 1], PAUSE);
@@ -54,7 +54,7 @@ fn a_file_that_comes_in_pieces() {
 
 #[test]
 fn a_refused_file_that_comes_in_pieces() {
-    let good = file(&definite(3));
+    let good = definite(3).file();
     for length in [1, 2, 3, 4, good.len() - 1] {
         expect_in_pieces(&good[..length], &[1, 2], PAUSE);
     }
@@ -83,7 +83,7 @@ fn no_bytes_at_all() {
 #[test]
 fn bytes_without_end_are_15() {
     let program = Program::under_test();
-    let good = file(&definite(8));
+    let good = definite(8).file();
     for length in [
         MAX_FILE + 1,
         MAX_FILE + 2,

@@ -2,7 +2,7 @@
 
 use std::time::{Duration, Instant};
 
-use hankboulder_program::problem_file::{definite, file};
+use hankboulder_program::problem_file::definite;
 use hankboulder_program::Program;
 use hankboulder_reference::program::output;
 
@@ -29,7 +29,7 @@ fn median(program: &Program, file: &[u8]) -> Duration {
 fn a_file_of_order_8_takes_less_than_20_milliseconds() {
     let program = Program::under_test();
     // 'definite' with sides
-    let with_box = file(&definite(8));
+    let with_box = definite(8).file();
     // 'undecided': [1 3; 3 10] in the last two rows, and no tried vector shows it.
     let mut problem = definite(8);
     for place in 0..64 {
@@ -43,7 +43,7 @@ fn a_file_of_order_8_takes_less_than_20_milliseconds() {
         };
     }
     problem.high = problem.low.clone();
-    let without = file(&problem);
+    let without = problem.file();
     assert_eq!(output(&without), "undecided\nbox refused 8\n");
     for file in [with_box, without] {
         let time = median(&program, &file);

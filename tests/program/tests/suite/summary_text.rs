@@ -6,7 +6,6 @@ use std::path::{Path, PathBuf};
 use std::process::{Command, Output, Stdio};
 
 use hankboulder_program::cases::cases;
-use hankboulder_program::problem_file::file;
 use hankboulder_program::Program;
 use hankboulder_reference::cases::bytes;
 use hankboulder_reference::generate::{Generator, KINDS};
@@ -243,7 +242,7 @@ fn generated_files_are_shown_and_made_again() {
     let mut files: Vec<Vec<u8>> = (0..2000).map(|_| generator.summary_file()).collect();
     for order in 1..=8 {
         for kind in KINDS {
-            files.push(file(&generator.problem(kind, order, order % 2 == 0)));
+            files.push(generator.problem(kind, order, order % 2 == 0).file());
         }
     }
     // Tables of order 0
