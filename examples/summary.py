@@ -11,8 +11,8 @@ name they read standard input. What `show` prints, `make` takes.
 
 The upper and lower halves of low and high may differ, from a hub that rounds each entry by itself. `show`, `hex` and `make` keep the halves
 as they are given. The judge reads the mended problem: of the entries (i,j) and (j,i) the greater low and the smaller high, in both places.
-`mend` writes its file, the one that hb_write_summary writes. `show` prints of that file the numbers that hb_read_summary reads from either.
-Where the halves agree, both files are the same.
+`mend` writes the file of the mended problem, as hb_write_summary does. hb_read_summary reads the same numbers from the file and from the
+mended one, and `show` prints them of the mended one. Where the halves agree, the two files are the same.
 
 The text form is this. `#` starts a comment, and empty lines are passed over. All numbers are whole.
 

@@ -40,7 +40,7 @@
  *   HB_REFUSED_LOPSIDED refuses a pair that leaves no number: low(i,j) is above high(j,i) for some i and j, so that the greater low is
  *   above the smaller high. Halves that differ are not refused for that.
  * - A table that is lent for reading, so const, is never written: it stays as it was handed over. Only hb_gather and hb_read_summary write
- *   low and high, and what they leave there is symmetric.
+ *   low and high, and what they write there is symmetric.
  * - Where low and high are the same table its halves have to agree: two numbers for one entry leave none.
  *
  * SUMMARY FILES
