@@ -192,5 +192,5 @@ pub record ReadingMeaning (s : List ℕ) (r : Reading) : Type 0 where
   -- R24.3: its own file is s, byte for byte, where the tables of s are symmetric, and only there
   pub back : r .checked ≡ Checked.Passed → SymmetricTables (spelledBy s) → fileOf (r .problem) ≡ s
   pub only : r .checked ≡ Checked.Passed → fileOf (r .problem) ≡ s → SymmetricTables (spelledBy s)
-  -- any other file comes back as the one file of the mended problem: that is read as the same problem
+  -- and whatever the tables of s are, the file of the problem that is handed out is read as that problem again
   pub again : r .checked ≡ Checked.Passed → reading (fileOf (r .problem)) ≡ r
