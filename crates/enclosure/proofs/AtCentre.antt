@@ -10,12 +10,12 @@ use Rattle.integers.specs.Numbers.{absℤ, minℤ, maxℤ}
 use Rattle.integers.specs.Sum.{sum}
 use Rattle.integers.proofs.Parts.{≤ℤ-trans, *ℤ-nonneg, square-nonneg, gap-nonneg, pos-nonneg}
 use Rattle.integers.proofs.Solver.{_&_, ring, order, solver}
-use Rattle.integers.proofs.Order.{≤ℤ-total, *ℤ-mono, *ℤ-cancel, ≤-abs, neg-≤-abs, min-≤ˡ, min-≤ʳ, ≤-maxˡ, ≤-maxʳ}
+use Rattle.integers.proofs.Order.{*ℤ-mono, *ℤ-cancel, ≤-abs, neg-≤-abs, ≤-maxˡ, ≤-maxʳ}
 use Rattle.integers.proofs.Sums.{sum-ext, sum-+, sum-*, sum-mono}
 use Rattle.arithmetic.proofs.Between.{times-low, times-high}
-use Rattle.tables.specs.Matrix.{Matrix, form}
+use Rattle.tables.specs.Matrix.{Matrix, form, image}
 use Rattle.tables.specs.Members.{Member, Ends, Between}
-use Rattle.tables.proofs.Forms.{image, form-shift}
+use Rattle.tables.proofs.Forms.{form-shift}
 use Rattle.vectors.specs.Least.{leastValue}
 use Rattle.vectors.proofs.Showing.{least-below}
 use Rattle.centre.specs.Centre.{leastSum, greatestSum, lowGradient, highGradient, gradient, atCentre}

@@ -1,6 +1,6 @@
--- The size of an integer (R1.5 of docs/RULES.md), and the smaller and the greater of two.
+-- The size of an integer (R1.5 of docs/RULES.md), the smaller and the greater of two, and the least of finitely many.
 use mathlib.Core.Bool.{true, false}
-use Prim.Native.Nat.{ℕ, _≤_}
+use Prim.Native.Nat.{ℕ, zero, suc, _≤_}
 use lib.IntN.{ℤ, pos, natAbs}
 use lib.Signed.{leZ}
 
@@ -17,3 +17,8 @@ minℤ x y = elim (leZ x y) [ true ↦ x | false ↦ y ]
 
 unfoldable pub maxℤ : ℤ → ℤ → ℤ
 maxℤ x y = elim (leZ x y) [ true ↦ y | false ↦ x ]
+
+-- the least of f 0, .., f n
+unfoldable pub leastOf : ℕ → (ℕ → ℤ) → ℤ
+leastOf zero f = f 0
+leastOf (suc n) f = minℤ (leastOf n f) (f (suc n))

@@ -2,7 +2,7 @@
 use mathlib.Core.Path.{_≡_, refl, sym, ap, ap₂, _∙_}
 use mathlib.Core.Bool.{Bool, true, false, false≢true, _&&_}
 use mathlib.Core.List.{List, _++_}
-use Prim.Native.Nat.{ℕ, _+_, _*_, _-_, _≤_}
+use Prim.Native.Nat.{ℕ, _+_, _*_, _-_, _≤_, _<_}
 use native.Mathlib.Omega.{arith}
 use lib.IntN.{ℤ, pos, negsuc, natAbs}
 use lib.Signed.{_≤ℤ_, leZ}
@@ -11,10 +11,10 @@ use lib.Seq.{take-all, drop-at}
 use Rattle.integers.specs.Numbers.{minℤ, maxℤ}
 use Rattle.integers.proofs.Parts.{≤-out}
 use Rattle.tables.specs.Ranges.{greatestOrder, tableRoom, entryRange}
-use Rattle.tables.specs.Matrix.{Matrix, nth, at}
+use Rattle.tables.specs.Matrix.{nth, at}
 use Rattle.tables.specs.Checks.{Check, all, within, allWithin, tablesWithin, nowhereCrossed, boundsChecks, firstRefusal, orderOk, orderOf, entryChecks}
 use Rattle.tables.specs.Mending.{mendedBy, mendedLow, mendedHigh}
-use Rattle.tables.specs.Entering.{Exact, Blank, Rooms, Over, Laid, Mended, Held, Entered, doorChecks, entered}
+use Rattle.tables.specs.Entering.{Exact, Blank, Rooms, Over, Laid, Mended, Entered, doorChecks, entered}
 use Rattle.tables.specs.declared.Refusal.{Refusal}
 use Rattle.tables.specs.declared.Refusal.the-variants.{Order, Length}
 use Rattle.tables.specs.declared.Checked.{Checked}
@@ -132,6 +132,9 @@ order-none n e = false-of (orderOk n) (λ o. go n (order-of o .0) (sym (order-kn
     go : (n : ℤ) → pos 1 ≤ℤ n → natAbs n ≡ 0 → ⊥
     go (pos m) h z = omega (arith, ≤-out h)
     go (negsuc m) h z = absurd (h .le)
+
+pub order-positive : (n : ℤ) → orderOk n ≡ true → 0 < orderOf n
+order-positive n e = let d : orderOf n ≡ 0 → ⊥ = λ q. false≢true (sym (order-none n q) ∙ e) in omega arith
 
 pub order-given : (n : ℤ) → (orderOf n ≡ 0 → ⊥) → orderOk n ≡ true
 unfolding orderOf

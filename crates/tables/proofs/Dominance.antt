@@ -1,4 +1,4 @@
--- Gerschgorin, for any order: a symmetric matrix whose diagonal dominates has a form that is not negative.
+-- Gerschgorin, for any order: where each diagonal entry of a symmetric matrix F has v over the rest of its row, x'Fx ≥ v x'x.
 use mathlib.Core.Path.{_≡_, ap, _∙_}
 use mathlib.Core.List.{[], _∷_}
 use Prim.Native.Nat.{ℕ, _<_}
@@ -10,14 +10,14 @@ use Rattle.integers.specs.Sum.{sum, except, sumExcept}
 use Rattle.integers.proofs.Parts.{*ℤ-nonneg, square-nonneg, gap-nonneg}
 use Rattle.integers.proofs.Solver.{_&_, none, order, solver}
 use Rattle.integers.proofs.Order.{≤-abs, neg-≤-abs}
-use Rattle.integers.proofs.Sums.{sum-ext, sum-+, sum-*ʳ, sum-swap, sum-mono, sum-nonneg, except-by, except-sym, sum-at}
-use Rattle.tables.specs.Matrix.{Matrix, form}
+use Rattle.integers.proofs.Sums.{sum-ext, sum-+, sum-*, sum-*ʳ, sum-swap, sum-mono, sum-nonneg, except-by, except-sym, sum-at}
+use Rattle.tables.specs.Matrix.{Matrix, form, normSquared}
 use Rattle.tables.proofs.Forms.{doubleSum, doubleSum-*}
 
--- F is symmetric, and F(i,i) is at least the sum of |F(i,j)| over j ≠ i
-pub record Dominant (n : ℕ) (F : Matrix) : Type 0 where
+-- F is symmetric, and F(i,i) is at least v and the sum of |F(i,j)| over j ≠ i
+pub record Dominant (n : ℕ) (F : Matrix) (v : ℤ) : Type 0 where
   pub symmetric : (i j : ℕ) → i < n → j < n → F i j ≡ F j i
-  pub dominates : (i : ℕ) → i < n → sumExcept n i (λ j. absℤ (F i j)) ≤ℤ F i i
+  pub dominates : (i : ℕ) → i < n → (v +ℤ sumExcept n i (λ j. absℤ (F i j))) ≤ℤ F i i
 
 -- -2 a e b ≤ |e| (a² + b²)
 pair : (a b e : ℤ) → pos 0 ≤ℤ (pos 2 *ℤ (a *ℤ e *ℤ b) +ℤ absℤ e *ℤ (a *ℤ a) +ℤ absℤ e *ℤ (b *ℤ b))
@@ -26,7 +26,7 @@ pair a b e =
     (*ℤ-nonneg (gap-nonneg (≤-abs e)) (square-nonneg (a -ℤ b)) & *ℤ-nonneg (gap-nonneg (neg-≤-abs e)) (square-nonneg (a +ℤ b)))
     (search solver depth 40 fits 20000) (omega arith)
 
-module _ (n : ℕ) (F : Matrix) (d : Dominant n F) (x : ℕ → ℤ) where
+module _ (n : ℕ) (F : Matrix) (v : ℤ) (d : Dominant n F v) (x : ℕ → ℤ) where
   -- |F(i,j)| off the diagonal, and a row's sum of these
   weight : Matrix
   weight i j = except i j (absℤ (F i j))
@@ -43,10 +43,10 @@ module _ (n : ℕ) (F : Matrix) (d : Dominant n F) (x : ℕ → ℤ) where
       except-by i j (twice i j) (absℤ (F i j)) (λ t w. pos 0 ≤ℤ (t +ℤ w *ℤ (x i *ℤ x i) +ℤ w *ℤ (x j *ℤ x j)))
       (λ e. order (x i ∷ x j ∷ []) none (search solver depth 40 fits 20000) (omega arith)) (λ e. pair (x i) (x j) (F i j))
 
-  row : (i : ℕ) → i < n → (weights i *ℤ (x i *ℤ x i)) ≤ℤ (sum n (twice i) +ℤ sum n (λ j. weight i j *ℤ (x j *ℤ x j)))
+  row : (i : ℕ) → i < n → (pos 2 *ℤ v *ℤ (x i *ℤ x i) +ℤ weights i *ℤ (x i *ℤ x i)) ≤ℤ (sum n (twice i) +ℤ sum n (λ j. weight i j *ℤ (x j *ℤ x j)))
   unfolding weights weight twice
   row i h =
-      order (x i ∷ weights i ∷ F i i ∷ sum n (twice i) ∷ sumExcept n i (twice i) ∷ sum n (λ j. weight i j *ℤ (x j *ℤ x j)) ∷ [])
+      order (x i ∷ v ∷ weights i ∷ F i i ∷ sum n (twice i) ∷ sumExcept n i (twice i) ∷ sum n (λ j. weight i j *ℤ (x j *ℤ x j)) ∷ [])
       (pairs & sum-at n i (twice i) h & *ℤ-nonneg (gap-nonneg (d .dominates i h)) (square-nonneg (x i)))
       (search solver depth 40 fits 20000) (omega arith)
     where
@@ -65,11 +65,16 @@ module _ (n : ℕ) (F : Matrix) (d : Dominant n F) (x : ℕ → ℤ) where
       ∙ sum-ext n _ _ (λ j k. sum-*ʳ n (λ i. weight i j) (x j *ℤ x j)
       ∙ ap (λ (z : ℤ). z *ℤ (x j *ℤ x j)) (sum-ext n _ _ (λ i h. weight-symmetric i j h k)))
 
-  pub dominant-nonneg : pos 0 ≤ℤ form n F x
-  unfolding form doubleSum twice
-  dominant-nonneg =
-      order (form n F x ∷ sum n (λ i. sum n (twice i)) ∷ sum n (λ i. weights i *ℤ (x i *ℤ x i)) ∷ [])
+  pub dominant-above : (v *ℤ normSquared n x) ≤ℤ form n F x
+  unfolding form normSquared doubleSum twice
+  dominant-above =
+      order (v ∷ sum n (λ i. x i *ℤ x i) ∷ form n F x ∷ sum n (λ i. sum n (twice i)) ∷ sum n (λ i. weights i *ℤ (x i *ℤ x i)) ∷ [])
       (rows & doubleSum-* n (pos 2) (λ i j. x i *ℤ F i j *ℤ x j)) (search solver depth 40 fits 20000) (omega arith)
     where
-      rows : sum n (λ i. weights i *ℤ (x i *ℤ x i)) ≤ℤ (sum n (λ i. sum n (twice i)) +ℤ sum n (λ i. weights i *ℤ (x i *ℤ x i)))
-      rows = rw (← columns, ← sum-+) (rw columns (sum-mono n _ _ row))
+      left : sum n (λ i. pos 2 *ℤ v *ℤ (x i *ℤ x i) +ℤ weights i *ℤ (x i *ℤ x i)) ≡
+          pos 2 *ℤ v *ℤ sum n (λ i. x i *ℤ x i) +ℤ sum n (λ i. weights i *ℤ (x i *ℤ x i))
+      left = sum-+ n _ _ ∙ ap (λ (z : ℤ). z +ℤ sum n (λ i. weights i *ℤ (x i *ℤ x i))) (sum-* n (pos 2 *ℤ v) (λ i. x i *ℤ x i))
+
+      rows : (pos 2 *ℤ v *ℤ sum n (λ i. x i *ℤ x i) +ℤ sum n (λ i. weights i *ℤ (x i *ℤ x i)))
+          ≤ℤ (sum n (λ i. sum n (twice i)) +ℤ sum n (λ i. weights i *ℤ (x i *ℤ x i)))
+      rows = rw (← left, ← columns, ← sum-+) (sum-mono n _ _ row)

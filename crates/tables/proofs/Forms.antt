@@ -7,7 +7,7 @@ use lib.IntN.{ℤ, pos, _+ℤ_, _*ℤ_, *ℤ-zero, *ℤ-comm}
 use Rattle.integers.specs.Sum.{sum}
 use Rattle.integers.proofs.Solver.{_&_, ring, order, solver}
 use Rattle.integers.proofs.Sums.{sum-suc, sum-ext, sum-none, sum-+, sum-*, sum-*ʳ, sum-swap, sum-product, sum-prefix}
-use Rattle.tables.specs.Matrix.{Matrix, form, gram}
+use Rattle.tables.specs.Matrix.{Matrix, form, image, normSquared, gram}
 
 -- ---- double sums
 module _ (n : ℕ) where
@@ -52,16 +52,8 @@ pub gram-symmetric : (n : ℕ) (R : Matrix) (i j : ℕ) → gram n R i j ≡ gra
 unfolding gram
 gram-symmetric n R i j = sum-ext n _ _ (λ k h. *ℤ-comm (R k i) (R k j))
 
--- entry k of Rx
-unfoldable pub image : ℕ → Matrix → (ℕ → ℤ) → ℕ → ℤ
-image n R x k = sum n (λ i. R k i *ℤ x i)
-
--- |Rx|²
-unfoldable pub imageNorm : ℕ → Matrix → (ℕ → ℤ) → ℤ
-imageNorm n R x = sum n (λ k. image n R x k *ℤ image n R x k)
-
-pub form-gram : (n : ℕ) (R : Matrix) (x : ℕ → ℤ) → form n (gram n R) x ≡ imageNorm n R x
-unfolding form gram image imageNorm
+pub form-gram : (n : ℕ) (R : Matrix) (x : ℕ → ℤ) → form n (gram n R) x ≡ normSquared n (image n R x)
+unfolding form gram image normSquared
 form-gram n R x =
     sum-ext n _ _ (λ i h. sum-ext n _ _ (λ j k.
     ap (λ (z : ℤ). z *ℤ x j) (sym (sum-* n (x i) _)) ∙ sym (sum-*ʳ n _ (x j))

@@ -13,7 +13,7 @@ unfoldable pub after : {A : Type 0} → (Refusal → A) → Checked → A → A
 after refused (Refused r) a = refused r
 after refused Passed a = a
 
--- 'accepted' or 'yes', and 'not accepted' or 'no'
+-- 'yes' and 'no'
 abbrev pub yesOrNo : Bool → Answer
 yesOrNo b = elim b [ true ↦ Answer.Yes | false ↦ Answer.No ]
 

@@ -29,6 +29,14 @@ table n M = tabulate (n * n) (λ k. M (k / n) (k % n))
 unfoldable pub form : ℕ → Matrix → (ℕ → ℤ) → ℤ
 form n M x = sum n (λ i. sum n (λ j. x i *ℤ M i j *ℤ x j))
 
+-- entry k of Rx, the sum of R(k,i) x(i) over all i
+unfoldable pub image : ℕ → Matrix → (ℕ → ℤ) → ℕ → ℤ
+image n R x k = sum n (λ i. R k i *ℤ x i)
+
+-- |x|² = x'x, the sum of x(i)² over all i
+unfoldable pub normSquared : ℕ → (ℕ → ℤ) → ℤ
+normSquared n x = sum n (λ i. x i *ℤ x i)
+
 -- R7.1: P = R'R, the sum of r(k,i) r(k,j) over all k
 unfoldable pub gram : ℕ → Matrix → Matrix
 gram n R i j = sum n (λ k. R k i *ℤ R k j)

@@ -90,7 +90,7 @@ pub enum Checked {
     Refused(Refusal),
 }
 
-// What a test answers (R7.4, R8.4): 'accepted' and 'yes' are Yes, 'not accepted' and 'no' are No.
+// What the vector test answers (R8.4).
 pub enum Answer {
     Yes,
     No,
@@ -124,7 +124,7 @@ pub fn refusal_number(r: Refusal) -> u8
     }
 }
 
-// An answer's number at a C entry (R15.4): 0 'accepted' or 'yes', -1 'not accepted' or 'no', else the refusal's.
+// An answer's number at a C entry (R15.4): 0 'yes', -1 'no', else the refusal's.
 pub fn answer_code(a: Answer) -> i64
     ensures { λ r. ⌜ r ≡ answerCode a ⌝ }
 {

@@ -4,13 +4,13 @@ use mathlib.Core.List.{List, _++_}
 use Prim.Native.Nat.{ℕ, suc, _+_, _*_, _≤_, _<_}
 use native.Mathlib.Numerals.{add-one}
 use native.Mathlib.Omega.{arith}
-use lib.ListN.{length, set, take, drop, getD, replicate, length-append, length-drop}
+use lib.ListN.{length, set, drop, getD, replicate, length-append, length-drop}
 use lib.Seq.{drop-cons, set-at, append-snoc, take-at, drop-drop}
 use lib.IntN.{ℤ, pos}
-use mir.Syntax.{Width, w64}
-use mir.Val.{bytes, ofZ}
-use Rattle.words.specs.Numbers.{toLeBytes, signedAt, withUnsigned, withSigned, numbersOf, paddedNumbersOf, bytesOf}
-use Rattle.words.proofs.Laws.{length-toLeBytes, length-numbersOf, length-bytesOf}
+use mir.Syntax.{Width}
+use mir.Val.{bytes}
+use Rattle.words.specs.Numbers.{signedAt, withUnsigned, withSigned, numbersOf, paddedNumbersOf, bytesOf}
+use Rattle.words.proofs.Laws.{length-numbersOf, length-bytesOf}
 use Rattle.words.proofs.Lists.{drop-past, drop-replicate}
 
 module _ (w : Width) where
@@ -41,12 +41,3 @@ module _ (w : Width) where
       let e = length-bytesOf w a i in
       let n : suc i * bytes w ≡ i * bytes w + bytes w = omega arith in
       rw (add-one i, take-at p q (i * bytes w) e, drop-past p q (i * bytes w) (bytes w) e, drop-drop, n)
-
-  -- the same, of a buffer of which its front is known
-  pub fill-front : (a : List ℤ) (s : List ℕ) (i : ℕ) → take (i * bytes w) s ≡ bytesOf w a i
-      → take (suc i * bytes w) (withSigned w s (i * bytes w) (getD a i (pos 0))) ≡ bytesOf w a (suc i)
-  unfolding bytesOf withSigned withUnsigned
-  fill-front a s i e =
-      let b = toLeBytes (bytes w) (ofZ w64 (getD a i (pos 0))) in
-      let z : length (bytesOf w a i ++ b) ≡ suc i * bytes w = rw (length-append, length-bytesOf w a i, length-toLeBytes) (omega arith) in
-      rw e (take-at (bytesOf w a i ++ b) (drop (i * bytes w + bytes w) s) (suc i * bytes w) z)
