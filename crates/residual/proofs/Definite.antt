@@ -1,6 +1,6 @@
--- D3.1 of docs/RULES.md: where the residual test accepts an upper triangular matrix, from any source, x'Mx > 0 for all members M
--- and all x but 0. For any order n.
-use mathlib.Core.Path.{_≡_, ap, ap₂, _∙_}
+-- D3.8 and D3.1 of docs/RULES.md: what the rows of a residual have over bounds the forms of all members from below; and where the residual
+-- test accepts an upper triangular matrix, from any source, x'Mx > 0 for all members M and all x but 0. For any order n.
+use mathlib.Core.Path.{_≡_, sym, ap, ap₂, _∙_}
 use mathlib.Core.Logic.{_≢_, _⊎_, inl, inr}
 use mathlib.Core.List.{[], _∷_}
 use Prim.Native.Nat.{ℕ, zero, suc, _≤_, _<_}
@@ -14,14 +14,15 @@ use Rattle.integers.proofs.Parts.{≤ℤ-or-<ℤ, ≤ℤ-antisym, ≤ℤ-trans,
 use Rattle.integers.proofs.Solver.{_&_, order, solver}
 use Rattle.integers.proofs.Order.{product-mono, *ℤ-mono, ≤-abs, neg-≤-abs, abs-≤, ≤-maxˡ, ≤-maxʳ}
 use Rattle.integers.proofs.Sums.{sum-suc, sum-ext, sum-single, sum-nonneg, sumExcept-mono, sumExcept-*}
-use Rattle.tables.specs.Matrix.{Matrix, form, gram}
+use Rattle.tables.specs.Matrix.{Matrix, form, image, normSquared, gram}
 use Rattle.tables.specs.Members.{Member, Nonzero, PositiveDefinite}
 use Rattle.tables.proofs.Checks.{true-of, all-at, le-of}
-use Rattle.tables.proofs.Forms.{form-+, form-*, gram-symmetric, image, imageNorm, form-gram}
-use Rattle.tables.proofs.Dominance.{Dominant, dominant-nonneg}
+use Rattle.tables.proofs.Forms.{form-+, form-*, gram-symmetric, form-gram}
+use Rattle.tables.proofs.Dominance.{Dominant, dominant-above}
 use Rattle.tables.proofs.Triangular.{UpperTriangular}
 use Rattle.cholesky.specs.Scale.{scale}
-use Rattle.residual.specs.Residual.{residual, radius, rowPasses, rowsPass, accepts}
+use Rattle.residual.specs.Residual.{residual, radius, rowPasses, rowsPass, accepts, rowOver, over, FormBound}
+use Rattle.residual.proofs.Rows.{row-passes, least-over-≤}
 
 pub upper-prefix : {m n : ℕ} {R : Matrix} → m ≤ n → UpperTriangular n R → UpperTriangular m R
 upper-prefix h up = record { below = λ i j k l. up .below i j k (omega arith); diagonal = λ j k. up .diagonal j (omega arith) }
@@ -35,8 +36,8 @@ square-positive {x} h = go (≤ℤ-or-<ℤ x (pos 0)) (≤ℤ-or-<ℤ (pos 0) x)
     go (inl p) (inr q) = order (x ∷ []) (square-nonneg (x +ℤ pos 1) & q) (search solver depth 40 fits 20000) (omega arith)
     go (inl p) (inl q) = absurd (h (≤ℤ-antisym p q))
 
-norm-positive : (n : ℕ) (R : Matrix) → UpperTriangular n R → (x : ℕ → ℤ) → Nonzero n x → pos 1 ≤ℤ imageNorm n R x
-unfolding imageNorm image
+norm-positive : (n : ℕ) (R : Matrix) → UpperTriangular n R → (x : ℕ → ℤ) → Nonzero n x → pos 1 ≤ℤ normSquared n (image n R x)
+unfolding normSquared image
 norm-positive zero R up x z = absurd (omega (arith, z .inside))
 norm-positive (suc n) R up x z =
     go (ℤ-discrete (x n) (pos 0)) (norm-positive n R (upper-prefix (omega arith) up) x)
@@ -44,9 +45,9 @@ norm-positive (suc n) R up x z =
     squares : ℕ → ℤ
     squares k = image (suc n) R x k *ℤ image (suc n) R x k
 
-    go : Dec (x n ≡ pos 0) → (Nonzero n x → pos 1 ≤ℤ imageNorm n R x) → pos 1 ≤ℤ sum (suc n) squares
+    go : Dec (x n ≡ pos 0) → (Nonzero n x → pos 1 ≤ℤ normSquared n (image n R x)) → pos 1 ≤ℤ sum (suc n) squares
     go (yes e) ih =
-        order (sum (suc n) squares ∷ sum n squares ∷ imageNorm n R x ∷ image (suc n) R x n ∷ [])
+        order (sum (suc n) squares ∷ sum n squares ∷ normSquared n (image n R x) ∷ image (suc n) R x n ∷ [])
         (ih (record { index = z .index; inside = inside; differs = z .differs })
         & sum-suc n squares & shorter & square-nonneg (image (suc n) R x n)) (search solver depth 40 fits 20000) (omega arith)
       where
@@ -56,7 +57,7 @@ norm-positive (suc n) R up x z =
         same : (k : ℕ) → image (suc n) R x k ≡ image n R x k
         same k = sum-suc n _ ∙ rw (e, *ℤ-zero (R k n)) (+ℤ-idr _)
 
-        shorter : sum n squares ≡ imageNorm n R x
+        shorter : sum n squares ≡ normSquared n (image n R x)
         shorter = sum-ext n _ _ (λ k h. ap (λ (u : ℤ). u *ℤ u) (same k))
     go (no e) ih =
         order (sum (suc n) squares ∷ sum n squares ∷ R n n ∷ x n ∷ [])
@@ -74,14 +75,14 @@ norm-positive (suc n) R up x z =
             let r = up .diagonal n (omega arith) in
             product-mono p p (product-mono p p r r) (square-positive e)
 
--- ---- a member N over q: the residual F = 2^32 N - q P is dominated by its diagonal
-module _ (n : ℕ) (R L U : Matrix) (t : T (accepts n R L U)) where
+-- ---- a member N over q: the diagonal of the residual F = 2^32 N - q P has q v over the rest of each row, where no row has less than v over
+module _ (n : ℕ) (R L U : Matrix) (v : ℤ) (least : (i : ℕ) → i < n → v ≤ℤ rowOver n (residual n R L) (residual n R U) i) where
   abbrev radii : Matrix
   radii = radius (residual n R L) (residual n R U)
 
-  row-passes : (i : ℕ) → i < n → sumExcept n i (radii i) ≤ℤ residual n R L i i
-  unfolding accepts rowsPass rowPasses
-  row-passes i h = le-of _ _ (all-at (rowPasses n (residual n R L) (residual n R U)) n (true-of (accepts n R L U) t) i h)
+  row-least : (i : ℕ) → i < n → (v +ℤ sumExcept n i (radii i)) ≤ℤ residual n R L i i
+  unfolding rowOver
+  row-least i h = order (v ∷ sumExcept n i (radii i) ∷ residual n R L i i ∷ []) (least i h) (search solver depth 40 fits 20000) (omega arith)
 
   module _ (N : Matrix) (q : ℤ) (m : Member n L U N q) where
     F : Matrix
@@ -107,27 +108,46 @@ module _ (n : ℕ) (R L U : Matrix) (t : T (accepts n R L U)) where
     F-row : (i : ℕ) → i < n → sumExcept n i (λ j. absℤ (F i j)) ≤ℤ (q *ℤ sumExcept n i (radii i))
     F-row i h = rw (← sumExcept-* n i q (radii i)) (sumExcept-mono n i _ _ (λ j k e. F-radius i j h k))
 
-    F-dominant : Dominant n F
+    F-dominant : Dominant n F (q *ℤ v)
     unfolding F residual
     F-dominant = record {
       symmetric = λ i j h k. ap₂ (λ (u v : ℤ). scale *ℤ u +ℤ negℤ q *ℤ v) (m .symmetric i j h k) (gram-symmetric n R i j);
       dominates = λ i h.
-          order (sumExcept n i (λ j. absℤ (F i j)) ∷ q ∷ sumExcept n i (radii i) ∷ N i i ∷ L i i ∷ gram n R i i ∷ [])
-          (F-row i h & *ℤ-mono q-nonneg (row-passes i h) & m .low i i h h) (search solver depth 40 fits 20000) (omega arith);
+          order (sumExcept n i (λ j. absℤ (F i j)) ∷ q ∷ v ∷ sumExcept n i (radii i) ∷ N i i ∷ L i i ∷ gram n R i i ∷ [])
+          (F-row i h & *ℤ-mono q-nonneg (row-least i h) & m .low i i h h) (search solver depth 40 fits 20000) (omega arith);
     }
 
     -- x'Fx = 2^32 x'Nx - q |Rx|²
-    form-F : (x : ℕ → ℤ) → form n F x ≡ scale *ℤ form n N x +ℤ negℤ q *ℤ imageNorm n R x
+    form-F : (x : ℕ → ℤ) → form n F x ≡ scale *ℤ form n N x +ℤ negℤ q *ℤ normSquared n (image n R x)
     unfolding F
     form-F x =
         form-+ n _ _ x
         ∙ ap₂ (λ (u v : ℤ). u +ℤ v) (form-* n scale N x) (form-* n (negℤ q) (gram n R) x ∙ ap (λ (z : ℤ). negℤ q *ℤ z) (form-gram n R x))
 
-  pub accepted-definite : UpperTriangular n R → PositiveDefinite n L U
-  accepted-definite up = record {
-    positive = λ N q m x z.
-        let norm = norm-positive n R up x z in
-        order (form n N x ∷ q ∷ form n (F N q m) x ∷ imageNorm n R x ∷ [])
-        (dominant-nonneg n (F N q m) (F-dominant N q m) x & form-F N q m x & product-mono (pos-nonneg 1) (pos-nonneg 1) (m .whole) norm)
-        (search solver depth 40 fits 20000) (omega arith);
+  -- D3.8
+  pub form-bound : FormBound n R L U v
+  form-bound = record {
+    bound = λ N q m x.
+        order (q ∷ v ∷ form n N x ∷ form n (F N q m) x ∷ normSquared n x ∷ normSquared n (image n R x) ∷ [])
+        (dominant-above n (F N q m) (q *ℤ v) (F-dominant N q m) x & form-F N q m x) (search solver depth 40 fits 20000) (omega arith);
   }
+
+-- what the rows have over
+pub over-bound : (n : ℕ) (R L U : Matrix) → FormBound n R L U (over n R L U)
+unfolding over
+over-bound n R L U = form-bound n R L U (over n R L U) (least-over-≤ n (residual n R L) (residual n R U))
+
+-- D3.1: with 0 over, 2^32 x'Nx ≥ q |Rx|² ≥ 1
+pub accepted-definite : (n : ℕ) (R L U : Matrix) → T (accepts n R L U) → UpperTriangular n R → PositiveDefinite n L U
+unfolding accepts rowsPass
+accepted-definite n R L U t up = record {
+  positive = λ N q m x z.
+      order (form n N x ∷ q ∷ normSquared n x ∷ normSquared n (image n R x) ∷ [])
+      (none-lacking .bound N q m x & product-mono (pos-nonneg 1) (pos-nonneg 1) (m .whole) (norm-positive n R up x z))
+      (search solver depth 40 fits 20000) (omega arith);
+}
+  where
+    none-lacking : FormBound n R L U (pos 0)
+    none-lacking =
+        form-bound n R L U (pos 0)
+        (λ i h. le-of _ _ (sym (row-passes n (residual n R L) (residual n R U) i) ∙ all-at (rowPasses n (residual n R L) (residual n R U)) n (true-of (accepts n R L U) t) i h))

@@ -1,5 +1,5 @@
 -- R7.4 and R7.5 of docs/RULES.md: the factor test is the residual whole, and then the row test over its two tables; and what the tables enclose.
-use mathlib.Core.Path.{_≡_, refl, sym, ap, _∙_}
+use mathlib.Core.Path.{_≡_, refl, sym, ap, ap₂, _∙_}
 use mathlib.Core.Bool.{Bool, true, _&&_, and-true}
 use mathlib.Core.List.{List, [], _∷_}
 use Prim.Native.Nat.{ℕ, _*_, _<_}
@@ -16,19 +16,19 @@ use Rattle.integers.proofs.Solver.{order, solver}
 use Rattle.tables.specs.Matrix.{Matrix, at, table, gram}
 use Rattle.tables.specs.Members.{Member}
 use Rattle.tables.specs.Checks.{all, firstRefusal, orderOf, sizesOk}
-use Rattle.tables.specs.Answers.{after, yesOrNo}
+use Rattle.tables.specs.Answers.{after}
 use Rattle.tables.specs.Entering.{lowBounds, highBounds, doorChecks, entered}
 use Rattle.tables.specs.declared.Checked.{Checked}
 use Rattle.tables.specs.declared.Checked.the-variants.{Passed, Refused}
-use Rattle.tables.specs.declared.Answer.{Answer}
-use Rattle.tables.specs.declared.Answer.the-variants as Answer
 use Rattle.tables.proofs.Matrix.{at-table}
 use Rattle.tables.proofs.Checks.{and-left, and-right, and-of, sizes-of}
 use Rattle.cholesky.specs.Scale.{scale}
-use Rattle.residual.specs.Residual.{residual, radius, rowPasses, rowsPass, accepts}
-use Rattle.residual.specs.FactorTest.{checkFactor, factorAnswer, factorTested, factorSizes, factorTest}
+use Rattle.residual.specs.Residual.{residual, radius, rowPasses, rowsPass, accepts, leastOver, over}
+use Rattle.residual.specs.FactorTest.{checkFactor, tested, factorAnswer, factorTested, factorSizes, factorTest}
+use Rattle.residual.specs.declared.factor_test.FactorAnswer.{FactorAnswer}
+use Rattle.residual.specs.declared.factor_test.FactorAnswer.the-variants as FactorAnswer
 use Rattle.residual.specs.ResidualAct.{Tabled, kept, tables, tabled, tabling, residualSizes, residualAct}
-use Rattle.residual.proofs.Rows.{rows-ext}
+use Rattle.residual.proofs.Rows.{rows-ext, least-over-ext}
 
 -- where check 2 passes, each table has its size
 pub residual-sizes-of : (size l u f a b : ℕ) → residualSizes size l u f a b ≡ true → (l ≡ size) × (u ≡ size) × (f ≡ size) × (a ≡ size) × (b ≡ size)
@@ -46,23 +46,31 @@ written-out n R L U = refl
 
 -- ---- the residual whole, and then the rows
 -- what the row test makes of what the residual's act leaves, for order k
-abbrev pub thenRows : ℕ → Tabled → Answer
-thenRows k t = after Answer.Refused (t .checked) (yesOrNo (rowsPass k (at k (t .low)) (at k (t .high))))
+abbrev pub thenRows : ℕ → Tabled → FactorAnswer
+thenRows k t =
+    let A = at k (t .low) in
+    let B = at k (t .high) in
+    after FactorAnswer.Refused (t .checked) (tested (rowsPass k A B) (leastOver k A B))
 
 -- the test of a factor is the row test over the residual's tables
-rows-of-tables : (k : ℕ) (R L U : Matrix) → accepts k R L U ≡ rowsPass k (at k (table k (residual k R L))) (at k (table k (residual k R U)))
-unfolding accepts
-rows-of-tables k R L U = rows-ext k _ _ _ _ (λ i j h l. sym (at-table k _ i j h l)) (λ i j h l. sym (at-table k _ i j h l))
+rows-of-tables : (k : ℕ) (R L U : Matrix) →
+    let A = at k (table k (residual k R L)) in
+    let B = at k (table k (residual k R U)) in
+    tested (accepts k R L U) (over k R L U) ≡ tested (rowsPass k A B) (leastOver k A B)
+unfolding accepts over
+rows-of-tables k R L U =
+    let same : (M : Matrix) (i j : ℕ) → i < k → j < k → residual k R M i j ≡ at k (table k (residual k R M)) i j = λ M i j h l. sym (at-table k _ i j h l) in
+    ap₂ tested (rows-ext k _ _ _ _ (same L) (same U)) (least-over-ext k _ _ _ _ (same L) (same U))
 
 pub in-order : (n : ℤ) (sized : Bool) (l u f a b : List ℤ) → factorTested n sized l u f ≡ thenRows (orderOf n) (tabling n sized l u f a b)
 unfolding factorTested factorAnswer tabling tabled entered after
 in-order n sized l u f a b =
     let k = orderOf n in
     go (firstRefusal (doorChecks n sized true l u)) (firstRefusal (checkFactor k (at k f) ∷ [])) (tables k (lowBounds k l) (highBounds k u) (at k f))
-    (ap yesOrNo (rows-of-tables k (at k f) (lowBounds k l) (highBounds k u)))
+    (rows-of-tables k (at k f) (lowBounds k l) (highBounds k u))
   where
-    go : (c d : Checked) (t : Tabled) {x : Answer} → x ≡ thenRows (orderOf n) t →
-        after Answer.Refused c (after Answer.Refused d x) ≡ thenRows (orderOf n) (after (kept a b) c (after (kept a b) d t))
+    go : (c d : Checked) (t : Tabled) {x : FactorAnswer} → x ≡ thenRows (orderOf n) t →
+        after FactorAnswer.Refused c (after FactorAnswer.Refused d x) ≡ thenRows (orderOf n) (after (kept a b) c (after (kept a b) d t))
     go (Refused r) d t e = refl
     go Passed (Refused r) t e = refl
     go Passed Passed t e = e

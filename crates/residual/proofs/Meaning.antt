@@ -1,25 +1,33 @@
--- D3.1 of docs/RULES.md: what an accepted factor means.
-use mathlib.Core.Path.{_≡_, subst}
-use mathlib.Core.Bool.{Bool, true, not, _&&_}
+-- D3.1 and D3.8 of docs/RULES.md: what the factor test's answers mean.
+use mathlib.Core.Path.{_≡_, refl, sym, ap, subst, _∙_}
+use mathlib.Core.Bool.{Bool, true, false, not, _&&_, false≢true}
+use mathlib.Core.Logic.{_⊎_, inl, inr}
 use mathlib.Core.List.{List}
 use Prim.Native.Nat.{ℕ, _≤_, _<_, compare, Ordering, Ordering·lt, Ordering·eq, Ordering·gt}
 use native.Mathlib.Omega.{arith}
 use lib.Dec.{T, isLe, isEq, eqb, leb→le, nleb→lt, eqb→eq, eqb-refl}
 use lib.IntN.{ℤ, pos}
-use lib.Signed.{_≤ℤ_, leZ}
+use lib.Signed.{_≤ℤ_, _<ℤ_, leZ}
+use Rattle.integers.proofs.Parts.{≤ℤ-or-<ℤ, leZ-true}
 use Rattle.tables.specs.Ranges.{factorRange}
 use Rattle.tables.specs.Matrix.{Matrix, at}
 use Rattle.tables.specs.Members.{PositiveDefinite}
+use Rattle.tables.specs.Bounds.{Bounds}
 use Rattle.tables.specs.Checks.{within, same, orderOf}
-use Rattle.tables.specs.Entering.{lowBounds, highBounds, entered}
-use Rattle.tables.specs.declared.Answer.the-variants as Answer
-use Rattle.tables.proofs.MendedTables.{definite-handed}
-use Rattle.tables.proofs.Checks.{true-of, of-true, and-left, all-at, le-of, same-of, first-passed}
-use Rattle.tables.proofs.Answers.{after-yes, yes-true}
+use Rattle.tables.specs.Entering.{lowBounds, highBounds}
+use Rattle.tables.specs.declared.Refusal.{Refusal}
+use Rattle.tables.proofs.MendedTables.{member-mended, definite-handed}
+use Rattle.tables.proofs.Checks.{true-of, of-true, and-left, all-at, le-of, same-of, first-passed, passed-bounds}
+use Rattle.tables.proofs.Answers.{after-means}
+use Rattle.tables.proofs.Admission.{order-small, entered-means}
 use Rattle.tables.proofs.Triangular.{UpperTriangular}
-use Rattle.residual.specs.Residual.{accepts}
-use Rattle.residual.specs.FactorTest.{factorEntry, factorShape, factorAnswer, factorTested}
-use Rattle.residual.proofs.Definite.{accepted-definite}
+use Rattle.residual.specs.Residual.{residual, accepts, over, FormBound}
+use Rattle.residual.specs.FactorTest.{factorEntry, factorShape, tested, factorAnswer, factorTested, Carries, Meaning}
+use Rattle.residual.specs.declared.factor_test.FactorAnswer.{FactorAnswer}
+use Rattle.residual.specs.declared.factor_test.FactorAnswer.the-variants as FactorAnswer
+use Rattle.residual.proofs.Rows.{rows-over, over-below}
+use Rattle.residual.proofs.Sizes.{over-within}
+use Rattle.residual.proofs.Definite.{over-bound, accepted-definite}
 
 -- ---- check 6, of an offered factor: the test of entry (i, j), by cases
 pub entry-by : (i j : ℕ) (x : ℤ) (P : Bool → Type 0) → (i < j → P (within factorRange x)) →
@@ -61,16 +69,81 @@ module _ (n : ℕ) (R : Matrix) where
 pub offered-definite : (n : ℕ) (R L U : Matrix) → T (factorShape n R) → T (accepts n R L U) → PositiveDefinite n L U
 offered-definite n R L U s t = accepted-definite n R L U t (shape-upper n R s)
 
--- so it is where the factor test answers 'accepted'
-answer-definite : (n : ℕ) (L U R : Matrix) → factorAnswer n L U R ≡ Answer.Yes → PositiveDefinite n L U
-unfolding factorAnswer
-answer-definite n L U R e =
-    let p = after-yes _ _ e in
-    offered-definite n R L U (of-true (first-passed _ _ (p .0))) (of-true (yes-true (accepts n R L U) (p .1)))
+-- ---- what an answer means, by what it is
+-- the number that it carries; 0 of a refusal
+carried : FactorAnswer → ℤ
+carried (FactorAnswer.Accepted v) = v
+carried (FactorAnswer.NotAccepted v) = v
+carried (FactorAnswer.Refused r) = pos 0
 
-module _ (l u f : List ℤ) where
-  pub tested-definite : (n : ℤ) (sized : Bool) → factorTested n sized l u f ≡ Answer.Yes → PositiveDefinite (orderOf n) (at (orderOf n) l) (at (orderOf n) u)
-  unfolding factorTested entered
-  tested-definite n sized e =
-      let k = orderOf n in
-      definite-handed k l u (answer-definite k (lowBounds k l) (highBounds k u) (at k f) (after-yes _ _ e .1))
+accepted-means : (b : Bool) (w v : ℤ) → tested b w ≡ FactorAnswer.Accepted v → (b ≡ true) × (w ≡ v)
+unfolding tested carried
+accepted-means true w v e = (refl, ap carried e)
+accepted-means false w v e = absurd (false≢true cc)
+
+not-accepted-means : (b : Bool) (w v : ℤ) → tested b w ≡ FactorAnswer.NotAccepted v → (b ≡ false) × (w ≡ v)
+unfolding tested carried
+not-accepted-means true w v e = absurd (false≢true cc)
+not-accepted-means false w v e = (refl, ap carried e)
+
+-- accepted with 0 or more over, and only so
+pub accepts-over : (n : ℕ) (R L U : Matrix) → accepts n R L U ≡ leZ (pos 0) (over n R L U)
+unfolding accepts over
+accepts-over n R L U = rows-over n (residual n R L) (residual n R U)
+
+below : (v : ℤ) → leZ (pos 0) v ≡ false → v <ℤ pos 0
+below v e = go (≤ℤ-or-<ℤ (pos 0) v)
+  where
+    go : (pos 0 ≤ℤ v) ⊎ (v <ℤ pos 0) → v <ℤ pos 0
+    go (inl h) = absurd (false≢true (sym e ∙ leZ-true h))
+    go (inr h) = h
+
+no-number : (r : Refusal) (v : ℤ) → Carries (FactorAnswer.Refused r) v → ⊥
+no-number r v (inl e) = false≢true cc
+no-number r v (inr e) = false≢true cc
+
+module _ (n : ℤ) (l u f : List ℤ) where
+  abbrev k : ℕ
+  k = orderOf n
+
+  abbrev L : Matrix
+  L = lowBounds k l
+
+  abbrev U : Matrix
+  U = highBounds k u
+
+  abbrev R : Matrix
+  R = at k f
+
+  -- a bound for the mended tables is one for the tables as they are handed in
+  bound-handed : {v : ℤ} → over k R L U ≡ v → FormBound k R (at k l) (at k u) v
+  bound-handed e = record { bound = λ N q m. rw (← e) (over-bound k R L U .bound N q (member-mended k l u m)) }
+
+  -- what an answer carries is what the rows have over
+  carries : (v : ℤ) → Carries (tested (accepts k R L U) (over k R L U)) v → over k R L U ≡ v
+  carries v (inl e) = accepted-means _ _ v e .1
+  carries v (inr e) = not-accepted-means _ _ v e .1
+
+  shaped-means : Bounds k L U → factorShape k R ≡ true → Meaning n l u f (tested (accepts k R L U) (over k R L U))
+  shaped-means b s = record {
+    definite = λ v e. definite-handed k l u (offered-definite k R L U (of-true s) (of-true (accepted-means _ _ v e .0)));
+    enough = λ v e. let p = accepted-means _ _ v e in rw (← p .1) (le-of _ _ (sym (accepts-over k R L U) ∙ p .0));
+    lacking = λ v e. let p = not-accepted-means _ _ v e in rw (← p .1) (below _ (sym (accepts-over k R L U) ∙ p .0));
+    small = λ v c. let w = over-within k R (order-small n) s L U b in rw (← carries v c) (omega (arith, w .size, over-below));
+    bound = λ v c. bound-handed (carries v c);
+  }
+
+  refused-means : (r : Refusal) → Meaning n l u f (FactorAnswer.Refused r)
+  refused-means r = record {
+    definite = λ v e. absurd (false≢true cc);
+    enough = λ v e. absurd (false≢true cc);
+    lacking = λ v e. absurd (false≢true cc);
+    small = λ v c. absurd (no-number r v c);
+    bound = λ v c. absurd (no-number r v c);
+  }
+
+  pub tested-means : (sized : Bool) → Meaning n l u f (factorTested n sized l u f)
+  unfolding factorTested factorAnswer
+  tested-means sized =
+      entered-means n sized true l u FactorAnswer.Refused _ (Meaning n l u f) refused-means
+      (λ b. after-means FactorAnswer.Refused _ _ (Meaning n l u f) refused-means (λ q. shaped-means (passed-bounds k l u (b .tables)) (first-passed _ _ q)))

@@ -150,7 +150,7 @@ module _ (n : ℕ) (R : Matrix) (t : List ℤ) where
     columns-turned (suc j) h = turned-next (column-turned (omega arith) (columns-turned j (omega arith)) (suc j) (omega arith))
 
   -- ---- the whole residual
-  pub gram-at : factorShape n R ≡ true → (i j : ℕ) → i ≤ j → j < n → gramAt R i j ≡ gram n R i j
+  gram-at : factorShape n R ≡ true → (i j : ℕ) → i ≤ j → j < n → gramAt R i j ≡ gram n R i j
   unfolding gram gramAt
   gram-at e i j h k =
       sym (sum-prefix n (suc i) (λ k. R k i *ℤ R k j) (omega arith) (λ k a b. ap (λ (z : ℤ). z *ℤ R k j) (factor-below n R e k i a b) ∙ zero-*ℤ (R k j)))

@@ -1,25 +1,19 @@
 -- The residual as it stands in the scratch tables after it is worked out.
 use mathlib.Core.Path.{_≡_, _∙_}
-use mathlib.Core.Logic.{by-cases}
-use mathlib.Core.List.{List, [], _∷_, _++_}
+use mathlib.Core.List.{List, _++_}
 use Prim.Native.Nat.{ℕ, _*_, _/_, _%_, _≤_, _<_}
 use native.Mathlib.Omega.{arith}
-use native.Mathlib.Decide.{decLt}
 use lib.IntN.{ℤ}
 use lib.ListN.{length, take, drop}
-use Rattle.integers.specs.Numbers.{Within}
-use Rattle.integers.proofs.Solver.{order, solver}
 use Rattle.tables.specs.Ranges.{tableRoom}
-use Rattle.tables.specs.Matrix.{Matrix, at, table, gram}
+use Rattle.tables.specs.Matrix.{Matrix, at, table}
 use Rattle.tables.proofs.Matrix.{table-fits, tabulate-ext, nth-at, row-inside, column-inside}
 use Rattle.tables.proofs.Buffers.{copied-whole}
-use Rattle.tables.proofs.CheckedTables.{low-within, high-within}
-use Rattle.tables.proofs.Forms.{gram-symmetric}
-use Rattle.residual.specs.Residual.{residual, rowsPass, accepts}
-use Rattle.residual.specs.Scratch.{Offer, Residue, turned, gramRange, residualRange}
-use Rattle.residual.proofs.Sizes.{residual-within, gram-within}
-use Rattle.residual.proofs.Turned.{columns-turned, gram-at, turned-whole}
-use Rattle.residual.proofs.Rows.{rows-ext}
+use Rattle.residual.specs.Residual.{residual, leastOver, over}
+use Rattle.residual.specs.Scratch.{Offer, Residue, turned}
+use Rattle.residual.proofs.Sizes.{residual-ranged}
+use Rattle.residual.proofs.Turned.{columns-turned, turned-whole}
+use Rattle.residual.proofs.Rows.{least-over-ext}
 
 -- a table of order n that is copied into a buffer of its size
 copied-table : {n : ℕ} (M : Matrix) (t o : List ℤ) → n * n ≤ length t → length o ≡ n * n → ((i j : ℕ) → i < n → j < n → at n t i j ≡ M i j) →
@@ -50,30 +44,24 @@ module _ {n : ℕ} {l u f : List ℤ} (s : Offer n l u f) where
   high-whole : (i j : ℕ) → i < n → j < n → at n high i j ≡ residual n R (at n u) i j
   high-whole = turned-whole n R u (s .tables .high-length) (s .factor .shape) (s .tables .bounds .high-symmetric)
 
-  products-within : (i j : ℕ) → i < n → j < n → Within gramRange (gram n R i j)
-  products-within i j h k =
-      by-cases (decLt j i) (λ m. rw (gram-symmetric n R i j) (upper j i (omega arith) h)) (λ m. upper i j (omega arith) k)
-    where
-      upper : (i j : ℕ) → i ≤ j → j < n → Within gramRange (gram n R i j)
-      upper i j h k = rw (← gram-at n R l (s .factor .shape) i j h k) (gram-within (s .factor) h k)
-
   -- what the row test asks of its tables
   pub residue : Residue n low high
-  unfolding residual
-  residue = record {
-    order = s .factor .order;
-    rooms = record { low-size = low-size; high-size = high-size };
-    low = λ i j h k. rw (low-whole i j h k) (residual-within (low-within (s .tables) h k) (products-within i j h k));
-    high = λ i j h k. rw (high-whole i j h k) (residual-within (high-within (s .tables) h k) (products-within i j h k));
-    ordered = λ i j h k.
-        rw (low-whole i j h k, high-whole i j h k)
-        (order (at n l i j ∷ at n u i j ∷ gram n R i j ∷ []) (s .tables .bounds .ordered i j h k) (search solver depth 40 fits 20000) (omega arith));
-  }
+  residue =
+      let r = residual-ranged n R (s .factor .order) (s .factor .shape) (at n l) (at n u) (s .tables .bounds) in
+      record {
+        rooms = record { low-size = low-size; high-size = high-size };
+        ranged = record {
+          order = s .factor .order;
+          low = λ i j h k. rw (low-whole i j h k) (r .low i j h k);
+          high = λ i j h k. rw (high-whole i j h k) (r .high i j h k);
+          ordered = λ i j h k. rw (low-whole i j h k, high-whole i j h k) (r .ordered i j h k);
+        };
+      }
 
-  -- the row test over them is the residual test of the factor
-  pub rows-accept : rowsPass n (at n low) (at n high) ≡ accepts n R (at n l) (at n u)
-  unfolding accepts
-  rows-accept = rows-ext n _ _ _ _ low-whole high-whole
+  -- what their rows have over is what those of the factor's residual have
+  pub least-over : leastOver n (at n low) (at n high) ≡ over n R (at n l) (at n u)
+  unfolding over
+  least-over = least-over-ext n _ _ _ _ low-whole high-whole
 
   -- what is copied from them is the residual's tables
   pub low-table : (o : List ℤ) → length o ≡ n * n → take (n * n) low ++ drop (n * n) o ≡ table n (residual n R (at n l))

@@ -1,11 +1,12 @@
--- R7 of docs/RULES.md: the residual of a factor, and the row test, a Gerschgorin test of the residual.
+-- R7 of docs/RULES.md: the residual of a factor, the row test, a Gerschgorin test of the residual, and what its rows have over.
 use mathlib.Core.Bool.{Bool}
-use Prim.Native.Nat.{ℕ}
-use lib.IntN.{_-ℤ_, _*ℤ_}
-use lib.Signed.{leZ}
-use Rattle.integers.specs.Numbers.{absℤ, maxℤ}
+use Prim.Native.Nat.{ℕ, zero, suc}
+use lib.IntN.{ℤ, pos, _+ℤ_, _-ℤ_, _*ℤ_}
+use lib.Signed.{_≤ℤ_, leZ}
+use Rattle.integers.specs.Numbers.{absℤ, maxℤ, leastOf}
 use Rattle.integers.specs.Sum.{sumExcept}
-use Rattle.tables.specs.Matrix.{Matrix, gram}
+use Rattle.tables.specs.Matrix.{Matrix, form, image, normSquared, gram}
+use Rattle.tables.specs.Members.{Member}
 use Rattle.tables.specs.Checks.{all}
 use Rattle.cholesky.specs.Scale.{scale}
 
@@ -28,3 +29,22 @@ rowsPass n A B = all n (rowPasses n A B)
 -- R7.3: the factor R is accepted for the bounds L and U, where the rows of its residual pass
 unfoldable pub accepts : ℕ → Matrix → Matrix → Matrix → Bool
 accepts n R L U = rowsPass n (residual n R L) (residual n R U)
+
+-- ---- what the rows have over
+-- R7.7: of row i, its left side less its right side
+unfoldable pub rowOver : ℕ → Matrix → Matrix → ℕ → ℤ
+rowOver n A B i = A i i -ℤ sumExcept n i (radius A B i)
+
+-- the least over all rows; 0 of none
+unfoldable pub leastOver : ℕ → Matrix → Matrix → ℤ
+leastOver zero A B = pos 0
+leastOver (suc m) A B = leastOf m (rowOver (suc m) A B)
+
+-- of the factor R for the bounds L and U
+unfoldable pub over : ℕ → Matrix → Matrix → Matrix → ℤ
+over n R L U = leastOver n (residual n R L) (residual n R U)
+
+-- D3.8: 2^32 x'Mx ≥ v x'x + |Rx|² for every member M = N over q and every x
+pub record FormBound (n : ℕ) (R L U : Matrix) (v : ℤ) : Type 0 where
+  pub bound : (N : Matrix) (q : ℤ) → Member n L U N q → (x : ℕ → ℤ) →
+      (q *ℤ (v *ℤ normSquared n x +ℤ normSquared n (image n R x))) ≤ℤ (scale *ℤ form n N x)

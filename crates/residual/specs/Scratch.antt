@@ -7,7 +7,7 @@ use lib.IntN.{ℤ, _-ℤ_, _*ℤ_}
 use lib.Signed.{_≤ℤ_}
 use lib.ListN.{length, set}
 use Rattle.integers.specs.Numbers.{Within}
-use Rattle.integers.specs.Sum.{sum, sumExcept}
+use Rattle.integers.specs.Sum.{sum}
 use Rattle.tables.specs.Ranges.{greatestOrder, tableRoom, entryRange}
 use Rattle.tables.specs.Matrix.{Matrix, at}
 use Rattle.tables.specs.Bounds.{CheckedTables}
@@ -15,7 +15,6 @@ use Rattle.tables.specs.Entering.{Rooms}
 use Rattle.cholesky.specs.Scale.{scale}
 use Rattle.cholesky.specs.Rows.{productRange}
 use Rattle.residual.specs.FactorTest.{factorShape}
-use Rattle.residual.specs.Residual.{radius}
 
 -- ---- sizes: P(i,j), a sum of products of two entries of a factor; and 2^32 M(i,j) - P(i,j), where 2^32 M(i,j) is as small as one of them
 abbrev pub gramRange : ℕ
@@ -23,6 +22,10 @@ gramRange = greatestOrder * productRange
 
 abbrev pub residualRange : ℕ
 residualRange = (greatestOrder + 1) * productRange
+
+-- what a row has over: an entry of the residual less radii, fewer than n of them
+abbrev pub overRange : ℕ
+overRange = (greatestOrder + 1) * residualRange
 
 -- a factor of order n that passed check 6
 pub record Shaped (n : ℕ) (f : List ℤ) : Type 0 where
@@ -65,14 +68,14 @@ turned n R t zero = t
 turned n R t (suc j) = turnedColumn n R (turned n R t j) j (suc j)
 
 -- ---- the rows of a residual
+-- what holds of its tables A and B, of order n
+pub record Ranged (n : ℕ) (A B : Matrix) : Type 0 where
+  pub order : n ≤ greatestOrder
+  pub low : (i j : ℕ) → i < n → j < n → Within residualRange (A i j)
+  pub high : (i j : ℕ) → i < n → j < n → Within residualRange (B i j)
+  pub ordered : (i j : ℕ) → i < n → j < n → A i j ≤ℤ B i j
+
 -- scratch tables of order n that hold a residual
 pub record Residue (n : ℕ) (a b : List ℤ) : Type 0 where
-  pub order : n ≤ greatestOrder
   pub rooms : Rooms a b
-  pub low : (i j : ℕ) → i < n → j < n → Within residualRange (at n a i j)
-  pub high : (i j : ℕ) → i < n → j < n → Within residualRange (at n b i j)
-  pub ordered : (i j : ℕ) → i < n → j < n → at n a i j ≤ℤ at n b i j
-
--- what row i has over: its left side less its right side
-unfoldable pub rowOver : ℕ → Matrix → Matrix → ℕ → ℤ
-rowOver n A B i = A i i -ℤ sumExcept n i (radius A B i)
+  pub ranged : Ranged n (at n a) (at n b)

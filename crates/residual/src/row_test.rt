@@ -1,11 +1,11 @@
-// The row test, R7.2 and R7.3 of docs/RULES.md, over the two tables of a residual: what each row's diagonal entry has over its radii.
+// The row test, R7.2 and R7.7 of docs/RULES.md, over the two tables of a residual: what each row's diagonal entry has over its radii.
 ghost use mathlib.Core.Path.{_≡_};
 ghost use Prim.Native.Nat.{_<_};
 ghost use lib.Signed.{_≤ℤ_};
 ghost use Rattle.integers.specs.Numbers.{Within, absℤ, maxℤ};
 ghost use Rattle.tables.specs.Matrix.{at};
-ghost use Rattle.residual.specs.Residual.{radius, rowsPass};
-ghost use Rattle.residual.specs.Scratch.{residualRange, Residue, rowOver};
+ghost use Rattle.residual.specs.Residual.{radius, rowOver, leastOver};
+ghost use Rattle.residual.specs.Scratch.{residualRange, Residue};
 use tables::Table;
 
 // The greater of |a| and |b|, where a is at most b.
@@ -41,17 +41,19 @@ fn row_over(n: usize, low: &Table, high: &Table, i: usize) -> i64
     over
 }
 
-// Whether no row of a residual has less than 0 over.
-pub fn rows_pass(n: usize, low: &Table, high: &Table) -> bool
-    requires { ⌜ Residue n (now low) (now high) ⌝ }
-    ensures { λ r. ⌜ r ≡ rowsPass n (at n (now (low .entry))) (at n (now (high .entry))) ⌝ }
+// What the rows of a residual have over: the least over all of them.
+pub fn least_over(n: usize, low: &Table, high: &Table) -> i64
+    requires { ⌜ Residue n (now low) (now high) × (0 < n) ⌝ }
+    ensures { λ r. ⌜ r ≡ leastOver n (at n (now (low .entry))) (at n (now (high .entry))) ⌝ }
 {
-    let mut i = 0;
+    let mut least = row_over(n, low, high, 0);
+    let mut i = 1;
     while i < n {
-        if row_over(n, low, high, i) < 0 {
-            return false;
+        let over = row_over(n, low, high, i);
+        if over < least {
+            least = over;
         }
         i += 1;
     }
-    true
+    least
 }

@@ -4,17 +4,15 @@ use native.Mathlib.Omega.{arith}
 use borrow.Author.Needs.{needs}
 use lib.ListN.{length}
 use Rattle.integers.proofs.Machine.{clean}
-use Rattle.tables.specs.Matrix.{at}
-use Rattle.tables.specs.Members.{PositiveDefinite}
 use Rattle.tables.specs.Checks.{orderOf}
 use Rattle.tables.specs.Entering.{Entered}
-use Rattle.tables.specs.declared.Answer.{Answer}
-use Rattle.tables.specs.declared.Answer.the-variants as Answer
 use Rattle.tables.proofs.Checks.{sizes-of}
 use Rattle.tables.proofs.Answers.{exactly}
-use Rattle.tables.proofs.Admission.{order-fits, no-order, came-through, entered-refused, entered-passed}
-use Rattle.residual.specs.FactorTest.{factorSizes, factorTested, factorTest}
-use Rattle.residual.proofs.Meaning.{tested-definite}
+use Rattle.tables.proofs.Admission.{order-fits, order-positive, no-order, came-through, entered-refused, entered-passed}
+use Rattle.residual.specs.FactorTest.{factorSizes, factorTested, factorTest, Meaning}
+use Rattle.residual.specs.declared.factor_test.FactorAnswer.{FactorAnswer}
+use Rattle.residual.specs.declared.factor_test.FactorAnswer.the-variants as FactorAnswer
+use Rattle.residual.proofs.Meaning.{tested-means}
 use Rattle.residual.proofs.factor_test.test_factor.Statement.{statement}
 use Rattle.residual.proofs.factor_test.test_factor.Tie as tie
 
@@ -39,14 +37,12 @@ came : (c : tie.After-enter) → let a = start c .args in
 came c = rw (clean (start c .fits .n), sized (met c)) at (c .enter .ensures)
 
 -- what an answer means
-abbrev means : tie.Start → Answer → Type 0
-means s r =
-    let a = s .args in
-    r ≡ Answer.Yes → PositiveDefinite (orderOf (a .n)) (at (orderOf (a .n)) (a .low .now)) (at (orderOf (a .n)) (a .high .now))
+abbrev means : tie.Start → FactorAnswer → Type 0
+means s = let a = s .args in Meaning (a .n) (a .low .now) (a .high .now) (a .factor .now)
 
-definite : (s : tie.Start) → let a = s .args in means s (factorTest (a .n) (a .low .now) (a .high .now) (a .factor .now))
+meant : (s : tie.Start) → let a = s .args in means s (factorTest (a .n) (a .low .now) (a .high .now) (a .factor .now))
 unfolding factorTest
-definite s = let a = s .args in tested-definite (a .low .now) (a .high .now) (a .factor .now) (a .n) _
+meant s = let a = s .args in tested-means (a .n) (a .low .now) (a .high .now) (a .factor .now) _
 
 pub test-factor-spec : {M : Type 1} → statement M
 unfolding factorTest factorTested
@@ -54,7 +50,7 @@ test-factor-spec =
     tie.close
     (tie.spec
     (λ c κs. search needs)
-    (λ c. let s = c .before .before in exactly (means s) (definite s) _ (no-order _ _ _ _ _ Answer.Refused _ (sym (order (c .before)) ∙ c .if1 .taken)))
+    (λ c. let s = c .before .before in exactly (means s) (meant s) _ (no-order _ _ _ _ _ FactorAnswer.Refused _ (sym (order (c .before)) ∙ c .if1 .taken)))
     (λ c. record { fits = omega (arith, order-fits _ (order (c .before))) })
     (λ c. record { fits = omega (arith, order-fits _ (order (c .before))) })
     (λ c κs. search needs)
@@ -65,18 +61,19 @@ test-factor-spec =
     (λ c.
     let e = c .before .before .before in
     let s = start e in
-    exactly (means s) (definite s) _ (entered-refused _ _ _ _ _ Answer.Refused _ (came e) (c .before .checked .given .1)))
+    exactly (means s) (meant s) _ (entered-refused _ _ _ _ _ FactorAnswer.Refused _ (came e) (c .before .checked .given .1)))
     (λ c. search needs)
     (λ c κs.
     let e = c .before .before .before .before in
     let q = c .before .before .enum-told .given .1 in
-    let z = sizes-of _ _ _ _ _ (came-through _ _ _ _ _ (came e) q .sizes) in
-    rw (order (met e .before .before)) (came e .held q .tables, came e .rooms, omega (arith, z .2)))
+    let b = came-through _ _ _ _ _ (came e) q in
+    let z = sizes-of _ _ _ _ _ (b .sizes) in
+    rw (order (met e .before .before)) (came e .held q .tables, came e .rooms, omega (arith, z .2), order-positive _ (b .ordered)))
     (λ c.
     let d = c .before .before .before in
     let e = d .before .before in
     let q = d .enum-told .given .1 in
     let s = start e in
     let h = came e .held q in
-    exactly (means s) (definite s) _
-    ((rw (order (met e .before .before), h .low, h .high) at (c .answer .ensures)) ∙ entered-passed _ _ _ _ _ Answer.Refused _ (came e) q)))
+    exactly (means s) (meant s) _
+    ((rw (order (met e .before .before), h .low, h .high) at (c .answer .ensures)) ∙ entered-passed _ _ _ _ _ FactorAnswer.Refused _ (came e) q)))

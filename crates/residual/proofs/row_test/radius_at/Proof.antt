@@ -12,7 +12,7 @@ use Rattle.residual.proofs.row_test.radius_at.Tie as tie
 
 -- the place lies in the tables
 here : (c : tie.Start) → let a = c .args in a .i * a .n + a .j < tableRoom
-here c = omega (arith, inside (c .pre .1) (c .pre .2), table-fits (c .pre .0 .order))
+here c = omega (arith, inside (c .pre .1) (c .pre .2), table-fits (c .pre .0 .ranged .order))
 
 -- the two numbers there
 abbrev low-at : tie.Start → ℤ
@@ -37,7 +37,7 @@ radius-at-spec =
     let s = d .before in
     let p = s .pre in
     rw (clean-element (low-at s) (d .radius-arg .given), clean-element (high-at s) (c .radius-arg2 .given))
-    (p .0 .ordered _ _ (p .1) (p .2), p .0 .low _ _ (p .1) (p .2), p .0 .high _ _ (p .1) (p .2)))
+    (p .0 .ranged .ordered _ _ (p .1) (p .2), p .0 .ranged .low _ _ (p .1) (p .2), p .0 .ranged .high _ _ (p .1) (p .2)))
     (λ c.
     let d = c .before .before in
     let s = d .before in

@@ -21,18 +21,18 @@ abbrev μ-loop : tie.MeasureT-loop
 
 -- the diagonal entry lies in the table
 here : (c : tie.Start Inv-loop μ-loop) → let a = c .args in a .i * a .n + a .i < tableRoom
-here c = omega (arith, inside (c .pre .1) (c .pre .1), table-fits (c .pre .0 .order))
+here c = omega (arith, inside (c .pre .1) (c .pre .1), table-fits (c .pre .0 .ranged .order))
 
 add-over-2 : tie.Need-add-over-2 Inv-loop μ-loop
 unfolding at
 add-over-2 c =
     let p = c .before .before .pre in
-    rw (clean-result (c .radius-at), c .radius-at .ensures, clean-element _ (c .before .over .given)) (first-fits (p .0) (p .1))
+    rw (clean-result (c .radius-at), c .radius-at .ensures, clean-element _ (c .before .over .given)) (first-fits (p .0 .ranged) (p .1))
 
 sub-over : tie.Need-sub-over Inv-loop μ-loop
 sub-over c =
     let p = c .before .before .before .before .before .pre in
-    rw (c .before .before .loop .inv .1, clean-result (c .radius-at2), c .radius-at2 .ensures) (left-fits (p .0) (p .1) (c .before .loop-test .taken))
+    rw (c .before .before .loop .inv .1, clean-result (c .radius-at2), c .radius-at2 .ensures) (left-fits (p .0 .ranged) (p .1) (c .before .loop-test .taken))
 
 pub row-over-spec : {M : Type 1} → statement M
 unfolding at
