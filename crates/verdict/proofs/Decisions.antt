@@ -1,44 +1,51 @@
 -- The verdict by its steps: a refusal, a factoring that ends, and one that stops.
-use mathlib.Core.Path.{_≡_, sym, ap, _∙_}
+use mathlib.Core.Path.{_≡_, sym, ap, ap₂, _∙_}
 use mathlib.Core.Bool.{Bool, true, false}
-use mathlib.Core.List.{List, [], _++_}
-use Prim.Native.Nat.{ℕ, _+_}
+use mathlib.Core.List.{List, _++_}
+use Prim.Native.Nat.{ℕ, _+_, _*_, _/_, _%_, _≤_, _<_}
 use native.Mathlib.Omega.{arith}
 use borrow.Author.Tests.{eqb-true}
 use lib.Dec.{eqb}
 use lib.IntN.{ℤ, pos}
-use Rattle.tables.specs.Matrix.{Matrix, nth, table, tabulate}
+use lib.ListN.{length}
+use lib.Seq.{ext-getD}
+use Rattle.tables.specs.Matrix.{Matrix, at, nth, table, tabulate}
+use Rattle.tables.specs.Ranges.{greatestOrder}
+use Rattle.tables.specs.Bounds.{Bounds}
 use Rattle.tables.specs.Checks.{sizesOk}
-use Rattle.tables.specs.declared.Refusal.{Refusal}
-use Rattle.tables.proofs.Checks.{of-true, and-left, and-right, sizes-of}
-use Rattle.tables.proofs.Matrix.{tabulate-ext}
+use Rattle.tables.proofs.Checks.{true-of, of-true, and-left, and-right, sizes-of}
+use Rattle.tables.proofs.Matrix.{tabulate-ext, length-tabulate, nth-tabulate, inside, row-inside, column-inside, nth-at}
 use Rattle.cholesky.specs.Scale.{scaled}
 use Rattle.cholesky.specs.Factoring.{Factoring, entries, factored}
 use Rattle.cholesky.specs.Store.{Stored, triangle}
 use Rattle.cholesky.specs.declared.factoring.Outcome.the-variants.{Ends, Stops}
 use Rattle.cholesky.proofs.Columns.{all-columns}
 use Rattle.cholesky.proofs.Store.{outcome-ends, outcome-stops}
+use Rattle.residual.specs.Residual.{over}
+use Rattle.residual.specs.FactorTest.{factorShape}
+use Rattle.residual.proofs.Offers.{shape-ext, over-ext}
+use Rattle.theorems.proofs.Theorems.{ends-shape-takeOff}
 use Rattle.vectors.specs.Least.{shows}
 use Rattle.tried.specs.Tried.{tried, first}
 use Rattle.tried.specs.Search.{found, Searched}
 use Rattle.solved.specs.Solved.{solved}
 use Rattle.solved.specs.Stopped.{stoppedAt}
 use Rattle.solved.proofs.Stops.{stopped-at}
-use Rattle.verdict.specs.Judge.{Judgement, definite, notDefinite, listed, shownBy, judged, Judged, laidVerdict, judgeSizes}
-use Rattle.verdict.specs.Deciding.{stated, shownVerdict}
+use Rattle.verdict.specs.FactorTable.{Written}
+use Rattle.verdict.specs.Judge.{Judgement, definite, notDefinite, listed, shownBy, definiteBy, judged, judgeSizes}
+use Rattle.verdict.specs.Deciding.{stated, shownVerdict, leftBy, Decided}
 use Rattle.verdict.specs.declared.judge.Verdict.{Verdict}
-use Rattle.verdict.specs.declared.judge.Verdict.the-variants as Verdict
-use Rattle.verdict.proofs.Writing.{factor-table}
+use Rattle.verdict.proofs.Writing.{triangle-entries}
 
 -- ---- the two cases of the definition
 module _ (n : ℕ) (L U : Matrix) where
   by-end : Bool → Judgement
   by-end b = elim b [
-    | true ↦ definite (table n (entries (factored n L U .columns)))
+    | true ↦ definiteBy n L U (entries (factored n L U .columns))
     | false ↦ shownBy (first (λ x. shows n L U (nth x)) (listed n L U))
   ]
 
-  pub judged-ends : factored n L U .ends ≡ true → judged n L U ≡ definite (table n (entries (factored n L U .columns)))
+  pub judged-ends : factored n L U .ends ≡ true → judged n L U ≡ definiteBy n L U (entries (factored n L U .columns))
   unfolding judged by-end
   judged-ends e = ap by-end e
 
@@ -46,62 +53,72 @@ module _ (n : ℕ) (L U : Matrix) where
   unfolding judged by-end
   judged-stops e = ap by-end e
 
--- ---- what the code states
-module _ (n : ℕ) (L U : Matrix) (t x : List ℤ) where
+-- ---- a factoring that ended, with its columns in t, and the factor written to the first n² numbers of f
+module _ (n : ℕ) (L U : Matrix) (t f : List ℤ) (s : Stored (factored n L U) Ends t) (w : Written n (triangle t) f (n * n)) where
+  abbrev R : Matrix
+  R = entries (factored n L U .columns)
+
+  pub ended : factored n L U .ends ≡ true
+  ended = sym (outcome-ends _ (sym (s .outcome)))
+
+  -- the factor's entries
+  factor-entries : (i j : ℕ) → i < n → j < n → at n f i j ≡ R i j
+  factor-entries i j h k =
+      let c = rw (all-columns n (scaled n L U) (of-true ended)) at (s .columns) in
+      w .entries i j k (inside h k) ∙ triangle-entries t n i j k ∙ ap (λ (cs : List (List ℤ)). entries cs i j) c
+
+  factor-whole : tabulate (n * n) (nth f) ≡ table n R
+  unfolding table
+  factor-whole =
+      tabulate-ext (n * n) _ _ (λ k h.
+      let r = row-inside n k h in
+      let c = column-inside n k h in
+      nth-at n k f ∙ factor-entries (k / n) (k % n) r c)
+
+  -- it passes check 6
+  pub factor-shaped : n ≤ greatestOrder → Bounds n L U → factorShape n (at n f) ≡ true
+  factor-shaped o b = shape-ext n (at n f) R factor-entries ∙ true-of _ (ends-shape-takeOff n o L U b (of-true ended))
+
+  pub certified : judged n L U ≡ definite (tabulate (n * n) (nth f)) (over n (at n f) L U)
+  certified = judged-ends n L U ended ∙ sym (ap₂ definite factor-whole (over-ext n (at n f) R L U factor-entries))
+
+-- ---- what the code states, where factoring stopped
+module _ (n : ℕ) (L U : Matrix) (t f x : List ℤ) where
   abbrev passes : List ℤ → Bool
   passes v = shows n L U (nth v)
 
-  pub decided-definite : Stored (factored n L U) Ends t → judged n L U ≡ stated n Verdict.Definite t x
-  unfolding stated
-  decided-definite s =
-      let e = outcome-ends _ (sym (s .outcome)) in
-      let c = rw (all-columns n (scaled n L U) (of-true (sym e))) at (s .columns) in
-      judged-ends n L U (sym e) ∙ ap (λ (cs : List (List ℤ)). definite (table n (entries cs))) (sym c) ∙ ap definite (sym (factor-table t n))
-
   -- a factoring that stopped, and what was found in the listed vectors
   module _ {j m : ℕ} (s : Stored (factored n L U) (Stops j m) t) (r : Bool)
-      (f : Searched (first passes (tried n ++ (solved n (stoppedAt t j m) (pos 1) ++ solved n (stoppedAt t j m) (pos 64)))) r 0 n x) where
+      (a : Searched (first passes (tried n ++ (solved n (stoppedAt t j m) (pos 1) ++ solved n (stoppedAt t j m) (pos 64)))) r 0 n x) where
     found-is : judged n L U ≡ shownBy (found r 0 n x)
     unfolding listed
     found-is =
         let e = stopped-at s in
         judged-stops n L U (sym (outcome-stops _ _ _ (sym (s .outcome))))
-        ∙ ap (λ (g : Factoring). shownBy (first passes (tried n ++ (solved n g (pos 1) ++ solved n g (pos 64))))) e ∙ ap shownBy (f .answer)
+        ∙ ap (λ (g : Factoring). shownBy (first passes (tried n ++ (solved n g (pos 1) ++ solved n g (pos 64))))) e ∙ ap shownBy (a .answer)
 
   found-stated : {j m : ℕ} → Stored (factored n L U) (Stops j m) t → (r : Bool) →
-      Searched (first passes (tried n ++ (solved n (stoppedAt t j m) (pos 1) ++ solved n (stoppedAt t j m) (pos 64)))) r 0 n x → judged n L U ≡ stated n (shownVerdict r) t x
+      Searched (first passes (tried n ++ (solved n (stoppedAt t j m) (pos 1) ++ solved n (stoppedAt t j m) (pos 64)))) r 0 n x → judged n L U ≡ stated n (shownVerdict r) f x
   unfolding found stated shownVerdict
-  found-stated s true f = found-is s true f ∙ ap notDefinite (tabulate-ext n _ _ (λ i h. let e : 0 + i ≡ i = omega arith in rw e))
-  found-stated s false f = found-is s false f
+  found-stated s true a = found-is s true a ∙ ap notDefinite (tabulate-ext n _ _ (λ i h. let e : 0 + i ≡ i = omega arith in rw e))
+  found-stated s false a = found-is s false a
 
   pub decided-shown : {j m : ℕ} → Stored (factored n L U) (Stops j m) t → {r : Bool} →
       Searched (first passes (tried n ++ (solved n (stoppedAt t j m) (pos 1) ++ solved n (stoppedAt t j m) (pos 64)))) r 0 n x →
-      {w : Verdict} → w ≡ shownVerdict r → judged n L U ≡ stated n w t x
-  decided-shown s {r} f e = found-stated s r f ∙ ap (λ (w : Verdict). stated n w t x) (sym e)
+      {w : Verdict} → w ≡ shownVerdict r → judged n L U ≡ stated n w f x
+  decided-shown s {r} a e = found-stated s r a ∙ ap (λ (w : Verdict). stated n w f x) (sym e)
 
--- ---- what is handed out with a judgement g, in buffers of any kind
-module _ {A : Type 0} (F W : List ℤ → A) (f v : A) (g : Judgement) (n : ℕ) (t x : List ℤ) where
-  module _ {r : Verdict} (e : g ≡ stated n r t x) where
-    given-by : (s : Verdict) → r ≡ s → laidVerdict F W (stated n s t x) f v ≡ laidVerdict F W g f v
-    given-by s q = sym (ap (λ (g : Judgement). laidVerdict F W g f v) (e ∙ ap (λ (r : Verdict). stated n r t x) q))
+-- ---- what is left of the lent numbers
+pub left-as : {g : Judgement} {n : ℕ} {r : Verdict} {f₀ f x : List ℤ} → Decided g n r f₀ f x → (s : Verdict) → r ≡ s → f ≡ leftBy s f₀ f
+left-as {f₀ = f₀} {f = f} d s e = d .left ∙ ap (λ (z : Verdict). leftBy z f₀ f) e
 
-    pub given-definite : {f′ : A} → r ≡ Verdict.Definite → f′ ≡ F (table n (triangle t)) →
-        _≡_ {A = Judged A} (record { verdict = Verdict.Definite; factor = f′; vector = v }) (laidVerdict F W g f v)
-    unfolding stated
-    given-definite q w = rw w (given-by Verdict.Definite q)
+pub whole : {m : ℕ} {f : List ℤ} → length f ≡ m → f ≡ tabulate m (nth f)
+whole {m} {f} e = ext-getD (pos 0) f (tabulate m (nth f)) (e ∙ sym (length-tabulate m (nth f))) (λ i h. sym (nth-tabulate m (nth f) i (omega arith)))
 
-    pub given-not : {v′ : A} → r ≡ Verdict.NotDefinite → v′ ≡ W (tabulate n (nth x)) →
-        _≡_ {A = Judged A} (record { verdict = Verdict.NotDefinite; factor = f; vector = v′ }) (laidVerdict F W g f v)
-    unfolding stated
-    given-not q w = rw w (given-by Verdict.NotDefinite q)
-
-    pub given-undecided : r ≡ Verdict.Undecided → _≡_ {A = Judged A} (record { verdict = Verdict.Undecided; factor = f; vector = v }) (laidVerdict F W g f v)
-    unfolding stated
-    given-undecided q = given-by Verdict.Undecided q
-
-    pub given-refused : (k : Refusal) → r ≡ Verdict.Refused k → _≡_ {A = Judged A} (record { verdict = Verdict.Refused k; factor = f; vector = v }) (laidVerdict F W g f v)
-    unfolding stated
-    given-refused k q = given-by (Verdict.Refused k) q
+-- ---- what is made of a judgement is made of what the code states
+pub made-of : {A : Type 0} (P : Judgement → A) {g : Judgement} {n : ℕ} {r : Verdict} {f₀ f x : List ℤ} → Decided g n r f₀ f x → (s : Verdict) → r ≡ s →
+    P (stated n s f x) ≡ P g
+made-of P {n = n} {f = f} {x = x} d s q = sym (ap P (d .verdict ∙ ap (λ (r : Verdict). stated n r f x) q))
 
 -- ---- checks 1 and 2 passed
 pub judge-sizes-of : (size entries l u f v : ℕ) → judgeSizes size entries l u f v ≡ true → (l ≡ size) × (u ≡ size) × (f ≡ size) × (v ≡ entries)

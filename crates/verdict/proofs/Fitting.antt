@@ -16,7 +16,7 @@ use Rattle.integers.specs.Numbers.{Within}
 use Rattle.integers.proofs.Parts.{≤ℤ-trans}
 use Rattle.integers.proofs.Machine.{within-in}
 use Rattle.tables.specs.Ranges.{greatestOrder, factorRange, vectorRange}
-use Rattle.tables.specs.Matrix.{Matrix, at, nth, table}
+use Rattle.tables.specs.Matrix.{Matrix, nth, table}
 use Rattle.tables.specs.Bounds.{Bounds}
 use Rattle.tables.specs.Checks.{within, orderOf}
 use Rattle.tables.specs.Entering.{lowBounds, highBounds}
@@ -27,6 +27,8 @@ use Rattle.tables.proofs.Admission.{order-small, entered-means}
 use Rattle.cholesky.specs.Factoring.{Factoring, factored}
 use Rattle.cholesky.proofs.Lists.{nth-past}
 use Rattle.residual.specs.FactorTest.{factorShape}
+use Rattle.residual.specs.Scratch.{overRange}
+use Rattle.residual.proofs.Sizes.{over-within}
 use Rattle.residual.proofs.Meaning.{entry-by}
 use Rattle.theorems.proofs.Theorems.{ends-shape-takeOff}
 use Rattle.vectors.specs.Least.{shows}
@@ -36,11 +38,11 @@ use Rattle.solved.specs.Stopped.{startRange}
 use Rattle.solved.proofs.Solving.{rows-on, rows-none}
 use Rattle.solved.proofs.SolvedVector.{solved-vector}
 use Rattle.solved.proofs.Stops.{bounds-stop}
-use Rattle.verdict.specs.Judge.{Judgement, definite, notDefinite, undecided, refused, listed, shownBy, judged, judging}
+use Rattle.verdict.specs.Judge.{Judgement, definite, notDefinite, undecided, refused, listed, shownBy, definiteBy, judged, judging}
 use Rattle.verdict.proofs.Decisions.{judged-ends, judged-stops}
 
 abbrev pub Fitting : ℕ → Judgement → Type 0
-Fitting n (definite t) = Small (n * n) factorRange t
+Fitting n (definite t w) = Small (n * n) factorRange t × Within overRange w
 Fitting n (notDefinite x) = Small n vectorRange x
 Fitting n undecided = Unit {0}
 Fitting n (refused r) = Unit {0}
@@ -137,10 +139,13 @@ module _ (n : ℕ) (o : n ≤ greatestOrder) (L U : Matrix) (b : Bounds n L U) w
   pub stops-fitting : factored n L U .ends ≡ false → Fitting n (shownBy (first (λ x. shows n L U (nth x)) (listed n L U)))
   stops-fitting e = first-fitting (λ x. shows n L U (nth x)) (listed n L U) (listed-sized e)
 
+  definite-fitting : (R : Matrix) → T (factorShape n R) → Fitting n (definiteBy n L U R)
+  definite-fitting R t = (factor-sized n R t, over-within n R o (true-of _ t) L U b)
+
   judged-fitting : Fitting n (judged n L U)
   judged-fitting =
       cases (factored n L U .ends)
-      (λ e. subst (Fitting n) (sym (judged-ends n L U e)) (factor-sized n _ (ends-shape-takeOff n o L U b (of-true e))))
+      (λ e. subst (Fitting n) (sym (judged-ends n L U e)) (definite-fitting _ (ends-shape-takeOff n o L U b (of-true e))))
       (λ e. subst (Fitting n) (sym (judged-stops n L U e)) (stops-fitting e))
 
 pub judging-fitting : (n : ℤ) (sized : Bool) (l u : List ℤ) → Fitting (orderOf n) (judging n sized l u)

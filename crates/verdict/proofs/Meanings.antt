@@ -1,12 +1,12 @@
--- What a verdict means: D3.2 of 'definite', D2.4 of 'not definite' (docs/RULES.md).
-use mathlib.Core.Path.{_≡_, refl, sym, ap, subst, _∙_}
+-- What a verdict means: D3.2, D3.6 and D3.8 of 'definite', D2.4 of 'not definite' (docs/RULES.md).
+use mathlib.Core.Path.{_≡_, refl, sym, ap, ap₂, subst, _∙_}
 use mathlib.Core.Logic.{_⊎_, inl, inr}
 use mathlib.Core.Bool.{Bool, true, false, false≢true}
 use mathlib.Core.List.{List, [], _∷_, List·Memᴰ, List·Memᴰ·head, List·Memᴰ·tail, List·Memᴰ·cases-cons, List·Memᴰ·not-nil}
 use mathlib.Core.Option.{Option, none, some}
-use Prim.Native.Nat.{ℕ, _<_}
+use Prim.Native.Nat.{ℕ}
 use lib.Dec.{T}
-use lib.IntN.{ℤ}
+use lib.IntN.{ℤ, pos}
 use borrow.Table.Steps.{cases}
 use Rattle.tables.specs.Ranges.{vectorRange}
 use Rattle.tables.specs.Matrix.{Matrix, at, nth, table}
@@ -16,20 +16,23 @@ use Rattle.tables.specs.Entering.{lowBounds, highBounds}
 use Rattle.tables.specs.Answers.{yesOrNo}
 use Rattle.tables.specs.declared.Refusal.{Refusal}
 use Rattle.tables.specs.declared.Answer.the-variants as Answer
-use Rattle.tables.proofs.Checks.{of-true, true-of, and-left, and-of, all-of, all-ext, within-true, first-passes, first-none, passed-bounds}
+use Rattle.tables.proofs.Checks.{of-true, true-of, and-left, and-of, all-of, within-true, first-passes, first-none, passed-bounds}
 use Rattle.tables.proofs.Matrix.{at-table}
 use Rattle.tables.proofs.MendedTables.{definite-handed}
 use Rattle.tables.proofs.Answers.{after-passed}
 use Rattle.tables.proofs.Admission.{Behind, order-small, behind-entered, entered-means}
 use Rattle.cholesky.specs.Factoring.{entries, factored}
-use Rattle.residual.specs.FactorTest.{factorEntry, factorShape, factorAnswer, factorTested}
-use Rattle.residual.proofs.Offers.{accepts-ext}
+use Rattle.residual.specs.Residual.{over}
+use Rattle.residual.specs.FactorTest.{tested, factorAnswer, factorTested}
+use Rattle.residual.specs.declared.factor_test.FactorAnswer.the-variants as FactorAnswer
+use Rattle.residual.proofs.Offers.{shape-ext, accepts-ext, over-ext}
+use Rattle.residual.proofs.Meaning.{tested-means}
 use Rattle.theorems.proofs.Theorems.{ends-shape-takeOff, ends-accepted-takeOff, ends-definite-takeOff, margin-ends-takeOff}
 use Rattle.vectors.specs.Least.{nonzero, shows}
 use Rattle.vectors.specs.VectorTest.{vectorShape, vectorAnswer, vectorTested}
 use Rattle.vectors.proofs.Showing.{shows-witness, shows-not-definite, witness-handed}
 use Rattle.tried.specs.Tried.{first}
-use Rattle.verdict.specs.Judge.{Judgement, definite, refused, listed, shownBy, judged, judging, written, Meaning}
+use Rattle.verdict.specs.Judge.{Judgement, refused, listed, shownBy, definiteBy, judged, judging, written, Meaning}
 use Rattle.verdict.specs.declared.judge.Verdict.{Verdict}
 use Rattle.verdict.specs.declared.judge.Verdict.the-variants as Verdict
 use Rattle.verdict.proofs.Decisions.{judged-ends, judged-stops}
@@ -56,10 +59,12 @@ module _ (p : List ℤ → Bool) where
           not-here x t (inr m) = h x m t
       go false e (some x) h = (List·Memᴰ·tail (h .0), h .1)
 
--- the shape of a factor rests on its first n rows and columns
-shape-ext : (n : ℕ) (R S : Matrix) → ((i j : ℕ) → i < n → j < n → R i j ≡ S i j) → factorShape n R ≡ factorShape n S
-unfolding factorShape
-shape-ext n R S h = all-ext n _ _ (λ i k. all-ext n _ _ (λ j m. ap (factorEntry i j) (h i j k m)))
+-- the number that goes with a verdict; 0 with others than 'definite'
+unfoldable pub carried : Verdict → ℤ
+carried (Verdict.Definite w) = w
+carried Verdict.NotDefinite = pos 0
+carried Verdict.Undecided = pos 0
+carried (Verdict.Refused r) = pos 0
 
 -- ---- what the definition of the verdict gives, behind the door
 module _ (n : ℤ) (sized : Bool) (l u : List ℤ) (b : Behind n sized true l u) where
@@ -84,14 +89,16 @@ module _ (n : ℤ) (sized : Bool) (l u : List ℤ) (b : Behind n sized true l u)
   open-door = record { ordered = b .ordered; sizes = refl; within = refl; checked = b .checked; tables = b .tables }
 
   -- the factor test accepts the table of the factor
-  factor-accepted : T (factored k L U .ends) → factorTested n true l u (table k (entries (factored k L U .columns))) ≡ Answer.Yes
-  unfolding factorTested factorAnswer
+  abbrev R : Matrix
+  R = entries (factored k L U .columns)
+
+  factor-accepted : T (factored k L U .ends) → factorTested n true l u (table k R) ≡ FactorAnswer.Accepted (over k R L U)
+  unfolding factorTested factorAnswer tested
   factor-accepted t =
-      let R = entries (factored k L U .columns) in
       let same = at-table k R in
       let shape = shape-ext k (at k (table k R)) R same ∙ true-of _ (ends-shape-takeOff k (order-small n) L U bounds t) in
-      sym (behind-entered n true true l u Answer.Refused _ open-door) ∙ sym (after-passed Answer.Refused _ (first-passes _ _ shape ∙ first-none))
-      ∙ ap yesOrNo (accepts-ext k (at k (table k R)) R L U same ∙ true-of _ (ends-accepted-takeOff k (order-small n) L U bounds t))
+      sym (behind-entered n true true l u FactorAnswer.Refused _ open-door) ∙ sym (after-passed FactorAnswer.Refused _ (first-passes _ _ shape ∙ first-none))
+      ∙ ap₂ tested (accepts-ext k (at k (table k R)) R L U same ∙ true-of _ (ends-accepted-takeOff k (order-small n) L U bounds t)) (over-ext k (at k (table k R)) R L U same)
 
   -- the vector test says yes of a vector in its range that shows it
   vector-confirmed : (x : List ℤ) → Small k vectorRange x → shows k L U (nth x) ≡ true → vectorTested n true l u x ≡ Answer.Yes
@@ -104,22 +111,33 @@ module _ (n : ℤ) (sized : Bool) (l u : List ℤ) (b : Behind n sized true l u)
   Means g f v = Meaning n l u (written g f v .verdict) (written g f v .factor) (written g f v .vector)
 
   module _ (f v : List ℤ) where
-    ends-means : T (factored k L U .ends) → Means (definite (table k (entries (factored k L U .columns)))) f v
-    ends-means t = record {
-      definite = λ e. definite-handed k l u (ends-definite-takeOff k (order-small n) L U bounds t);
-      accepted = λ e. factor-accepted t;
-      shown = λ e. absurd (false≢true cc);
-      confirmed = λ e. absurd (false≢true cc);
-      from-list = λ e. absurd (false≢true cc);
-      exactly = λ a x m e. absurd (ends-shows-nothing t (nth x) e);
-      margin = λ a m. refl;
-    }
+    -- 'definite' has one number
+    number : {y w : ℤ} → Verdict.Definite y ≡ Verdict.Definite w → y ≡ w
+    unfolding carried
+    number e = ap carried e
+
+    ends-means : T (factored k L U .ends) → Means (definiteBy k L U R) f v
+    ends-means t =
+        let m = tested-means n l u (table k R) true in
+        record {
+          definite = λ w e. definite-handed k l u (ends-definite-takeOff k (order-small n) L U bounds t);
+          accepted = λ w e. factor-accepted t ∙ ap FactorAnswer.Accepted (number e);
+          enough = λ w e. m .enough w (factor-accepted t ∙ ap FactorAnswer.Accepted (number e));
+          bound = λ w e. m .bound w (inl (factor-accepted t ∙ ap FactorAnswer.Accepted (number e)));
+          shown = λ e. absurd (false≢true cc);
+          confirmed = λ e. absurd (false≢true cc);
+          from-list = λ e. absurd (false≢true cc);
+          exactly = λ a x m e. absurd (ends-shows-nothing t (nth x) e);
+          margin = λ a m. record { over = over k R L U; verdict = refl };
+        }
 
     stops-means : factored k L U .ends ≡ false → (q : Option (List ℤ)) → Picks (λ x. shows k L U (nth x)) (listed k L U) q → Fitting k (shownBy q) → Means (shownBy q) f v
     unfolding Picks
     stops-means s (some x) h z = record {
-      definite = λ e. absurd (false≢true cc);
-      accepted = λ e. absurd (false≢true cc);
+      definite = λ w e. absurd (false≢true cc);
+      accepted = λ w e. absurd (false≢true cc);
+      enough = λ w e. absurd (false≢true cc);
+      bound = λ w e. absurd (false≢true cc);
       shown = λ e. witness-handed k l u (shows-witness bounds (h .1));
       confirmed = λ e. vector-confirmed x z (h .1);
       from-list = λ e. h .0;
@@ -127,8 +145,10 @@ module _ (n : ℤ) (sized : Bool) (l u : List ℤ) (b : Behind n sized true l u)
       margin = λ a m. absurd (false≢true (sym s ∙ true-of _ (margin-ends-takeOff k (order-small n) L U bounds m)));
     }
     stops-means s none h z = record {
-      definite = λ e. absurd (false≢true cc);
-      accepted = λ e. absurd (false≢true cc);
+      definite = λ w e. absurd (false≢true cc);
+      accepted = λ w e. absurd (false≢true cc);
+      enough = λ w e. absurd (false≢true cc);
+      bound = λ w e. absurd (false≢true cc);
       shown = λ e. absurd (false≢true cc);
       confirmed = λ e. absurd (false≢true cc);
       from-list = λ e. absurd (false≢true cc);
@@ -146,8 +166,10 @@ module _ (n : ℤ) (sized : Bool) (l u : List ℤ) (b : Behind n sized true l u)
 -- ---- of any call at all
 refused-means : (n : ℤ) (l u f v : List ℤ) (r : Refusal) → Meaning n l u (Verdict.Refused r) f v
 refused-means n l u f v r = record {
-  definite = λ e. absurd (false≢true cc);
-  accepted = λ e. absurd (false≢true cc);
+  definite = λ w e. absurd (false≢true cc);
+  accepted = λ w e. absurd (false≢true cc);
+  enough = λ w e. absurd (false≢true cc);
+  bound = λ w e. absurd (false≢true cc);
   shown = λ e. absurd (false≢true cc);
   confirmed = λ e. absurd (false≢true cc);
   from-list = λ e. absurd (false≢true cc);

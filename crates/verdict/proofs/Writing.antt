@@ -2,14 +2,14 @@
 use mathlib.Core.Path.{_≡_, sym, ap, ap₂, _∙_}
 use mathlib.Core.Logic.{by-cases}
 use mathlib.Core.List.{List, []}
-use Prim.Native.Nat.{ℕ, suc, _+_, _*_, _/_, _%_, _<_}
+use Prim.Native.Nat.{ℕ, suc, _+_, _*_, _<_}
 use native.Mathlib.Omega.{arith}
 use native.Mathlib.Decide.{ℕ-discrete, decLt}
 use lib.IntN.{ℤ, pos}
 use lib.ListN.{length, set}
-use lib.Seq.{ext-getD, getD-set-same, getD-set-other}
+use lib.Seq.{getD-set-same, getD-set-other}
 use Rattle.tables.specs.Matrix.{Matrix, at, nth, table}
-use Rattle.tables.proofs.Matrix.{getD-tabulate, tabulate-ext, inside, row-inside, column-inside, nth-at, same-row, same-column, length-table, at-table}
+use Rattle.tables.proofs.Matrix.{getD-tabulate, same-row, same-column}
 use Rattle.cholesky.specs.Factoring.{entries}
 use Rattle.cholesky.specs.Store.{columnOf, columnsOf, triangle}
 use Rattle.cholesky.proofs.Lists.{nth-past}
@@ -41,19 +41,3 @@ module _ {n : ℕ} {M : Matrix} {f : List ℤ} where
         (λ e. rw e (getD-set-same f (i * n + j) (M i j) (pos 0) l) ∙ ap₂ M (sym (same-row i j a b h k e)) (sym (same-column i j a b h k e)))
         (λ d. getD-set-other f (i * n + j) (a * n + b) (M i j) (pos 0) d ∙ w .entries a b k (omega arith));
   }
-
-  -- a table that was written has the numbers of the matrix's table
-  pub written-nth : Written n M f (n * n) → (k : ℕ) → k < n * n → nth f k ≡ nth (table n M) k
-  written-nth w k h =
-      let r = row-inside n k h in
-      let c = column-inside n k h in
-      nth-at n k f ∙ w .entries (k / n) (k % n) c (inside r c) ∙ sym (nth-at n k (table n M) ∙ at-table n M (k / n) (k % n) r c)
-
-  -- a buffer of n² numbers is then the whole table
-  pub written-table : length f ≡ n * n → Written n M f (n * n) → f ≡ table n M
-  written-table e w = ext-getD (pos 0) f (table n M) (e ∙ sym (length-table n M)) (λ k h. written-nth w k (omega arith))
-
--- the table of the factor, whose columns stand in t
-pub factor-table : (t : List ℤ) (n : ℕ) → table n (triangle t) ≡ table n (entries (columnsOf t n))
-unfolding table
-factor-table t n = tabulate-ext (n * n) _ _ (λ k h. triangle-entries t n (k / n) (k % n) (column-inside n k h))

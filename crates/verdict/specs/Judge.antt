@@ -6,6 +6,7 @@ use mathlib.Core.Option.{Option, none, some}
 use Prim.Native.Nat.{ℕ, _*_}
 use lib.Dec.{eqb}
 use lib.IntN.{ℤ, pos, negsuc}
+use lib.Signed.{_≤ℤ_}
 use lib.ListN.{length}
 use Rattle.tables.specs.Matrix.{Matrix, at, nth, table}
 use Rattle.tables.specs.Members.{PositiveDefinite, Margin}
@@ -14,7 +15,9 @@ use Rattle.tables.specs.Checks.{orderOf, sizesOk}
 use Rattle.tables.specs.Entering.{lowBounds, highBounds, entered}
 use Rattle.tables.specs.declared.Refusal.{Refusal}
 use Rattle.cholesky.specs.Factoring.{entries, factored}
+use Rattle.residual.specs.Residual.{over, FormBound}
 use Rattle.residual.specs.FactorTest.{factorTested}
+use Rattle.residual.specs.declared.factor_test.FactorAnswer.the-variants.{Accepted}
 use Rattle.tables.specs.declared.Answer.the-variants.{Yes}
 use Rattle.vectors.specs.Least.{shows, Witness}
 use Rattle.vectors.specs.VectorTest.{vectorTested}
@@ -23,9 +26,9 @@ use Rattle.solved.specs.Solved.{solved}
 use Rattle.verdict.specs.declared.judge.Verdict.{Verdict}
 use Rattle.verdict.specs.declared.judge.Verdict.the-variants as Verdict
 
--- a verdict with what goes with it: the table of the factor, or the vector that shows it
+-- a verdict with what goes with it: the table of the factor and what the rows have over, or the vector that shows it
 pub data Judgement : Type 0 where
-  definite : List ℤ → Judgement
+  definite : List ℤ → ℤ → Judgement
   notDefinite : List ℤ → Judgement
   undecided : Judgement
   refused : Refusal → Judgement
@@ -39,11 +42,15 @@ abbrev pub shownBy : Option (List ℤ) → Judgement
 shownBy (some x) = notDefinite x
 shownBy none = undecided
 
+-- 'definite', with the factor R
+abbrev pub definiteBy : ℕ → Matrix → Matrix → Matrix → Judgement
+definiteBy n L U R = definite (table n R) (over n R L U)
+
 -- R11.2 to R11.4: 'definite' where factoring ends; else by the first listed vector that shows 'not definite', if there is one
 unfoldable pub judged : ℕ → Matrix → Matrix → Judgement
 judged n L U =
     elim (factored n L U .ends) [
-      | true ↦ definite (table n (entries (factored n L U .columns)))
+      | true ↦ definiteBy n L U (entries (factored n L U .columns))
       | false ↦ shownBy (first (λ x. shows n L U (nth x)) (listed n L U))
     ]
 
@@ -51,37 +58,32 @@ judged n L U =
 unfoldable pub judging : ℤ → Bool → List ℤ → List ℤ → Judgement
 judging n sized l u = let k : ℕ = orderOf n in entered refused n sized true l u (judged k (lowBounds k l) (highBounds k u))
 
--- ---- the act: its verdict, and both buffers as it leaves them; a buffer is a list of numbers, or of their bytes
-pub record Judged (A : Type 0) : Type 0 where
+-- ---- the act: its verdict, and both buffers as it leaves them
+pub record Judged : Type 0 where
   pub verdict : Verdict
-  pub factor : A
-  pub vector : A
+  pub factor : List ℤ
+  pub vector : List ℤ
 
--- R11.2 to R11.4: which buffer each verdict writes; a refusal writes neither (D1.3).
--- F and W lay the numbers of a table and of a vector into a buffer.
-abbrev pub laidVerdict : {A : Type 0} → (List ℤ → A) → (List ℤ → A) → Judgement → A → A → Judged A
-laidVerdict F W (definite t) f v = record { verdict = Verdict.Definite; factor = F t; vector = v }
-laidVerdict F W (notDefinite x) f v = record { verdict = Verdict.NotDefinite; factor = f; vector = W x }
-laidVerdict F W undecided f v = record { verdict = Verdict.Undecided; factor = f; vector = v }
-laidVerdict F W (refused r) f v = record { verdict = Verdict.Refused r; factor = f; vector = v }
-
--- as they are
-abbrev pub written : Judgement → List ℤ → List ℤ → Judged (List ℤ)
-written = laidVerdict (λ t. t) (λ x. x)
+-- R11.2 to R11.4: which buffer each verdict writes; a refusal writes neither (D1.3)
+abbrev pub written : Judgement → List ℤ → List ℤ → Judged
+written (definite t w) f v = record { verdict = Verdict.Definite w; factor = t; vector = v }
+written (notDefinite x) f v = record { verdict = Verdict.NotDefinite; factor = f; vector = x }
+written undecided f v = record { verdict = Verdict.Undecided; factor = f; vector = v }
+written (refused r) f v = record { verdict = Verdict.Refused r; factor = f; vector = v }
 
 -- 2, R4.2: each lent buffer has the size that belongs to n, that of a table or that of a vector
 unfoldable pub judgeSizes : ℕ → ℕ → ℕ → ℕ → ℕ → ℕ → Bool
 judgeSizes table vector l u f v = sizesOk table table l u f && eqb v vector
 
 -- the judge, of anything at all, and buffers that hold anything
-unfoldable pub judge : ℤ → List ℤ → List ℤ → List ℤ → List ℤ → Judged (List ℤ)
+unfoldable pub judge : ℤ → List ℤ → List ℤ → List ℤ → List ℤ → Judged
 judge n l u f v =
     let k : ℕ = orderOf n in
     written (judging n (judgeSizes (k * k) k (length l) (length u) (length f) (length v)) l u) f v
 
 -- R15.4: the number at the C entry, 0, -1, -2, or the refusal's
 unfoldable pub verdictCode : Verdict → ℤ
-verdictCode Verdict.Definite = pos 0
+verdictCode (Verdict.Definite w) = pos 0
 verdictCode Verdict.NotDefinite = negsuc 0
 verdictCode Verdict.Undecided = negsuc 1
 verdictCode (Verdict.Refused r) = pos (refusalNumber r)
@@ -90,6 +92,11 @@ verdictCode (Verdict.Refused r) = pos (refusalNumber r)
 -- the call is not refused
 abbrev pub NotRefused : Verdict → Type 0
 NotRefused r = (k : Refusal) → r ≡ Verdict.Refused k → ⊥
+
+-- the verdict is 'definite'
+pub record IsDefinite (r : Verdict) : Type 0 where
+  pub over : ℤ
+  pub verdict : r ≡ Verdict.Definite over
 
 -- k is the order, L and U the bounds of the mended tables; f and v are the buffers as they are left
 module _ (n : ℤ) (l u : List ℤ) where
@@ -103,10 +110,13 @@ module _ (n : ℤ) (l u : List ℤ) where
   U = highBounds k u
 
   pub record Meaning (r : Verdict) (f v : List ℤ) : Type 0 where
-    -- D3.2, D3.6: 'definite', every member of the tables as they are handed in is positive definite, and the factor test accepts the
-    -- factor that is written
-    pub definite : r ≡ Verdict.Definite → PositiveDefinite k (at k l) (at k u)
-    pub accepted : r ≡ Verdict.Definite → factorTested n true l u f ≡ Yes
+    -- D3.2, D3.6: 'definite' with w over, every member of the tables as they are handed in is positive definite, and the factor test
+    -- accepts the factor that is written, with w over
+    pub definite : (w : ℤ) → r ≡ Verdict.Definite w → PositiveDefinite k (at k l) (at k u)
+    pub accepted : (w : ℤ) → r ≡ Verdict.Definite w → factorTested n true l u f ≡ Accepted w
+    -- D3.8: w is 0 or more, and 2^32 x'Mx ≥ w x'x + |Rx|² for every member M, every x and the factor R that is written
+    pub enough : (w : ℤ) → r ≡ Verdict.Definite w → pos 0 ≤ℤ w
+    pub bound : (w : ℤ) → r ≡ Verdict.Definite w → FormBound k (at k f) (at k l) (at k u) w
     -- D2.4: 'not definite', the vector that is written is listed and a witness vector, and the vector test says yes of it
     pub shown : r ≡ Verdict.NotDefinite → Witness k (at k l) (at k u) (nth v)
     pub confirmed : r ≡ Verdict.NotDefinite → vectorTested n true l u v ≡ Yes
@@ -115,4 +125,4 @@ module _ (n : ℤ) (l u : List ℤ) where
     pub exactly : NotRefused r → (x : List ℤ) → List·Memᴰ x (listed k L U) →
         shows k L U (nth x) ≡ true → r ≡ Verdict.NotDefinite
     -- D3.5: with the margin of the mended tables, 'definite'
-    pub margin : NotRefused r → Margin k L U → r ≡ Verdict.Definite
+    pub margin : NotRefused r → Margin k L U → IsDefinite r

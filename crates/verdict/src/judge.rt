@@ -1,18 +1,21 @@
 // The judge, R11 of docs/RULES.md.
 ghost use mathlib.Core.Path.{_≡_};
-ghost use mathlib.Core.List.{List};
-ghost use Prim.Native.Nat.{_*_};
-ghost use lib.IntN.{ℤ};
+ghost use Prim.Native.Nat.{_*_, _≤_, _<_};
 ghost use lib.ListN.{length};
-ghost use Rattle.tables.specs.Ranges.{greatestOrder, tableRoom};
-ghost use Rattle.tables.specs.Matrix.{at};
+ghost use Rattle.tables.specs.Ranges.{greatestOrder};
+ghost use Rattle.tables.specs.Matrix.{at, nth, tabulate};
 ghost use Rattle.tables.specs.Bounds.{CheckedTables};
-ghost use Rattle.verdict.specs.Judge.{Judged, judged, judgeSizes, written, judge, verdictCode, Meaning};
+ghost use Rattle.tables.specs.Entering.{Rooms};
+ghost use Rattle.cholesky.specs.Factoring.{factored};
+ghost use Rattle.cholesky.specs.Store.{Stored};
+ghost use Rattle.cholesky.specs.declared.factoring.Outcome.the-variants.{Ends};
+ghost use Rattle.verdict.specs.Judge.{definite, Judged, judged, judgeSizes, written, judge, verdictCode, Meaning};
 ghost use Rattle.verdict.specs.Deciding.{shownVerdict, Decided};
 use crate::factor_table::write_factor;
 use crate::listed::first_listed;
 use cholesky::factoring::Outcome;
 use cholesky::problem::factor_tables;
+use residual::factor_test::over;
 use tables::Checked;
 use tables::GREATEST_ORDER;
 use tables::Refusal;
@@ -22,9 +25,9 @@ use tables::Vector;
 use tables::entering::enter;
 use tables::entering::order_of;
 
-// What the judge answers.
+// What the judge answers. With 'definite' goes what the rows of the residual have over, of the factor that is written: 0 or more.
 pub enum Verdict {
-    Definite,
+    Definite(i64),
     NotDefinite,
     Undecided,
     Refused(Refusal),
@@ -35,7 +38,7 @@ pub fn verdict_code(v: Verdict) -> i64
     ensures { λ r. ⌜ r ≡ verdictCode v ⌝ }
 {
     match v {
-        Verdict::Definite => 0,
+        Verdict::Definite(_) => 0,
         Verdict::NotDefinite => -1,
         Verdict::Undecided => -2,
         Verdict::Refused(r) => tables::refusal_number(r) as i64,
@@ -52,39 +55,58 @@ fn shown(found: bool) -> Verdict
     return Verdict::NotDefinite;
 }
 
-// The verdict on bounds of order n: the first n² numbers of each table.
-// Where it is 'definite' the factor's columns stand in t, and where it is 'not definite' the vector in the first n entries of x.
-pub fn decide(n: usize, low: &[i64], high: &[i64], t: &mut Table, x: &mut Vector) -> Verdict
-    requires { ⌜ CheckedTables n (now low) (now high) × (length (now t) ≡ tableRoom) × (length (now x) ≡ greatestOrder) ⌝ }
-    ensures { λ r. ⌜ Decided (judged n (at n (now (low .entry))) (at n (now (high .entry)))) n r (now (t .exit)) (now (x .exit)) ⌝ }
+// After a factoring that ended: the factor, whose columns stand in t, to the first n² numbers of factor, and what the rows of its residual
+// have over. The residual is worked out in the scratch tables of the bounds.
+fn certify(n: usize, low: &mut Table, high: &mut Table, t: &Table, factor: &mut [i64]) -> i64
+    requires { ⌜ CheckedTables n (now low) (now high) × Rooms (now low) (now high) × (0 < n) × Stored (factored n (at n (now low))
+        (at n (now high))) Ends (now t) × (n * n ≤ length (now factor)) ⌝ }
+    ensures { λ w. ⌜ judged n (at n (now (low .entry))) (at n (now (high .entry))) ≡ definite (tabulate (n * n) (nth (now
+        (factor .exit)))) w ⌝ }
 {
-    let outcome = factor_tables(n, low, high, t);
+    write_factor(n, t, factor);
+    over(n, low, high, factor)
+}
+
+// The verdict on bounds of order n: the first n² numbers of each scratch table, which 'definite' leaves with the residual.
+// Where it is 'definite' the factor is written to the first n² numbers of factor, row by row, and else factor is kept; where it is 'not
+// definite' the vector stands in the first n entries of x.
+pub fn decide(
+    n: usize,
+    low: &mut Table,
+    high: &mut Table,
+    factor: &mut [i64],
+    x: &mut Vector,
+) -> Verdict
+    requires { ⌜ CheckedTables n (now low) (now high) × Rooms (now low) (now high) × (0 < n) × (n * n ≤ length (now factor)) × (length
+        (now x) ≡ greatestOrder) ⌝ }
+    ensures { λ r. ⌜ Decided (judged n (at n (now (low .entry))) (at n (now (high .entry)))) n r (now (factor .entry)) (now
+        (factor .exit)) (now (x .exit)) ⌝ }
+{
+    let mut t = [0i64; TABLE_ROOM];
+    let outcome = factor_tables(n, low, high, &mut t);
     match outcome {
-        Outcome::Ends => Verdict::Definite,
-        Outcome::Stops(j, m) => shown(first_listed(n, low, high, t, j, m, x)),
+        Outcome::Ends => Verdict::Definite(certify(n, low, high, &t, factor)),
+        Outcome::Stops(j, m) => shown(first_listed(n, low, high, &t, j, m, x)),
     }
 }
 
 // The verdict on bounds of order n, and the factor or the vector that goes with it, on buffers of the sizes that n calls for.
 fn judge_bounds(
     n: usize,
-    low: &[i64],
-    high: &[i64],
+    low: &mut Table,
+    high: &mut Table,
     factor: &mut [i64],
     vector: &mut [i64],
 ) -> Verdict
-    requires { ⌜ CheckedTables n (now low) (now high) × (length (now factor) ≡ n * n) × (length (now vector) ≡ n) ⌝ }
-    ensures { λ r. ⌜ _≡_ {A = Judged (List ℤ)} (record { verdict = r; factor = now (factor .exit); vector = now (vector .exit) })
+    requires { ⌜ CheckedTables n (now low) (now high) × Rooms (now low) (now high) × (0 < n) × (length (now factor) ≡ n * n) × (length
+        (now vector) ≡ n) ⌝ }
+    ensures { λ r. ⌜ _≡_ {A = Judged} (record { verdict = r; factor = now (factor .exit); vector = now (vector .exit) })
         (written (judged n (at n (now (low .entry))) (at n (now (high .entry)))) (now (factor .entry)) (now (vector .entry))) ⌝ }
 {
-    let mut t = [0i64; TABLE_ROOM];
     let mut x = [0i64; GREATEST_ORDER];
-    let verdict = decide(n, low, high, &mut t, &mut x);
+    let verdict = decide(n, low, high, factor, &mut x);
     match verdict {
-        Verdict::Definite => {
-            write_factor(n, &t, factor);
-            Verdict::Definite
-        }
+        Verdict::Definite(v) => Verdict::Definite(v),
         Verdict::NotDefinite => {
             tables::copy_numbers(n, &x, vector);
             Verdict::NotDefinite
@@ -109,10 +131,10 @@ pub fn sizes_ok(
 }
 
 // The judge, of any numbers at all: n is an order or not, and each slice has any length.
-// Refused by the first of the checks 1 to 5 that fails, with both buffers kept. Else 'definite', with the factor written and the vector
-// kept; 'not definite', with the vector written and the factor kept; or 'undecided', with both kept.
+// Refused by the first of the checks 1 to 5 that fails, with both buffers kept. Else 'definite', with what the rows have over, the factor
+// written and the vector kept; 'not definite', with the vector written and the factor kept; or 'undecided', with both kept.
 pub fn judge(n: i64, low: &[i64], high: &[i64], factor: &mut [i64], vector: &mut [i64]) -> Verdict
-    ensures exact { λ r. ⌜ _≡_ {A = Judged (List ℤ)} (record {
+    ensures exact { λ r. ⌜ _≡_ {A = Judged} (record {
       verdict = r;
       factor = now (factor .exit);
       vector = now
@@ -131,5 +153,5 @@ pub fn judge(n: i64, low: &[i64], high: &[i64], factor: &mut [i64], vector: &mut
     if let Checked::Refused(r) = checked {
         return Verdict::Refused(r);
     }
-    judge_bounds(m, &l, &u, factor, vector)
+    judge_bounds(m, &mut l, &mut u, factor, vector)
 }

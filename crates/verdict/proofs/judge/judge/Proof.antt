@@ -1,16 +1,14 @@
 use mathlib.Core.Path.{_≡_, refl, sym, ap, _∙_}
 use mathlib.Core.Bool.{Bool, true}
-use mathlib.Core.List.{List}
 use Prim.Native.Nat.{_*_}
 use native.Mathlib.Omega.{arith}
 use borrow.Author.Needs.{needs}
-use lib.IntN.{ℤ}
 use lib.ListN.{length}
 use Rattle.integers.proofs.Machine.{clean}
 use Rattle.tables.specs.Checks.{orderOf}
 use Rattle.tables.specs.Entering.{Entered}
 use Rattle.tables.proofs.Answers.{exactly}
-use Rattle.tables.proofs.Admission.{order-fits, no-order, came-through, entered-refused, entered-passed}
+use Rattle.tables.proofs.Admission.{order-fits, order-positive, no-order, came-through, entered-refused, entered-passed}
 use Rattle.verdict.specs.Judge.{Judgement, refused, Judged, written, judgeSizes, judging, judge, Meaning}
 use Rattle.verdict.proofs.Decisions.{judge-sizes-of}
 use Rattle.verdict.proofs.Meanings.{judging-means}
@@ -42,7 +40,7 @@ came : (c : tie.After-enter) → let a = start c .args in
 came c = rw (clean (start c .fits .n), sized (met c)) at (c .enter .ensures)
 
 -- what an answer means
-abbrev means : tie.Start → Judged (List ℤ) → Type 0
+abbrev means : tie.Start → Judged → Type 0
 means s j = let a = s .args in Meaning (a .n) (a .low .now) (a .high .now) (j .verdict) (j .factor) (j .vector)
 
 shown : (s : tie.Start) → let a = s .args in means s (judge (a .n) (a .low .now) (a .high .now) (a .factor .now) (a .vector .now))
@@ -50,7 +48,7 @@ unfolding judge
 shown s = let a = s .args in judging-means (a .n) _ (a .low .now) (a .high .now) (a .factor .now) (a .vector .now)
 
 -- both buffers with it
-abbrev given : tie.Start → Judgement → Judged (List ℤ)
+abbrev given : tie.Start → Judgement → Judged
 given s g = written g (s .args .factor .now) (s .args .vector .now)
 
 pub judge-spec : {M : Type 1} → statement M
@@ -71,14 +69,12 @@ judge-spec =
     let s = start e in
     exactly (means s) (shown s) _ (ap (given s) (entered-refused _ _ _ _ _ refused _ (came e) (c .before .checked .given .1))))
     (λ c. search needs)
-    (λ c. sym (c .before .before .before .enter .ensures .rooms .low-size))
-    (λ c. sym (c .before .before .before .before .enter .ensures .rooms .high-size))
     (λ c κs.
     let e = c .before .before .before .before .before .before in
     let q = c .before .before .before .before .enum-told .given .1 in
     let b = came-through _ _ _ _ _ (came e) q in
     let z = judge-sizes-of _ _ _ _ _ _ (b .sizes) in
-    rw (order (met e .before .before)) (came e .held q .tables, z .2, z .3))
+    rw (order (met e .before .before)) (came e .held q .tables, came e .rooms, order-positive _ (b .ordered), z .2, z .3))
     (λ c. search needs)
     (λ c. search needs)
     (λ c.
