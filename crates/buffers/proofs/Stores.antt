@@ -1,4 +1,4 @@
--- What the entries store: the bytes of a vector, of the sides or of one number; and what is read back from them.
+-- What the entries store: the bytes of a table, of a vector, of the sides or of one number; and what is read back from them.
 use mathlib.Core.Path.{_≡_, refl, sym, ap, ap₂, _∙_}
 use mathlib.Core.List.{List, [], _++_, append-nil}
 use Prim.Native.Nat.{ℕ, zero, suc, _*_, _^_, _<_}
@@ -26,8 +26,8 @@ bytesOf-ext w a b (suc k) h =
     ap₂ (λ (x y : List ℕ). x ++ y) (bytesOf-ext w a b k (λ i l. h i (omega arith))) (ap (λ (z : ℤ). toLeBytes (bytes w) (ofZ w64 z)) (h k (omega arith)))
 
 -- a buffer of exactly their size is written whole
-pub vector-stored : (s : List ℕ) (n : ℕ) (x : List ℤ) → length s ≡ n * bytes w64 → bytesOf w64 x n ++ drop (n * bytes w64) s ≡ bytesOf w64 (tabulate n (nth x)) n
-vector-stored s n x e =
+pub numbers-stored : (s : List ℕ) (n : ℕ) (x : List ℤ) → length s ≡ n * bytes w64 → bytesOf w64 x n ++ drop (n * bytes w64) s ≡ bytesOf w64 (tabulate n (nth x)) n
+numbers-stored s n x e =
     append-drop-end (bytesOf w64 x n) s (n * bytes w64) (omega (arith, e)) ∙ bytesOf-ext w64 x (tabulate n (nth x)) n (λ i h. sym (nth-tabulate n (nth x) i h))
 
 -- and read back

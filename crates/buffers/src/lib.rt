@@ -2,5 +2,4 @@
 pub mod boxing;
 pub mod entering;
 pub mod judging;
-pub mod storing;
 pub mod tests;

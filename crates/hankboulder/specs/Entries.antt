@@ -7,49 +7,61 @@ use Rattle.tables.specs.Checks.{orderOf}
 use Rattle.tables.specs.Answers.{answerCode}
 use Rattle.tables.specs.Problem.{constraintOf, problemOf, lengthsOf}
 use Rattle.tables.specs.declared.problem.Constraint.{Constraint}
-use Rattle.residual.specs.FactorTest.{factorTested}
+use Rattle.residual.specs.FactorTest.{factorTested, factorCode}
 use Rattle.vectors.specs.VectorTest.{vectorTested}
-use Rattle.verdict.specs.Judge.{Judged, judging, verdictCode}
+use Rattle.verdict.specs.Judge.{judging, verdictCode}
 use Rattle.enclosure.specs.Box.{boxing}
 use Rattle.enclosure.specs.Act.{Enclosed, boxCode}
 use Rattle.samples.specs.declared.sample.Sample.{Sample}
 use Rattle.samples.specs.Gathering.{gathering}
 use Rattle.rides.specs.Act.{Lent, Left, gatheredCode}
-use Rattle.buffers.specs.Buffers.{tableOf, vectorOf, factorBuffers, vectorBuffers, judgeBuffers, boxBuffers, storedVerdict, storedSides}
+use Rattle.buffers.specs.Buffers.{tableOf, vectorOf, factorBuffers, vectorBuffers, judgeBuffers, boxBuffers}
+use Rattle.buffers.specs.Buffers.{StoredAnswer, storedOver, StoredVerdict, storedVerdict, storedSides}
 use Rattle.rides.specs.Reading.{readSums, readingCode}
 use Rattle.sums_buffers.specs.SumsBuffers.{spelledSums, sumsBuffers, storedSums, readBuffers, ReadOut, storedLimit}
 use Rattle.writer.specs.Writing.{Written}
 use Rattle.file_buffers.specs.Parts.{Parts, Handed, readSummary, checkedCode}
 use Rattle.file_buffers.specs.Filing.{writeSummary}
 
--- hb_test_factor: the factor test of the numbers that the buffers spell
-unfoldable pub testFactorEntry : ℤ → List ℕ → List ℕ → List ℕ → ℤ
-testFactorEntry n l u f =
+-- ---- hb_test_factor: the factor test of the numbers that the buffers spell
+unfoldable pub testStored : ℤ → List ℕ → List ℕ → List ℕ → List ℕ → StoredAnswer
+testStored n l u f o =
     let k : ℕ = orderOf n in
-    answerCode (factorTested n (factorBuffers k (length l) (length u) (length f)) (tableOf k l) (tableOf k u) (tableOf k f))
+    storedOver (factorTested n (factorBuffers k (length l) (length u) (length f) (length o)) (tableOf k l) (tableOf k u) (tableOf k f)) o
 
--- hb_test_vector: the vector test of the numbers that the buffers spell
+-- the number of the answer, and the buffer of what the rows have over as it is left
+pub record TestFactorResult : Type 0 where
+  pub number : ℤ
+  pub over : List ℕ
+
+unfoldable pub testFactorEntry : ℤ → List ℕ → List ℕ → List ℕ → List ℕ → TestFactorResult
+testFactorEntry n l u f o =
+    let j : StoredAnswer = testStored n l u f o in
+    record { number = factorCode (j .answer); over = j .over }
+
+-- ---- hb_test_vector: the vector test of the numbers that the buffers spell
 unfoldable pub testVectorEntry : ℤ → List ℕ → List ℕ → List ℕ → ℤ
 testVectorEntry n l u v =
     let k : ℕ = orderOf n in
     answerCode (vectorTested n (vectorBuffers k (length l) (length u) (length v)) (tableOf k l) (tableOf k u) (vectorOf k v))
 
 -- ---- hb_judge: the judge of the numbers that the buffers spell
-unfoldable pub judgeStored : ℤ → List ℕ → List ℕ → List ℕ → List ℕ → Judged (List ℕ)
-judgeStored n l u f v =
+unfoldable pub judgeStored : ℤ → List ℕ → List ℕ → List ℕ → List ℕ → List ℕ → StoredVerdict
+judgeStored n l u f v o =
     let k : ℕ = orderOf n in
-    storedVerdict k (judging n (judgeBuffers k (length l) (length u) (length f) (length v)) (tableOf k l) (tableOf k u)) f v
+    storedVerdict k (judging n (judgeBuffers k (length l) (length u) (length f) (length v) (length o)) (tableOf k l) (tableOf k u)) f v o
 
--- the number of the verdict, and both buffers as they are left
+-- the number of the verdict, and the buffers as they are left
 pub record JudgeResult : Type 0 where
   pub number : ℤ
   pub factor : List ℕ
   pub vector : List ℕ
+  pub over : List ℕ
 
-unfoldable pub judgeEntry : ℤ → List ℕ → List ℕ → List ℕ → List ℕ → JudgeResult
-judgeEntry n l u f v =
-    let j : Judged (List ℕ) = judgeStored n l u f v in
-    record { number = verdictCode (j .verdict); factor = j .factor; vector = j .vector }
+unfoldable pub judgeEntry : ℤ → List ℕ → List ℕ → List ℕ → List ℕ → List ℕ → JudgeResult
+judgeEntry n l u f v o =
+    let j : StoredVerdict = judgeStored n l u f v o in
+    record { number = verdictCode (j .verdict); factor = j .factor; vector = j .vector; over = j .over }
 
 -- ---- hb_box: the box of the numbers that the buffers spell, with linear terms from a to b
 unfoldable pub boxStored : ℤ → List ℕ → List ℕ → List ℕ → List ℕ → ℤ → List ℕ → List ℕ → Enclosed (List ℕ)

@@ -2,15 +2,18 @@
 use mathlib.Core.Path.{_≡_}
 use mathlib.Core.Bool.{true}
 use mathlib.Core.List.{List, List·Memᴰ}
-use Prim.Native.Nat.{ℕ, _*_}
-use lib.IntN.{ℤ, pos, negsuc, _*ℤ_}
-use lib.Signed.{_≤ℤ_}
+use Prim.Native.Nat.{ℕ, _*_, _^_, _<_}
+use lib.IntN.{ℤ, pos, negsuc, _*ℤ_, natAbs}
+use lib.Signed.{_≤ℤ_, _<ℤ_}
 use lib.ListN.{length}
+use mir.Syntax.{w64}
+use mir.Val.{bytes}
 use Rattle.tables.specs.Matrix.{Matrix, at, nth}
 use Rattle.tables.specs.Checks.{orderOf}
 use Rattle.tables.specs.Entering.{lowBounds, highBounds}
 use Rattle.tables.specs.Problem.{constraintOf, mendedProblem}
 use Rattle.tables.specs.Members.{PositiveDefinite, Margin}
+use Rattle.residual.specs.Residual.{FormBound}
 use Rattle.vectors.specs.Least.{shows, Witness}
 use Rattle.verdict.specs.Judge.{listed}
 use Rattle.enclosure.specs.Points.{Allowed, Contains}
@@ -42,9 +45,16 @@ module _ (n : ℤ) (l u : List ℕ) where
   abbrev U′ : Matrix
   U′ = highBounds k (tableOf k u)
 
-  pub record FactorMeaning (r : ℤ) : Type 0 where
-    -- 0, the factor is accepted (D3.1): x'Mx > 0 for every member M and every nonzero x
-    pub accepted : r ≡ pos 0 → PositiveDefinite k L U
+  -- f: the factor that is offered; o: the buffer of what the rows have over as it is left
+  pub record FactorMeaning (f : List ℕ) (r : ℤ) (o : List ℕ) : Type 0 where
+    -- 0, the factor is accepted (D3.1): x'Mx > 0 for every member M and every nonzero x; the number in over is 0 or more
+    pub definite : r ≡ pos 0 → PositiveDefinite k L U
+    pub enough : r ≡ pos 0 → pos 0 ≤ℤ numberOf o
+    -- -1, it is not: the number is negative
+    pub lacking : r ≡ negsuc 0 → numberOf o <ℤ pos 0
+    -- no refusal: with v in over, |v| < 2^60, and (D3.8) 2^32 x'Mx ≥ v x'x + |Rx|² for every member M, every x and the factor R
+    pub small : r ≤ℤ pos 0 → natAbs (numberOf o) < 2 ^ 60
+    pub bound : r ≤ℤ pos 0 → FormBound k (at k (tableOf k f)) L U (numberOf o)
 
   -- v: the vector that is offered
   pub record VectorMeaning (v : List ℕ) (r : ℤ) : Type 0 where
@@ -53,11 +63,15 @@ module _ (n : ℤ) (l u : List ℕ) where
     -- -1, no: no member has
     pub no : r ≡ negsuc 0 → Witness k L U (nth (vectorOf k v)) → ⊥
 
-  -- f and v: the buffers as they are left
-  pub record JudgeMeaning (r : ℤ) (f v : List ℕ) : Type 0 where
-    -- 0, definite (D3.2, D3.6): x'Mx > 0 for every member M and every nonzero x, and hb_test_factor accepts the factor that is written
+  -- f, v and o: the buffers as they are left
+  pub record JudgeMeaning (r : ℤ) (f v o : List ℕ) : Type 0 where
+    -- 0, definite (D3.2, D3.6): x'Mx > 0 for every member M and every nonzero x, and hb_test_factor accepts the factor that is written,
+    -- and writes the number in over to any buffer of its size
     pub definite : r ≡ pos 0 → PositiveDefinite k L U
-    pub accepted : r ≡ pos 0 → testFactorEntry n l u f ≡ pos 0
+    pub accepted : r ≡ pos 0 → (s : List ℕ) → length s ≡ bytes w64 → testFactorEntry n l u f s ≡ record { number = pos 0; over = o }
+    -- D3.8: that number, w, is 0 or more, and 2^32 x'Mx ≥ w x'x + |Rx|² for every member M, every x and the factor R that is written
+    pub enough : r ≡ pos 0 → pos 0 ≤ℤ numberOf o
+    pub bound : r ≡ pos 0 → FormBound k (at k (tableOf k f)) L U (numberOf o)
     -- -1, not definite (D2.4): the vector that is written is listed and a witness vector, and hb_test_vector says yes of it
     pub shown : r ≡ negsuc 0 → Witness k L U (nth (vectorOf k v))
     pub confirmed : r ≡ negsuc 0 → testVectorEntry n l u v ≡ pos 0

@@ -1,6 +1,7 @@
 // R15 of docs/RULES.md, the entries for C: each act on buffers of bytes, by the number of its answer.
 ghost use mathlib.Core.Path.{_≡_};
-ghost use Rattle.hankboulder.specs.Entries.{testFactorEntry, testVectorEntry, JudgeResult, judgeEntry, BoxResult, boxEntry};
+ghost use Rattle.hankboulder.specs.Entries.{TestFactorResult, testFactorEntry, testVectorEntry};
+ghost use Rattle.hankboulder.specs.Entries.{JudgeResult, judgeEntry, BoxResult, boxEntry};
 ghost use Rattle.hankboulder.specs.Meanings.{FactorMeaning, VectorMeaning, JudgeMeaning, BoxMeaning};
 
 pub mod file_reading;
@@ -8,13 +9,21 @@ pub mod file_writing;
 pub mod gathering;
 pub mod reading;
 
-// Tests an offered factor, and answers by `tables::answer_code`. Nothing is written.
+// Tests an offered factor: 0 accepted and -1 not accepted, with what the rows have over written; else the refusal's number, with nothing
+// written.
 #[no_mangle]
-pub extern "C" fn hb_test_factor(n: i64, low: &[u8], high: &[u8], factor: &[u8]) -> i64
-    ensures exact { λ r. ⌜ r ≡ testFactorEntry n (now (low .entry)) (now (high .entry)) (now (factor .entry)) ⌝ }
-    ensures meaning { λ r. ⌜ FactorMeaning n (now (low .entry)) (now (high .entry)) r ⌝ }
+pub extern "C" fn hb_test_factor(
+    n: i64,
+    low: &[u8],
+    high: &[u8],
+    factor: &[u8],
+    over: &mut [u8],
+) -> i64
+    ensures exact { λ r. ⌜ _≡_ {A = TestFactorResult} (record { number = r; over = now (over .exit) })
+        (testFactorEntry n (now (low .entry)) (now (high .entry)) (now (factor .entry)) (now (over .entry))) ⌝ }
+    ensures meaning { λ r. ⌜ FactorMeaning n (now (low .entry)) (now (high .entry)) (now (factor .entry)) r (now (over .exit)) ⌝ }
 {
-    tables::answer_code(buffers::tests::test_factor(n, low, high, factor))
+    residual::factor_test::factor_code(buffers::tests::test_factor(n, low, high, factor, over))
 }
 
 // Tests whether an offered vector shows 'not definite', and answers by `tables::answer_code`. Nothing is written.
@@ -26,8 +35,8 @@ pub extern "C" fn hb_test_vector(n: i64, low: &[u8], high: &[u8], vector: &[u8])
     tables::answer_code(buffers::tests::test_vector(n, low, high, vector))
 }
 
-// Judges: 0 definite, with the factor written and the vector kept; -1 not definite, with the vector written and the factor kept; -2
-// undecided, with both kept; else the refusal's number, with both kept.
+// Judges: 0 definite, with the factor and what the rows have over written; -1 not definite, with the vector written; -2 undecided, and else
+// the refusal's number, with nothing written. What is not written is kept.
 #[no_mangle]
 pub extern "C" fn hb_judge(
     n: i64,
@@ -35,12 +44,18 @@ pub extern "C" fn hb_judge(
     high: &[u8],
     factor: &mut [u8],
     vector: &mut [u8],
+    over: &mut [u8],
 ) -> i64
-    ensures exact { λ r. ⌜ _≡_ {A = JudgeResult} (record { number = r; factor = now (factor .exit); vector = now (vector .exit) })
-        (judgeEntry n (now (low .entry)) (now (high .entry)) (now (factor .entry)) (now (vector .entry))) ⌝ }
-    ensures meaning { λ r. ⌜ JudgeMeaning n (now (low .entry)) (now (high .entry)) r (now (factor .exit)) (now (vector .exit)) ⌝ }
+    ensures exact { λ r. ⌜ _≡_ {A = JudgeResult} (record {
+      number = r;
+      factor = now (factor .exit);
+      vector = now (vector .exit);
+      over = now (over .exit);
+    }) (judgeEntry n (now (low .entry)) (now (high .entry)) (now (factor .entry)) (now (vector .entry)) (now (over .entry))) ⌝ }
+    ensures meaning { λ r. ⌜ JudgeMeaning n (now (low .entry)) (now (high .entry)) r (now (factor .exit)) (now (vector .exit)) (now
+        (over .exit)) ⌝ }
 {
-    verdict::judge::verdict_code(buffers::judging::judge(n, low, high, factor, vector))
+    verdict::judge::verdict_code(buffers::judging::judge(n, low, high, factor, vector, over))
 }
 
 // Boxes the ellipsoid, with linear terms between linear_low and linear_high, which may be one buffer: 0 with the sides written, low and

@@ -8,7 +8,7 @@ use Rattle.tables.specs.Matrix.{at, nth}
 use Rattle.tables.specs.Problem.{endsOf}
 use Rattle.enclosure.specs.Box.{Box, boxed}
 use Rattle.enclosure.proofs.BoxCases.{given-sides, given-empty, given-refused}
-use Rattle.buffers.proofs.Stores.{vector-stored}
+use Rattle.buffers.proofs.Stores.{numbers-stored}
 use Rattle.buffers.proofs.boxing.box_bounds.Statement.{statement}
 use Rattle.buffers.proofs.boxing.box_bounds.Tie as tie
 
@@ -38,7 +38,7 @@ box-bounds-spec =
     let d = c .before .before .before .before .before .before .before in
     let s = start d in
     given-sides _ _ {b = of s} (rw (clean (s .fits .limit)) at (d .box-bounds .ensures)) _ (c .before .before .before .before .before .enum-told .given .1)
-    (c .before .before .store-numbers .ensures ∙ vector-stored _ (s .args .n + s .args .n) _ (s .pre .2)))
+    (c .before .before .store-numbers .ensures ∙ numbers-stored _ (s .args .n + s .args .n) _ (s .pre .2)))
     (λ c.
     let d = c .before .before in
     given-empty _ _ {b = of (start d)} (rw (clean (start d .fits .limit)) at (d .box-bounds .ensures)) _ (c .enum-told2 .given .1))
