@@ -7,6 +7,7 @@ ghost use lib.ListN.{length};
 ghost use Rattle.tables.specs.Matrix.{at};
 ghost use Rattle.tables.specs.Members.{PositiveDefinite};
 use libc::STDOUT_FILENO;
+use residual::factor_test::FactorAnswer;
 use rides::reading::Reading as SumsReading;
 use samples::sample::Sample;
 use summary::problem::Reading;
@@ -50,17 +51,48 @@ fn print_four(word: &[u8], x: &[i64; 4])
     print(word, &row, 4);
 }
 
-// [2 1; 1 2]: definite, with its factor, which the factor test accepts.
+// The number of a verdict, and where it is 'definite' what the rows of the residual have over.
+fn print_verdict(verdict: Verdict) {
+    print_number(b"judge", verdict::judge::verdict_code(verdict));
+    if let Verdict::Definite(over) = verdict {
+        print_number(b"over", over);
+    }
+}
+
+// The number of the factor test's answer, and where nothing is refused what the rows of the residual have over.
+fn print_tested(answer: FactorAnswer) {
+    print_number(b"test_factor", residual::factor_test::factor_code(answer));
+    match answer {
+        FactorAnswer::Accepted(over) => print_number(b"over", over),
+        FactorAnswer::NotAccepted(over) => print_number(b"over", over),
+        FactorAnswer::Refused(_) => (),
+    }
+}
+
+// [2 1; 1 2]: definite, with its factor, which the factor test accepts with the same number over.
 fn definite() {
     let table = [2i64, 1, 1, 2];
     let mut factor = [5i64; 4];
     let mut vector = [5i64; 2];
-    let verdict = verdict::judge::judge(2, &table, &table, &mut factor, &mut vector);
-    print_number(b"judge", verdict::judge::verdict_code(verdict));
+    print_verdict(verdict::judge::judge(2, &table, &table, &mut factor, &mut vector));
     print_four(b"factor", &factor);
     print_two(b"vector", &vector);
-    let answer = residual::factor_test::test_factor(2, &table, &table, &factor);
-    print_number(b"test_factor", tables::answer_code(answer));
+    print_tested(residual::factor_test::test_factor(2, &table, &table, &factor));
+}
+
+// [1 3; 3 10], on which the judge is undecided. The factor test accepts its exact factor, with 0 over; not one that is next to it, with
+// -65536 over; and it refuses one with a 0 on the diagonal, by 6.
+fn offered() {
+    let table = [1i64, 3, 3, 10];
+    let mut factor = [5i64; 4];
+    let mut vector = [5i64; 2];
+    print_verdict(verdict::judge::judge(2, &table, &table, &mut factor, &mut vector));
+    let exact = [65536i64, 196608, 0, 65536];
+    print_tested(residual::factor_test::test_factor(2, &table, &table, &exact));
+    let near = [65536i64, 196607, 0, 65536];
+    print_tested(residual::factor_test::test_factor(2, &table, &table, &near));
+    let flat = [65536i64, 196608, 0, 0];
+    print_tested(residual::factor_test::test_factor(2, &table, &table, &flat));
 }
 
 // The number of a refusal, or 0 where nothing is refused.
@@ -205,8 +237,7 @@ fn not_definite() {
     let table = [1i64, 2, 2, 1];
     let mut factor = [5i64; 4];
     let mut vector = [5i64; 2];
-    let verdict = verdict::judge::judge(2, &table, &table, &mut factor, &mut vector);
-    print_number(b"judge", verdict::judge::verdict_code(verdict));
+    print_verdict(verdict::judge::judge(2, &table, &table, &mut factor, &mut vector));
     print_four(b"factor", &factor);
     print_two(b"vector", &vector);
     let answer = vectors::vector_test::test_vector(2, &table, &table, &vector);
@@ -218,8 +249,7 @@ fn refused() {
     let short = [2i64, 1];
     let mut factor = [5i64; 4];
     let mut vector = [5i64; 2];
-    let verdict = verdict::judge::judge(2, &short, &short, &mut factor, &mut vector);
-    print_number(b"judge", verdict::judge::verdict_code(verdict));
+    print_verdict(verdict::judge::judge(2, &short, &short, &mut factor, &mut vector));
     print_four(b"factor", &factor);
     print_two(b"vector", &vector);
 }
@@ -306,7 +336,7 @@ fn surely_definite(low: [i64; 4], high: [i64; 4]) -> bool
     let mut vector = [0i64; 2];
     let verdict = verdict::judge::judge(2, &low, &high, &mut factor, &mut vector);
     match verdict {
-        Verdict::Definite => true,
+        Verdict::Definite(_) => true,
         Verdict::NotDefinite => false,
         Verdict::Undecided => false,
         Verdict::Refused(_) => false,
@@ -391,6 +421,7 @@ fn read_fields() {
 
 fn main() {
     definite();
+    offered();
     residuals();
     residual_unfit();
     residual_apart();

@@ -13,7 +13,7 @@ use Rattle.tables.specs.Matrix.{at, nth}
 use Rattle.tables.specs.Mending.{mendedLow, mendedHigh}
 use Rattle.tables.specs.Bounds.{Bounds, CheckedTables}
 use Rattle.tables.specs.Checks.{orderOk, orderOf, entryChecks, firstRefusal}
-use Rattle.tables.specs.Entering.{lowBounds, highBounds}
+use Rattle.tables.specs.Entering.{lowBounds, highBounds, Rooms}
 use Rattle.tables.specs.Problem.{endsIn, problemWithin, constraintEnds, problemChecks, mendedProblem}
 use Rattle.tables.specs.declared.Checked.the-variants.{Passed}
 use Rattle.tables.specs.declared.problem.Constraint.{Constraint}
@@ -92,6 +92,12 @@ module _ {p : Problem} (l : LetThrough p) where
         high-length = omega (arith, l .rooms .high);
         bounds = rw (low-mended, high-mended) at (bounded p (l .order) (l .checks));
       }
+
+  pub rooms : Rooms (c .low) (c .high)
+  rooms = record { low-size = l .rooms .low; high-size = l .rooms .high }
+
+  pub order-positive : 0 < n
+  order-positive = positive p (l .order) (l .checks)
 
   pub terms : Centred n (c .low) (c .high) (c .linear .low) (c .linear .high) (p .centre)
   terms =

@@ -1,4 +1,3 @@
-pub mod Rows
 pub mod StatedText
 pub mod Fitting
 pub mod Printed

@@ -1,6 +1,9 @@
 -- The answers to a problem as the code holds them, and their lines.
 use mathlib.Core.List.{List, _++_}
 use Prim.Native.Nat.{ℕ}
+use lib.IntN.{pos}
+use lib.ListN.{replicate}
+use Rattle.tables.specs.Ranges.{tableRoom}
 use Rattle.tables.specs.declared.problem.Problem.{Problem}
 use Rattle.verdict.specs.Deciding.{Decided}
 use Rattle.verdict.specs.Deciding.{stated as statedVerdict}
@@ -11,9 +14,9 @@ use Rattle.report.specs.declared.answers.Answers.{Answers}
 use Rattle.report.specs.Lines.{verdictText, boxText}
 use Rattle.report.specs.Report.{problemVerdict}
 
--- the verdict and the box of the problem p
+-- the verdict and the box of the problem p; the factor stands over zeros
 pub record Answered (p : Problem) (a : Answers) : Type 0 where
-  pub verdict : Decided (problemVerdict p) (p .constraint .order) (a .verdict) (a .factor) (a .vector)
+  pub verdict : Decided (problemVerdict p) (p .constraint .order) (a .verdict) (replicate tableRoom (pos 0)) (a .factor) (a .vector)
   pub box : Stated (problemBox p) (p .constraint .order) (a .answer) (a .sides)
 
 -- the lines of answers of order n

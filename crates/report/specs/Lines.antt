@@ -1,7 +1,7 @@
 -- R19.3 and R19.4 of docs/RULES.md: the lines of a verdict and of a box.
 use mathlib.Core.List.{List, _++_}
 use Prim.Native.Nat.{ℕ, _+_, _*_}
-use lib.IntN.{pos}
+use lib.IntN.{ℤ, pos}
 use Rattle.tables.specs.Ranges.{greatestOrder}
 use Rattle.tables.specs.Refusals.{refusalNumber}
 use Rattle.tables.specs.declared.Refusal.{Refusal}
@@ -15,9 +15,13 @@ use Rattle.text.specs.Text.{ascii, lineRoom, line, lines}
 unfoldable pub numbered : List ℕ → Refusal → List ℕ
 numbered word r = line word (λ _. pos (refusalNumber r)) 1
 
--- R19.3: the verdict, with the rows of the factor or with the vector
+-- what the rows of the residual have over
+abbrev pub overText : ℤ → List ℕ
+overText w = line (ascii "over") (λ _. w) 1
+
+-- R19.3: the verdict, with the rows of the factor and what the rows of its residual have over, or with the vector
 unfoldable pub verdictText : ℕ → Judgement → List ℕ
-verdictText n (Judge.definite t) = ascii "definite\n" ++ lines (ascii "row") t n n
+verdictText n (Judge.definite t w) = ascii "definite\n" ++ (lines (ascii "row") t n n ++ overText w)
 verdictText n (Judge.notDefinite x) = ascii "not\n" ++ lines (ascii "vector") x n 1
 verdictText n Judge.undecided = ascii "undecided\n"
 verdictText n (Judge.refused r) = numbered (ascii "refused") r
@@ -33,9 +37,9 @@ boxText n (Box.refused r) = numbered (ascii "box refused") r
 abbrev pub numberRoom : ℕ
 numberRoom = lineRoom 0 1
 
--- 'definite', and the rows of the greatest order
+-- 'definite', the rows of the greatest order, and the line behind them
 abbrev pub verdictRoom : ℕ
-verdictRoom = 9 + greatestOrder * lineRoom 3 greatestOrder
+verdictRoom = 9 + greatestOrder * lineRoom 3 greatestOrder + lineRoom 4 1
 
 -- the sides of the greatest order
 abbrev pub boxRoom : ℕ

@@ -13,7 +13,7 @@ use tables::problem::Problem;
 use verdict::judge::Verdict;
 use verdict::judge::decide;
 
-// The verdict on a problem and the answer of its box. Where the verdict is 'definite' the factor's columns stand in factor, where it is
+// The verdict on a problem and the answer of its box. Where the verdict is 'definite' the factor stands in factor, row by row, where it is
 // 'not definite' the vector in vector, and where the box has sides they stand in sides.
 pub struct Answers {
     pub verdict: Verdict,
@@ -23,15 +23,15 @@ pub struct Answers {
     pub sides: Sides,
 }
 
-// The answers to a problem that passed the checks.
+// The answers to a problem that passed the checks. The box comes first, since the verdict works the residual out in the tables.
 pub fn work_out(problem: Problem) -> Answers
     requires { ⌜ LetThrough problem ⌝ }
     ensures { λ r. ⌜ Answered problem r ⌝ }
 {
     let constraint = problem.constraint;
     let n = constraint.order;
-    let low = constraint.low;
-    let high = constraint.high;
+    let mut low = constraint.low;
+    let mut high = constraint.high;
     let linear = constraint.linear;
     let from = linear.low;
     let to = linear.high;
@@ -39,7 +39,6 @@ pub fn work_out(problem: Problem) -> Answers
     let mut factor = [0i64; TABLE_ROOM];
     let mut vector = [0i64; GREATEST_ORDER];
     let mut sides = [0i64; SIDES_ROOM];
-    let verdict = decide(n, &low, &high, &mut factor, &mut vector);
     let answer = box_bounds(
         n,
         &low,
@@ -50,6 +49,7 @@ pub fn work_out(problem: Problem) -> Answers
         &centre,
         &mut sides,
     );
+    let verdict = decide(n, &mut low, &mut high, &mut factor, &mut vector);
     Answers {
         verdict,
         factor,

@@ -2,9 +2,8 @@
 ghost use mathlib.Core.Path.{_≡_};
 ghost use Prim.Native.Nat.{_+_, _*_, _≤_};
 ghost use lib.ListN.{length};
-ghost use Rattle.tables.specs.Ranges.{greatestOrder, sidesRoom};
-ghost use Rattle.tables.specs.Matrix.{nth, table, tabulate};
-ghost use Rattle.cholesky.specs.Store.{triangle};
+ghost use Rattle.tables.specs.Ranges.{greatestOrder, tableRoom, sidesRoom};
+ghost use Rattle.tables.specs.Matrix.{nth, tabulate};
 ghost use Rattle.verdict.specs.Judge.{definite, notDefinite};
 ghost use Rattle.verdict.specs.Deciding.{stated as statedVerdict};
 ghost use Rattle.enclosure.specs.Stating.{stated as statedBox};
@@ -14,7 +13,6 @@ use enclosure::enclose::BoxAnswer;
 use tables::GREATEST_ORDER;
 use tables::Refusal;
 use tables::Sides;
-use tables::TABLE_ROOM;
 use tables::Table;
 use tables::Vector;
 use text::SPACED;
@@ -26,8 +24,11 @@ use verdict::judge::Verdict;
 // The bytes of a row line of the greatest order.
 const ROW_ROOM: usize = 3 + GREATEST_ORDER * SPACED + 1;
 
-// The bytes of a verdict's lines: 'definite', and a row line for each row of the greatest order.
-pub const VERDICT_ROOM: usize = 9 + GREATEST_ORDER * ROW_ROOM;
+// The bytes of the line of what the rows have over.
+const OVER_ROOM: usize = 4 + SPACED + 1;
+
+// The bytes of a verdict's lines: 'definite', a row line for each row of the greatest order, and the line behind them.
+pub const VERDICT_ROOM: usize = 9 + GREATEST_ORDER * ROW_ROOM + OVER_ROOM;
 
 // The bytes of a side line.
 const SIDE_ROOM: usize = 4 + 2 * SPACED + 1;
@@ -45,16 +46,16 @@ pub fn put_refused(out: &mut [u8], at: usize, word: &[u8], r: Refusal) -> usize
     put_line(out, at, word, &number, 0, 1)
 }
 
-// 'definite', and the rows of the factor whose columns stand in t.
-fn put_factor(out: &mut [u8], at: usize, n: usize, t: &Table) -> usize
-    requires { ⌜ (n ≤ greatestOrder) × (at + verdictRoom ≤ length (now out)) ⌝ }
-    ensures { λ k. ⌜ Put (now (out .entry)) at (verdictText n (definite (table n (triangle (now (t .entry))))))
+// 'definite', the rows of the factor in f, and what the rows of its residual have over.
+fn put_factor(out: &mut [u8], at: usize, n: usize, f: &Table, over: i64) -> usize
+    requires { ⌜ (n ≤ greatestOrder) × (length (now f) ≡ tableRoom) × (at + verdictRoom ≤ length (now out)) ⌝ }
+    ensures { λ k. ⌜ Put (now (out .entry)) at (verdictText n (definite (tabulate (n * n) (nth (now (f .entry)))) over))
         verdictRoom k (now (out .exit)) ⌝ }
 {
-    let mut f = [0i64; TABLE_ROOM];
-    verdict::factor_table::write_factor(n, t, &mut f);
-    let next = put_text(out, at, b"definite\n");
-    put_lines(out, next, b"row", &f, n, n)
+    let rows = put_text(out, at, b"definite\n");
+    let next = put_lines(out, rows, b"row", f, n, n);
+    let number = [over; 1];
+    put_line(out, next, b"over", &number, 0, 1)
 }
 
 // 'not', and the vector that stands in x.
@@ -67,21 +68,22 @@ fn put_vector(out: &mut [u8], at: usize, n: usize, x: &Vector) -> usize
     put_lines(out, next, b"vector", x, n, 1)
 }
 
-// The lines of a verdict, with the factor's columns in t or the vector in x.
+// The lines of a verdict, with the factor in f or the vector in x.
 pub fn put_verdict(
     out: &mut [u8],
     at: usize,
     n: usize,
     verdict: Verdict,
-    t: &Table,
+    f: &Table,
     x: &Vector,
 ) -> usize
-    requires { ⌜ (n ≤ greatestOrder) × (length (now x) ≡ greatestOrder) × (at + verdictRoom ≤ length (now out)) ⌝ }
-    ensures { λ k. ⌜ Put (now (out .entry)) at (verdictText n (statedVerdict n verdict (now (t .entry)) (now (x .entry))))
+    requires { ⌜ (n ≤ greatestOrder) × (length (now f) ≡ tableRoom) × (length (now x) ≡ greatestOrder) × (at + verdictRoom ≤ length
+        (now out)) ⌝ }
+    ensures { λ k. ⌜ Put (now (out .entry)) at (verdictText n (statedVerdict n verdict (now (f .entry)) (now (x .entry))))
         verdictRoom k (now (out .exit)) ⌝ }
 {
     match verdict {
-        Verdict::Definite => put_factor(out, at, n, t),
+        Verdict::Definite(over) => put_factor(out, at, n, f, over),
         Verdict::NotDefinite => put_vector(out, at, n, x),
         Verdict::Undecided => put_text(out, at, b"undecided\n"),
         Verdict::Refused(r) => put_refused(out, at, b"refused", r),

@@ -2,7 +2,7 @@
 ghost use mathlib.Core.Path.{_≡_};
 ghost use Prim.Native.Nat.{_≤_, _<_};
 ghost use lib.ListN.{length, take};
-ghost use Rattle.tables.specs.Ranges.{greatestOrder, sidesRoom};
+ghost use Rattle.tables.specs.Ranges.{greatestOrder, tableRoom, sidesRoom};
 ghost use Rattle.summary.specs.Problems.{longest};
 ghost use Rattle.text.specs.Putting.{Put};
 ghost use Rattle.report.specs.Answers.{answersText};
@@ -27,8 +27,8 @@ pub struct Output {
 
 // The lines of the answers to a problem of order n: the verdict, then the box.
 fn put_answers(out: &mut [u8], n: usize, answers: Answers) -> usize
-    requires { ⌜ (n ≤ greatestOrder) × (length (answers .vector) ≡ greatestOrder) × (length (answers .sides) ≡ sidesRoom)
-        × (reportRoom ≤ length (now out)) ⌝ }
+    requires { ⌜ (n ≤ greatestOrder) × (length (answers .factor) ≡ tableRoom) × (length (answers .vector) ≡ greatestOrder)
+        × (length (answers .sides) ≡ sidesRoom) × (reportRoom ≤ length (now out)) ⌝ }
     ensures { λ k. ⌜ Put (now (out .entry)) 0 (answersText n answers) reportRoom k (now (out .exit)) ⌝ }
 {
     let verdict = answers.verdict;

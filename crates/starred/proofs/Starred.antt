@@ -1,10 +1,11 @@
--- The starred cases of docs/RULES.md, W1 to W12, W24 to W33 and W39 to W44: what the definitions give, beside what is expected. One list with one proof.
+-- The starred cases of docs/RULES.md, W1 to W12, W24 to W33, W39 to W44 and W47 to W51: what the definitions give, beside what is expected.
+-- One list with one proof.
 use mathlib.Core.Path.{_≡_, refl}
 use mathlib.Core.Bool.{true}
 use mathlib.Core.List.{List, [], _∷_, map}
 use Prim.Native.Nat.{ℕ}
 use lib.IntN.{ℤ, pos, negsuc}
-use Rattle.integers.specs.Numbers.{absℤ, minℤ, maxℤ}
+use Rattle.integers.specs.Numbers.{absℤ, minℤ, maxℤ, leastOf}
 use Rattle.integers.specs.Sum.{sum, only, except}
 use Rattle.integers.specs.Division.{floorDiv, ceilDiv}
 use Rattle.integers.specs.Root.{wholeRoot, rootWithin, rootAbove, leastRoot}
@@ -19,13 +20,15 @@ use Rattle.tables.specs.declared.Refusal.the-variants.{Range, Crossed, Lopsided
 use Rattle.tables.specs.declared.Refusal.{Refusal}
 use Rattle.tables.specs.declared.Checked.{Checked}
 use Rattle.tables.specs.declared.Checked.the-variants as Checked
-use Rattle.tables.specs.declared.Answer.{Answer as TestAnswer}
-use Rattle.tables.specs.declared.Answer.the-variants.{Yes, No}
+use Rattle.tables.specs.declared.Answer.{Answer as VectorAnswer}
+use Rattle.tables.specs.declared.Answer.the-variants.{No}
 use Rattle.cholesky.specs.Scale.{takeOff, scaledBy}
 use Rattle.cholesky.specs.Factoring.{factoring, columnsFrom, nextColumn, rows, goesOn, nextEntry, entries}
-use Rattle.residual.specs.Residual.{residual, radius, rowPasses, rowsPass, accepts}
-use Rattle.residual.specs.FactorTest.{factorEntry, factorShape, factorAnswer, factorTested}
-use Rattle.residual.proofs.Meaning.{tested-definite}
+use Rattle.residual.specs.Residual.{residual, radius, rowPasses, rowsPass, accepts, rowOver, leastOver, over}
+use Rattle.residual.specs.FactorTest.{factorEntry, factorShape, tested, factorAnswer, factorTested}
+use Rattle.residual.specs.declared.factor_test.FactorAnswer.{FactorAnswer}
+use Rattle.residual.specs.declared.factor_test.FactorAnswer.the-variants.{Accepted, NotAccepted}
+use Rattle.residual.proofs.Meaning.{tested-means}
 use Rattle.vectors.specs.VectorTest.{vectorShape, vectorAnswer, vectorTested}
 use Rattle.vectors.specs.Least.{leastMember, leastValue, nonzero, shows}
 use Rattle.tried.specs.Tried.{tried, first}
@@ -43,7 +46,8 @@ use Rattle.summary.specs.Problems.{readAs, readWalked, reading}
 
 data Answer : Type 0 where
   verdict : Judgement → Answer
-  test : TestAnswer → Answer
+  factor : FactorAnswer → Answer
+  vector : VectorAnswer → Answer
   value : ℤ → Answer
   box : Box → Answer
   file : Checked → Answer
@@ -60,15 +64,15 @@ abbrev thin : ℕ → List ℤ → Judgement → Line
 thin n t j = bounded n t t j
 
 -- the factor test's answer to a factor that is offered, for a thin table and for others
-abbrev offered-for : ℕ → List ℤ → List ℤ → List ℤ → TestAnswer → Line
-offered-for n l u f a = record { rules = test (factorTested (pos n) true l u f); expected = test a }
+abbrev offered-for : ℕ → List ℤ → List ℤ → List ℤ → FactorAnswer → Line
+offered-for n l u f a = record { rules = factor (factorTested (pos n) true l u f); expected = factor a }
 
-abbrev offered : ℕ → List ℤ → List ℤ → TestAnswer → Line
+abbrev offered : ℕ → List ℤ → List ℤ → FactorAnswer → Line
 offered n t f a = offered-for n t t f a
 
 -- the vector test's answer to a vector that is offered
-abbrev tried-on : ℕ → List ℤ → List ℤ → List ℤ → TestAnswer → Line
-tried-on n l u x a = record { rules = test (vectorTested (pos n) true l u x); expected = test a }
+abbrev tried-on : ℕ → List ℤ → List ℤ → List ℤ → VectorAnswer → Line
+tried-on n l u x a = record { rules = vector (vectorTested (pos n) true l u x); expected = vector a }
 
 -- the least value of x over the one member of a thin table
 abbrev least : ℕ → List ℤ → List ℤ → ℤ → Line
@@ -102,6 +106,10 @@ narrow = pos 1 ∷ pos 3 ∷ pos 3 ∷ pos 10 ∷ []
 abbrev exactFactor : List ℤ
 exactFactor = pos 65536 ∷ pos 196608 ∷ pos 0 ∷ pos 65536 ∷ []
 
+-- the judge's factor of [2 1; 1 2]
+abbrev judgedFactor : List ℤ
+judgedFactor = pos 89738 ∷ pos 47861 ∷ pos 0 ∷ pos 75910 ∷ []
+
 -- tables whose halves are rounded apart, and which mended are both [2 1; 1 2]
 abbrev apartLow : List ℤ
 apartLow = pos 2 ∷ pos 0 ∷ pos 1 ∷ pos 2 ∷ []
@@ -111,22 +119,21 @@ apartHigh = pos 2 ∷ pos 1 ∷ pos 2 ∷ pos 2 ∷ []
 
 abbrev lines : List Line
 lines =
-    thin 1 (pos 1 ∷ []) (definite (pos 61303 ∷ []))
-    ∷ bounded 1 (pos 1 ∷ []) (pos 2 ∷ []) (definite (pos 61303 ∷ []))
+    thin 1 (pos 1 ∷ []) (definite (pos 61303 ∷ []) (pos 536909487))
+    ∷ bounded 1 (pos 1 ∷ []) (pos 2 ∷ []) (definite (pos 61303 ∷ []) (pos 536909487))
     ∷ thin 1 (pos 0 ∷ []) (notDefinite (pos 1 ∷ []))
     ∷ bounded 1 (pos 0 ∷ []) (pos 5 ∷ []) (notDefinite (pos 1 ∷ []))
-    ∷ thin 2 (pos 2 ∷ pos 1 ∷ pos 1 ∷ pos 2 ∷ []) (definite (pos 89738 ∷ pos 47861 ∷ pos 0 ∷ pos 75910 ∷ []))
-    ∷ thin 2 (pos 1 ∷ pos 2 ∷ pos 2 ∷ pos 5 ∷ []) (definite (pos 61303 ∷ pos 140122 ∷ pos 0 ∷ pos 36108 ∷ []))
+    ∷ thin 2 (pos 2 ∷ pos 1 ∷ pos 1 ∷ pos 2 ∷ []) (definite judgedFactor (pos 536914293))
+    ∷ thin 2 (pos 1 ∷ pos 2 ∷ pos 2 ∷ pos 5 ∷ []) (definite (pos 61303 ∷ pos 140122 ∷ pos 0 ∷ pos 36108 ∷ []) (pos 536838306))
     ∷ thin 2 (pos 1 ∷ pos 2 ∷ pos 2 ∷ pos 1 ∷ []) (notDefinite (pos 1 ∷ negsuc 0 ∷ []))
     ∷ thin 2 (pos 1 ∷ pos 1 ∷ pos 1 ∷ pos 1 ∷ []) (notDefinite (pos 1 ∷ negsuc 0 ∷ []))
     ∷ thin 2 (pos 1 ∷ pos 1000 ∷ pos 1000 ∷ pos 10000 ∷ []) (notDefinite (negsuc 1142 ∷ pos 1 ∷ []))
     ∷ least 2 (pos 1 ∷ pos 1000 ∷ pos 1000 ∷ pos 10000 ∷ []) (negsuc 1142 ∷ pos 1 ∷ []) (negsuc 969550)
     ∷ thin 2 narrow undecided
-    -- W10: it is definite all the same, since its exact factor is accepted
-    ∷ offered 2 narrow exactFactor Yes
     ∷ boxed-one (pos 4) (pos 0) (negsuc 0) (pos 0) empty
     ∷ boxed-one (pos 4) (pos 0) (pos 0) (pos 0) (sides (pos 0 ∷ pos 0 ∷ []))
     -- case P, W21
+    ∷ thin 1 (pos 4 ∷ []) (definite (pos 129007 ∷ []) (pos 537063135))
     ∷ boxed-one (pos 4) (negsuc 7) (pos 0) (pos 2) (sides (negsuc 0 ∷ pos 5 ∷ []))
     -- ends apart, W24 to W26
     ∷ boxed-between (pos 4) (negsuc 3) (pos 4) (pos 0) (pos 0) (sides (negsuc 3 ∷ pos 4 ∷ []))
@@ -142,9 +149,8 @@ lines =
     ∷ refusedFile (fieldsOf (1 ∷ 2 ∷ 1 ∷ []) []) Again
     ∷ refusedFile (fieldsOf (1 ∷ 3 ∷ 2 ∷ []) []) Falling
     ∷ refusedFile (fieldsOf (2 ∷ 1 ∷ []) (3 ∷ [])) Falling
-    -- halves rounded apart: judge, factor test, vector test and box on the mended tables, W39, W43 and W44
-    ∷ bounded 2 apartLow apartHigh (definite (pos 89738 ∷ pos 47861 ∷ pos 0 ∷ pos 75910 ∷ []))
-    ∷ offered-for 2 apartLow apartHigh (pos 89738 ∷ pos 47861 ∷ pos 0 ∷ pos 75910 ∷ []) Yes
+    -- halves rounded apart: judge, vector test and box on the mended tables, W39, W43 and W44
+    ∷ bounded 2 apartLow apartHigh (definite judgedFactor (pos 536914293))
     ∷ tried-on 2 (pos 1 ∷ negsuc 2 ∷ pos 1 ∷ pos 1 ∷ []) (pos 1 ∷ pos 1 ∷ pos 2 ∷ pos 1 ∷ []) (pos 1 ∷ pos 1 ∷ []) No
     ∷ boxed-for 2 (pos 9 ∷ negsuc 8 ∷ pos 0 ∷ pos 9 ∷ []) (pos 9 ∷ pos 0 ∷ pos 9 ∷ pos 9 ∷ []) (pos 0 ∷ pos 0 ∷ []) (pos 0 ∷ pos 0 ∷ []) (pos 9) (pos 0 ∷ pos 0 ∷ [])
     (sides (negsuc 1 ∷ pos 2 ∷ negsuc 1 ∷ pos 2 ∷ []))
@@ -152,13 +158,21 @@ lines =
     ∷ bounded 2 apartLow (pos 2 ∷ pos 0 ∷ pos 2 ∷ pos 2 ∷ []) (Judge.refused Lopsided)
     ∷ bounded 2 (pos 2 ∷ pos 3 ∷ pos 1 ∷ pos 2 ∷ []) apartHigh (Judge.refused Crossed)
     ∷ bounded 2 (pos 2 ∷ negsuc 1048576 ∷ pos 1 ∷ pos 2 ∷ []) apartHigh (Judge.refused Range)
+    -- the factor test, with what the rows have over: 0 and less than 0, W47 and W48
+    ∷ offered 1 (pos 1 ∷ []) (pos 65536 ∷ []) (Accepted (pos 0))
+    ∷ offered 1 (pos 1 ∷ []) (pos 65537 ∷ []) (NotAccepted (negsuc 131072))
+    -- W10 is definite all the same, since its exact factor is accepted; and a factor with less over in its first row, W49 and W50
+    ∷ offered 2 narrow exactFactor (Accepted (pos 0))
+    ∷ offered 2 narrow (pos 65536 ∷ pos 196607 ∷ pos 0 ∷ pos 65536 ∷ []) (NotAccepted (negsuc 65535))
+    -- halves rounded apart, W39 and W51
+    ∷ offered-for 2 apartLow apartHigh judgedFactor (Accepted (pos 536914293))
     ∷ []
 
 as-printed : map (λ (l : Line). l .rules) lines ≡ map (λ (l : Line). l .expected) lines
-unfolding judging judged listed vectorTested vectorAnswer vectorShape factorTested factorAnswer factorShape factorEntry accepts rowsPass rowPasses radius residual gram except after entered firstRefusal entryChecks orderOk orderOf boundsChecks endsChecks constraintEntered tablesWithin allWithin nowhereCrossed mendedBy same all within factoring columnsFrom nextColumn rows goesOn nextEntry entries takeOff scaledBy at table tabulate form rowWidth leastMember leastValue nonzero shows tried first stoppedFactor solvedEntry solvedRows solved sum only floorDiv wholeRoot rootWithin boxing problemBox linearWithin termsWithin boxed boxOf sidesFrom halfSide smallerHalf secondBound firstHalf bound atCentre gradient highGradient lowGradient step stepAt bits trial lowered absℤ minℤ maxℤ ceilDiv rootAbove leastRoot reading readWalked readAs walked walk walkFields walkOn seen startOf unseen placed fieldAt tagged kindOf kindIn unsignedAt fromLeBytes
+unfolding judging judged listed vectorTested vectorAnswer vectorShape factorTested factorAnswer factorShape factorEntry tested accepts rowsPass rowPasses over leastOver leastOf rowOver radius residual gram except after entered firstRefusal entryChecks orderOk orderOf boundsChecks endsChecks constraintEntered tablesWithin allWithin nowhereCrossed mendedBy same all within factoring columnsFrom nextColumn rows goesOn nextEntry entries takeOff scaledBy at table tabulate form rowWidth leastMember leastValue nonzero shows tried first stoppedFactor solvedEntry solvedRows solved sum only floorDiv wholeRoot rootWithin boxing problemBox linearWithin termsWithin boxed boxOf sidesFrom halfSide smallerHalf secondBound firstHalf bound atCentre gradient highGradient lowGradient step stepAt bits trial lowered absℤ minℤ maxℤ ceilDiv rootAbove leastRoot reading readWalked readAs walked walk walkFields walkOn seen startOf unseen placed fieldAt tagged kindOf kindIn unsignedAt fromLeBytes
 as-printed = refl
 
 -- so every member of [1 3; 3 10], on which the judge is undecided, is positive definite
 undecided-definite : PositiveDefinite 2 (at 2 narrow) (at 2 narrow)
-unfolding factorTested factorAnswer factorShape factorEntry accepts rowsPass rowPasses radius residual gram except after entered firstRefusal entryChecks orderOk orderOf boundsChecks tablesWithin allWithin nowhereCrossed mendedBy same all within at table tabulate sum absℤ minℤ maxℤ
-undecided-definite = tested-definite narrow narrow exactFactor (pos 2) true refl
+unfolding factorTested factorAnswer factorShape factorEntry tested accepts rowsPass rowPasses over leastOver leastOf rowOver radius residual gram except after entered firstRefusal entryChecks orderOk orderOf boundsChecks tablesWithin allWithin nowhereCrossed mendedBy same all within at table tabulate sum absℤ minℤ maxℤ
+undecided-definite = tested-means (pos 2) narrow narrow exactFactor true .definite (pos 0) refl

@@ -19,7 +19,7 @@ surely-definite-spec =
     (λ c. search needs)
     (λ c. search needs)
     (λ c. search needs)
-    (λ c e. c .before .before .before .before .judge .ensures .1 .definite (c .enum-told .given .1))
+    (λ c e. c .before .before .before .before .judge .ensures .1 .definite _ (c .enum-told .given .1))
     (λ c e. absurd (false≢true e))
     (λ c e. absurd (false≢true e))
     (λ c e. absurd (false≢true e)))

@@ -35,7 +35,9 @@ report-spec =
     (λ c. search needs)
     (λ c. search needs)
     (λ c κs. passed (c .before .before))
-    (λ c κs. let w = c .work-out .ensures in (passed (c .before .before .before) .rooms .order, w .verdict .size, w .box .size, omega arith))
+    (λ c κs.
+    let w = c .work-out .ensures in
+    (passed (c .before .before .before) .rooms .order, w .verdict .room, w .verdict .size, w .box .size, omega arith))
     (λ c. search needs)
     (λ c. search needs)
     (λ c. search needs)
