@@ -1,14 +1,15 @@
-//! The worked cases W1 to W46, and cases for the mistakes that docs/RULES.md remarks
+//! The worked cases W1 to W51, and cases for the mistakes that docs/RULES.md remarks
 //! on. Expected answers are literals.
 
 use std::fmt;
 
 use crate::entries;
 use crate::factoring::{factor, Factoring};
-use crate::problem::{Bounds, Problem};
+use crate::problem::{square, Bounds, Problem};
 use crate::program::{box_lines, output, verdict_lines};
 use crate::refusal::Refusal;
-use crate::summary::read_problem;
+use crate::residual::rows_over;
+use crate::summary::{encode, read_problem, NUMBER_WIDTH};
 use crate::vectors::least_value;
 use crate::writer::file_of;
 
@@ -46,7 +47,7 @@ impl fmt::Display for Case {
     }
 }
 
-/// Every case: W1 to W20, W21 (case P), W24 to W46, then those for the mistakes, W22
+/// Every case: W1 to W20, W21 (case P), W24 to W51, then those for the mistakes, W22
 /// and W23 among them.
 pub fn listed_cases() -> Vec<Case> {
     [
@@ -59,20 +60,27 @@ pub fn listed_cases() -> Vec<Case> {
         written_files(),
         lopsided_tables(),
         lopsided_files(),
+        offered_factors(),
         wrong_turns(),
     ]
     .concat()
 }
 
+/// The factor of [2 1; 1 2], and the judge's lines.
+const FACTOR: &str = "[89738 47861; 0 75910]";
+const DEFINITE: &str = "definite; row 89738 47861; row 0 75910; over 536914293";
+
 fn judged_matrices() -> Vec<Case> {
     let stretched = "[1 1000; 1000 10000]";
+    let steep = "definite; row 61303 140122; row 0 36108; over 536838306";
     vec![
-        thin("[1]", "definite; row 61303"),
-        wide("[1]", "[2]", "definite; row 61303"),
+        thin("[1]", "definite; row 61303; over 536909487"),
+        wide("[1]", "[2]", "definite; row 61303; over 536909487"),
         thin("[0]", "not; vector 1"),
         wide("[0]", "[5]", "not; vector 1"),
-        thin("[2 1; 1 2]", "definite; row 89738 47861; row 0 75910"),
-        thin("[1 2; 2 5]", "definite; row 61303 140122; row 0 36108"),
+        thin("[2 1; 1 2]", DEFINITE),
+        rows_of("[2 1; 1 2]", FACTOR, "537009070 536914293"),
+        thin("[1 2; 2 5]", steep),
         thin("[1 2; 2 1]", "not; vector 1 -1"),
         thin("[1 1; 1 1]", "not; vector 1 -1"),
         thin(stretched, "not; vector -1143 1"),
@@ -94,7 +102,7 @@ fn judged_boxes() -> Vec<Case> {
 
 fn judged_refusals() -> Vec<Case> {
     vec![
-        thin("[1048576]", "definite; row 67108859"),
+        thin("[1048576]", "definite; row 67108859; over 671088615"),
         thin("[1048577]", "refused 3"),
         order(0, "1"),
         order(9, "1"),
@@ -107,7 +115,7 @@ const CASE_P: &str = "01 0100 01, 02 0400 04000000, 03 0400 04000000, \
     06 0800 0200000000000000, 07 0800 F8FFFFFFFFFFFFFF";
 
 fn case_p() -> Case {
-    let expected = "definite; row 129007; side -1 5";
+    let expected = "definite; row 129007; over 537063135; side -1 5";
     Case::new("case P", expected, output(&bytes(CASE_P)))
 }
 
@@ -193,11 +201,10 @@ fn written_files() -> Vec<Case> {
 
 /// Upper and lower halves that differ: mended, or refused by 3, 4 or 5.
 fn lopsided_tables() -> Vec<Case> {
-    let definite = "definite; row 89738 47861; row 0 75910";
     let (low, high) = ("[9 -9; 0 9]", "[9 0; 9 9]");
     let zeros: (&[i64], &[i64]) = (&[0, 0], &[0, 0]);
     vec![
-        wide("[2 0; 1 2]", "[2 1; 2 2]", definite),
+        wide("[2 0; 1 2]", "[2 1; 2 2]", DEFINITE),
         wide("[2 0; 1 2]", "[2 0; 2 2]", "refused 5"),
         wide("[2 3; 1 2]", "[2 1; 2 2]", "refused 4"),
         wide("[2 -1048577; 1 2]", "[2 1; 2 2]", "refused 3"),
@@ -247,6 +254,25 @@ fn lopsided_files() -> Vec<Case> {
     ]
 }
 
+/// Factors that the factor test is offered, and what their rows have over.
+fn offered_factors() -> Vec<Case> {
+    let (steep, less) = ("[1 3; 3 10]", "[65536 196607; 0 65536]");
+    let exact = "[65536 196608; 0 65536]";
+    vec![
+        offered("[1]", "[1]", "[65536]", "accepted; over 0"),
+        offered("[1]", "[1]", "[65537]", "not accepted; over -131073"),
+        offered(steep, steep, exact, "accepted; over 0"),
+        offered(steep, steep, less, "not accepted; over -65536"),
+        rows_of(steep, less, "-65536 327679"),
+        offered(
+            "[2 0; 1 2]",
+            "[2 1; 2 2]",
+            FACTOR,
+            "accepted; over 536914293",
+        ),
+    ]
+}
+
 fn wrong_turns() -> Vec<Case> {
     vec![
         factor_entry("[2 -1; -1 2]", (0, 1), "-47862"),
@@ -280,6 +306,32 @@ fn shown(low: &str, high: &str, x: &[i128], expected: &str) -> Case {
 
 fn judged(low: &str, high: &str) -> String {
     answer(bounds(low, high).map(|bounds| verdict_lines(&bounds)))
+}
+
+/// The factor test's answer, over bytes.
+fn offered(low: &str, high: &str, factor: &str, expected: &str) -> Case {
+    let subject = format!("factor {factor} for L {low}, U {high}");
+    let order = low.split(';').count() as i64;
+    let [low, high, factor] =
+        [low, high, factor].map(|table| encode(&numbers(table), NUMBER_WIDTH));
+    let mut over = [0xA5; 8];
+    let got = match entries::test_factor(order, &low, &high, &factor, &mut over) {
+        0 => format!("accepted; over {}", i64::from_le_bytes(over)),
+        -1 => format!("not accepted; over {}", i64::from_le_bytes(over)),
+        refusal => format!("refused {refusal}"),
+    };
+    Case::new(&subject, expected, got)
+}
+
+/// What each row of a thin matrix has over with an offered factor.
+fn rows_of(matrix: &str, offered: &str, expected: &str) -> Case {
+    let factor = square(offered.split(';').count(), &numbers(offered));
+    let got = bounds(matrix, matrix).map(|bounds| {
+        let rows = rows_over(&bounds, &factor).into_iter();
+        rows.map(|over| format!("{over} ")).collect()
+    });
+    let subject = format!("rows of factor {offered} for {matrix}");
+    Case::new(&subject, expected, answer(got))
 }
 
 fn least(matrix: &str, x: &[i128], expected: &str) -> Case {
@@ -347,7 +399,7 @@ fn enclosed_between(
 }
 
 fn order(n: i64, expected: &str) -> Case {
-    let got = entries::judge(n, &[], &[], &mut [], &mut []);
+    let got = entries::judge(n, &[], &[], &mut [], &mut [], &mut []);
     Case::new(&format!("n = {n}"), expected, got.to_string())
 }
 

@@ -8,7 +8,7 @@ use crate::problem::{
     check_lengths, check_order, sides_size, table_size, write_numbers, MAX_ORDER,
 };
 use crate::refusal::Refusal;
-use crate::residual;
+use crate::residual::{self, FactorAnswer};
 use crate::rides::{self, Sample};
 use crate::summary::{decode, encode, read_problem, NUMBER_WIDTH};
 use crate::vectors;
@@ -41,18 +41,16 @@ fn write(numbers: &[i64], buffer: &mut [u8]) {
     buffer.copy_from_slice(&encode(numbers, NUMBER_WIDTH));
 }
 
-fn test_code(answer: Result<bool, Refusal>) -> i64 {
-    match answer {
-        Ok(true) => POSITIVE,
-        Ok(false) => NEGATIVE,
-        Err(refusal) => refusal.number(),
-    }
+fn write_single(number: i128, buffer: &mut [u8]) {
+    let mut numbers = [0];
+    write_numbers(&[number], &mut numbers);
+    write(&numbers, buffer);
 }
 
 /// The judge's return value.
 pub fn judge_code(answer: &Result<Verdict, Refusal>) -> i64 {
     match answer {
-        Ok(Verdict::Definite(_)) => POSITIVE,
+        Ok(Verdict::Definite(..)) => POSITIVE,
         Ok(Verdict::NotDefinite(..)) => NEGATIVE,
         Ok(Verdict::Undecided) => UNDECIDED,
         Err(refusal) => refusal.number(),
@@ -68,17 +66,24 @@ pub fn enclosure_code(answer: &Result<Enclosure, Refusal>) -> i64 {
     }
 }
 
-/// The factor test.
-pub fn test_factor(n: i64, low: &[u8], high: &[u8], factor: &[u8]) -> i64 {
+/// The factor test. R15.6: 'accepted' and 'not accepted' both write what the rows have
+/// over.
+pub fn test_factor(n: i64, low: &[u8], high: &[u8], factor: &[u8], over: &mut [u8]) -> i64 {
     let buffers = [
         (low, table_size as Count),
         (high, table_size),
         (factor, table_size),
+        (&*over, SINGLE),
     ];
-    test_code(
-        read(n, buffers)
-            .and_then(|[low, high, factor]| residual::test_factor(n, &low, &high, &factor)),
-    )
+    let tested = read(n, buffers)
+        .and_then(|[low, high, factor, _]| residual::test_factor(n, &low, &high, &factor));
+    let (code, number) = match tested {
+        Ok(FactorAnswer::Accepted(number)) => (POSITIVE, number),
+        Ok(FactorAnswer::NotAccepted(number)) => (NEGATIVE, number),
+        Err(refusal) => return refusal.number(),
+    };
+    write_single(number, over);
+    code
 }
 
 /// The vector test.
@@ -88,35 +93,51 @@ pub fn test_vector(n: i64, low: &[u8], high: &[u8], vector: &[u8]) -> i64 {
         (high, table_size),
         (vector, LIST),
     ];
-    test_code(
-        read(n, buffers)
-            .and_then(|[low, high, vector]| vectors::test_vector(n, &low, &high, &vector)),
-    )
+    let tested = read(n, buffers)
+        .and_then(|[low, high, vector]| vectors::test_vector(n, &low, &high, &vector));
+    match tested {
+        Ok(true) => POSITIVE,
+        Ok(false) => NEGATIVE,
+        Err(refusal) => refusal.number(),
+    }
 }
 
 /// The judge.
-pub fn judge(n: i64, low: &[u8], high: &[u8], factor: &mut [u8], vector: &mut [u8]) -> i64 {
-    judge_code(&judged(n, low, high, factor, vector))
+pub fn judge(
+    n: i64,
+    low: &[u8],
+    high: &[u8],
+    factor: &mut [u8],
+    vector: &mut [u8],
+    over: &mut [u8],
+) -> i64 {
+    judge_code(&judged(n, low, high, factor, vector, over))
 }
 
-/// The judge, with all that its return value leaves out.
+/// The judge, with all that its return value leaves out. R15.6: what the rows have over
+/// is written with the factor.
 pub fn judged(
     n: i64,
     low: &[u8],
     high: &[u8],
     factor: &mut [u8],
     vector: &mut [u8],
+    over: &mut [u8],
 ) -> Result<Verdict, Refusal> {
     let buffers = [
         (low, table_size as Count),
         (high, table_size),
         (&*factor, table_size),
         (&*vector, LIST),
+        (&*over, SINGLE),
     ];
-    let [low, high, mut rows, mut x] = read(n, buffers)?;
+    let [low, high, mut rows, mut x, _] = read(n, buffers)?;
     let verdict = judging::judge(n, &low, &high, &mut rows, &mut x)?;
     write(&rows, factor);
     write(&x, vector);
+    if let Verdict::Definite(_, number) = verdict {
+        write_single(number, over);
+    }
     Ok(verdict)
 }
 

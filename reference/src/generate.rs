@@ -2,6 +2,7 @@
 //! implementation.
 
 mod calls;
+mod factors;
 mod files;
 mod lopsided;
 pub mod numbers;

@@ -3,13 +3,14 @@
 use crate::factoring::{factor, Factoring};
 use crate::problem::{check_lengths, check_order, table_size, write_numbers, Bounds, Table};
 use crate::refusal::Refusal;
+use crate::residual::over;
 use crate::vectors::{shows, solved_vector, tried_vectors, SCALES};
 
 /// What the judge finds.
 #[derive(Clone, Debug, PartialEq, Eq)]
 pub enum Verdict {
-    /// 'definite', with the factor
-    Definite(Table),
+    /// 'definite', with the factor and what its rows have over
+    Definite(Table, i128),
     /// 'not definite', with the vector that shows it and the list it is from
     NotDefinite(List, Vec<i128>),
     /// 'undecided'
@@ -29,7 +30,10 @@ pub enum List {
 pub fn verdict(bounds: &Bounds) -> Verdict {
     match factor(bounds) {
         // R11.2
-        Factoring::Ends(factor) => Verdict::Definite(factor),
+        Factoring::Ends(factor) => {
+            let over = over(bounds, &factor);
+            Verdict::Definite(factor, over)
+        }
         Factoring::Stops {
             column,
             last_row,
@@ -79,7 +83,7 @@ pub fn judge(
     ])?;
     let verdict = verdict(&Bounds::read(order, low, high)?);
     match &verdict {
-        Verdict::Definite(rows) => write_numbers(&rows.concat(), factor),
+        Verdict::Definite(rows, _) => write_numbers(&rows.concat(), factor),
         Verdict::NotDefinite(_, x) => write_numbers(x, vector),
         Verdict::Undecided => {}
     }

@@ -16,9 +16,9 @@ pub fn output(file: &[u8]) -> String {
 /// R19.3: the lines of the verdict.
 pub fn verdict_lines(bounds: &Bounds) -> String {
     match verdict(bounds) {
-        Verdict::Definite(factor) => {
+        Verdict::Definite(factor, over) => {
             let rows = factor.iter().map(|row| line("row", row));
-            "definite\n".to_string() + &rows.collect::<String>()
+            "definite\n".to_string() + &rows.collect::<String>() + &line("over", &[over])
         }
         Verdict::NotDefinite(_, x) => "not\n".to_string() + &line("vector", &x),
         Verdict::Undecided => "undecided\n".to_string(),

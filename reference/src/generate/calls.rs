@@ -1,18 +1,15 @@
 //! Calls of the acts on a problem, faulty ones among them.
 
-use std::cmp::Ordering;
-
 use super::{Generator, RawProblem};
-use crate::factoring::{factor, Factoring};
 use crate::judge::{verdict, Verdict};
 use crate::problem::{
-    sides_size, table_size, Table, CENTRE_RANGE, ENTRY_RANGE, FACTOR_RANGE, LIMIT_RANGE,
-    LINEAR_RANGE, VECTOR_RANGE,
+    sides_size, table_size, CENTRE_RANGE, ENTRY_RANGE, LIMIT_RANGE, LINEAR_RANGE, VECTOR_RANGE,
 };
 use crate::summary::{encode, NUMBER_WIDTH};
 use crate::writer::file_size;
 
-/// The factor test's arguments.
+/// The factor test's arguments; what the rows have over with its contents before the
+/// call.
 #[derive(Clone, Debug, PartialEq, Eq)]
 #[allow(missing_docs)]
 pub struct FactorCall {
@@ -20,6 +17,7 @@ pub struct FactorCall {
     pub low: Vec<u8>,
     pub high: Vec<u8>,
     pub factor: Vec<u8>,
+    pub over: Vec<u8>,
 }
 
 /// The vector test's arguments.
@@ -41,6 +39,7 @@ pub struct JudgeCall {
     pub high: Vec<u8>,
     pub factor: Vec<u8>,
     pub vector: Vec<u8>,
+    pub over: Vec<u8>,
 }
 
 /// The box's arguments; the sides with their contents before the call.
@@ -94,16 +93,21 @@ const STEPLESS_SHARE: usize = 16;
 impl Generator {
     /// A call of the factor test.
     pub fn factor_call(&mut self) -> FactorCall {
-        let mut problem = self.any_problem();
-        let factor = self.offered_factor(&problem);
+        let (mut problem, factor) = self.offer();
         self.damage_entries(&mut problem);
         let mut call = FactorCall {
             n: problem.order as i64,
             low: bytes(&problem.low),
             high: bytes(&problem.high),
             factor: bytes(&factor),
+            over: self.buffer(1),
         };
-        let buffers = &mut [&mut call.low, &mut call.high, &mut call.factor];
+        let buffers = &mut [
+            &mut call.low,
+            &mut call.high,
+            &mut call.factor,
+            &mut call.over,
+        ];
         self.damage_sizes(&mut call.n, buffers);
         call
     }
@@ -134,12 +138,14 @@ impl Generator {
             high: bytes(&problem.high),
             factor: self.buffer(table_size(problem.order)),
             vector: self.buffer(problem.order),
+            over: self.buffer(1),
         };
         let buffers = &mut [
             &mut call.low,
             &mut call.high,
             &mut call.factor,
             &mut call.vector,
+            &mut call.over,
         ];
         self.damage_sizes(&mut call.n, buffers);
         call
@@ -300,44 +306,10 @@ impl Generator {
     }
 
     /// A number at the end of a range or beyond it.
-    fn beyond(&mut self, range: i128) -> i64 {
+    pub(super) fn beyond(&mut self, range: i128) -> i64 {
         let range = range as i64;
         let choices = [-range - 1, range + 1, -range, range, i64::MIN, i64::MAX];
         self.random.pick(&choices)
-    }
-
-    /// A factor: the right one, a changed one, a random one or an improper one.
-    fn offered_factor(&mut self, problem: &RawProblem) -> Vec<i64> {
-        let order = problem.order;
-        let mut factor = match problem.bounds().map(|bounds| factor(&bounds)) {
-            Some(Factoring::Ends(factor)) => narrow(&factor),
-            Some(Factoring::Stops { partial, .. }) => completed(&narrow(&partial), order),
-            None => vec![0; table_size(order)],
-        };
-        let place = self.random.index(factor.len());
-        match self.random.index(8) {
-            0..=2 => {}
-            3 | 4 => {
-                let change = self.random.within(1 << 14);
-                self.change_all(&mut factor, order, change);
-            }
-            5 => {
-                let range = self.random.pick(&[1000, FACTOR_RANGE as i64]);
-                let random: Vec<i64> = factor.iter().map(|_| self.random.within(range)).collect();
-                factor = completed(&random, order);
-            }
-            6 => factor[place] = self.beyond(FACTOR_RANGE),
-            _ => factor[place] = self.random.pick(&[0, -1, 1, i64::MIN]),
-        }
-        factor
-    }
-
-    /// Adds up to `change` to each entry, the factor kept proper.
-    fn change_all(&mut self, factor: &mut Vec<i64>, order: usize, change: i64) {
-        for entry in factor.iter_mut() {
-            *entry += self.random.between(change.min(0), change.max(0));
-        }
-        *factor = completed(factor, order);
     }
 
     /// A vector: a witness vector, a random one, zero or one out of range.
@@ -360,24 +332,6 @@ impl Generator {
         }
         vector
     }
-}
-
-/// The table made upper triangular with a positive diagonal, in range.
-fn completed(table: &[i64], order: usize) -> Vec<i64> {
-    let range = FACTOR_RANGE as i64;
-    let entry = |place: usize| {
-        let (i, j) = (place / order, place % order);
-        match i.cmp(&j) {
-            Ordering::Greater => 0,
-            Ordering::Equal => table[place].saturating_abs().clamp(1, range),
-            Ordering::Less => table[place].clamp(-range, range),
-        }
-    };
-    (0..table.len()).map(entry).collect()
-}
-
-fn narrow(table: &Table) -> Vec<i64> {
-    table.concat().iter().map(|entry| *entry as i64).collect()
 }
 
 fn bytes(numbers: &[i64]) -> Vec<u8> {

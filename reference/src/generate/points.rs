@@ -1,8 +1,9 @@
-//! Points of an ellipsoid, with the member and the linear terms that they belong
-//! to: R3.2 and R3.6 to R3.8, in fractions.
+//! Members of bounds, and points of an ellipsoid, with the member and the linear terms
+//! that they belong to: R3.2 and R3.6 to R3.8, in fractions; D3.8 of a member.
 
 use super::{Generator, RawProblem};
 use crate::factoring::ceiling_quotient;
+use crate::problem::widen;
 use crate::random::Random;
 
 /// The greatest denominator that is drawn.
@@ -33,17 +34,9 @@ pub struct Point {
 
 impl Generator {
     /// A point near the centre of a problem, with any member and any linear
-    /// terms between the ends. A member is symmetric, and so between both halves of
-    /// both tables.
+    /// terms between the ends.
     pub fn point_near(&mut self, problem: &RawProblem) -> Point {
-        let order = problem.order;
-        let mended = problem.mended();
-        let mut member = self.between(&mended.low, &mended.high);
-        for i in 0..order {
-            for j in 0..i {
-                member.numbers[i * order + j] = member.numbers[j * order + i];
-            }
-        }
+        let member = self.member(problem);
         let p = self.random.between(1, MOST);
         let range = self.random.pick(&[0, 1, 4, 40, 400]);
         let mut near = |c: &i64| i128::from(p * c + self.random.within(range * p));
@@ -56,6 +49,20 @@ impl Generator {
             member,
             linear: self.between(&problem.linear_low, &problem.linear_high),
         }
+    }
+
+    /// A member of a problem's bounds (R3.2), row by row. It is symmetric, and so between
+    /// both halves of both tables.
+    pub fn member(&mut self, problem: &RawProblem) -> Fractions {
+        let order = problem.order;
+        let mended = problem.mended();
+        let mut member = self.between(&mended.low, &mended.high);
+        for i in 0..order {
+            for j in 0..i {
+                member.numbers[i * order + j] = member.numbers[j * order + i];
+            }
+        }
+        member
     }
 
     /// Fractions between two lists of numbers, often at an end.
@@ -75,6 +82,21 @@ impl Generator {
             numbers,
             denominator: i128::from(denominator),
         }
+    }
+}
+
+impl Fractions {
+    /// The slack of D3.8 for a member N over q and a whole x, with a factor R and what its
+    /// rows have over, v: 2^32·x'Nx − q·(v·x'x + |Rx|²).
+    pub fn slack(&self, factor: &[i64], over: i64, x: &[i64]) -> i128 {
+        let [factor, x] = [factor, x].map(widen);
+        let images = |table: &[i128]| -> Vec<i128> {
+            let rows = table.chunks(x.len());
+            rows.map(|row| inner_product(row, &x)).collect()
+        };
+        let image = images(&factor);
+        let squares = i128::from(over) * inner_product(&x, &x) + inner_product(&image, &image);
+        (1 << 32) * inner_product(&x, &images(&self.numbers)) - self.denominator * squares
     }
 }
 

@@ -54,7 +54,7 @@ impl Generator {
     }
 
     /// The problem of these bounds, with a centre, linear terms and a limit.
-    fn with_terms(&mut self, order: usize, low: Vec<i64>, high: Vec<i64>) -> RawProblem {
+    pub(super) fn with_terms(&mut self, order: usize, low: Vec<i64>, high: Vec<i64>) -> RawProblem {
         let centre = self.centre(order);
         let linear = self.linear(order, &low, &centre);
         let (linear_low, linear_high) = self.linear_ends(&linear);
@@ -71,7 +71,7 @@ impl Generator {
     }
 
     /// A symmetric table from a rule for the places (i, j) with i ≤ j.
-    fn symmetric(
+    pub(super) fn symmetric(
         &mut self,
         order: usize,
         mut rule: impl FnMut(&mut Self, usize, usize) -> i64,

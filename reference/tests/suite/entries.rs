@@ -3,27 +3,51 @@
 use hankboulder_reference::entries;
 use hankboulder_reference::generate::Generator;
 
-use crate::support::{run_box, run_gather, run_sums};
+use crate::support::{bytes, run_box, run_factor, run_gather, run_judge, run_sums};
 
-/// 'Definite' keeps the vector, 'not definite' the factor, all others both.
+/// 'Definite' keeps the vector, 'not definite' the factor, all others both. What the
+/// rows have over is written with the factor.
 #[test]
-fn the_judge_writes_at_most_one_buffer() {
+fn the_judge_writes_a_factor_with_its_number_or_a_vector() {
     let mut generator = Generator::new(11);
     let mut written = [0, 0];
     for _ in 0..1500 {
-        let call = generator.judge_call();
-        let (mut factor, mut vector) = (call.factor.clone(), call.vector.clone());
-        let code = entries::judge(call.n, &call.low, &call.high, &mut factor, &mut vector);
-        let changed = [factor != call.factor, vector != call.vector];
+        let before = generator.judge_call();
+        let mut after = before.clone();
+        let code = run_judge(&mut after);
+        let changed = [
+            after.factor != before.factor,
+            after.vector != before.vector,
+            after.over != before.over,
+        ];
         match code {
-            0 => assert_eq!(changed, [true, false]),
-            -1 => assert_eq!(changed, [false, true]),
-            _ => assert_eq!(changed, [false, false]),
+            0 => assert_eq!(changed, [true, false, true]),
+            -1 => assert_eq!(changed, [false, true, false]),
+            _ => assert_eq!(changed, [false; 3]),
         }
         written[0] += usize::from(changed[0]);
         written[1] += usize::from(changed[1]);
     }
     assert!(written.iter().all(|count| *count > 100), "{written:?}");
+}
+
+/// What the rows have over is written where the code is 0 or -1 and nowhere else.
+#[test]
+fn the_factor_test_writes_what_the_rows_have_over_where_it_answers() {
+    let mut generator = Generator::new(15);
+    let mut written = [0, 0];
+    for _ in 0..3000 {
+        let before = generator.factor_call();
+        let mut after = before.clone();
+        let code = run_factor(&mut after);
+        assert_eq!(after.over != before.over, code <= 0, "{before:?}");
+        after.over = before.over.clone();
+        assert_eq!(after, before);
+        if code <= 0 {
+            written[code.unsigned_abs() as usize] += 1;
+        }
+    }
+    assert!(written.iter().all(|count| *count > 300), "{written:?}");
 }
 
 /// Sides are written where the code is 0 and nowhere else.
@@ -83,9 +107,16 @@ fn numbers_are_signed_with_the_low_byte_first() {
     let high = [5, 0, 0, 0, 0, 0, 0, 0];
     assert_eq!(sides, [low, high].concat()[..]);
 
-    let (mut factor, mut vector) = ([0; 8], [0xA5; 8]);
-    assert_eq!(entries::judge(1, &m, &m, &mut factor, &mut vector), 0);
+    let (mut factor, mut vector, mut over) = ([0; 8], [0xA5; 8], [0xA5; 8]);
+    let code = entries::judge(1, &m, &m, &mut factor, &mut vector, &mut over);
+    assert_eq!(code, 0);
     // 129007 = 0x1F7EF
     assert_eq!(factor, [0xEF, 0xF7, 1, 0, 0, 0, 0, 0]);
     assert_eq!(vector, [0xA5; 8]);
+    // 537063135 = 0x2002EEDF
+    assert_eq!(over, [0xDF, 0xEE, 0x02, 0x20, 0, 0, 0, 0]);
+    // 2^34 - 131073^2 = -262145
+    let r = bytes(&[131073]);
+    assert_eq!(entries::test_factor(1, &m, &m, &r, &mut over), -1);
+    assert_eq!(over, [0xFF, 0xFF, 0xFB, 0xFF, 0xFF, 0xFF, 0xFF, 0xFF]);
 }

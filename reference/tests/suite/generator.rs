@@ -8,11 +8,13 @@ use hankboulder_reference::generate::{Generator, RawProblem, EDGES, KINDS};
 use hankboulder_reference::judge::{verdict, List, Verdict};
 use hankboulder_reference::problem::Bounds;
 use hankboulder_reference::program::output;
+use hankboulder_reference::residual::{check_factor, over, rows_over};
 use hankboulder_reference::summary::read_problem;
 use hankboulder_reference::writer::file_of;
 
 use crate::support::{
-    enclose_problem, judge, numbers, run_box, run_gather, run_read, run_sums, run_write,
+    enclose_problem, judge, numbers, run_box, run_factor, run_gather, run_judge, run_read,
+    run_sums, run_write,
 };
 
 /// How often each answer was met.
@@ -56,11 +58,70 @@ fn the_same_seed_gives_the_same_calls() {
 #[test]
 fn factor_calls_meet_every_answer() {
     let mut generator = Generator::new(51);
-    let counts = count(3000, || {
-        let call = generator.factor_call();
-        entries::test_factor(call.n, &call.low, &call.high, &call.factor)
-    });
+    let counts = count(3000, || run_factor(&mut generator.factor_call()));
     assert_met(&counts, &[-1, 0, 1, 2, 3, 4, 5, 6]);
+}
+
+/// How far a factor is from having nothing over: not at all, by less than 2^24, by less
+/// than 2^32 or by more, on either side.
+fn distance(over: i128) -> i64 {
+    let far = match over.abs() {
+        0 => 0,
+        1..0x100_0000 => 1,
+        0x100_0000..0x1_0000_0000 => 2,
+        _ => 3,
+    };
+    over.signum() as i64 * far
+}
+
+const FIRST: i64 = 0;
+const MIDDLE: i64 = 1;
+const LAST: i64 = 2;
+
+/// The place of the row that alone has the least over.
+fn least_row(rows: &[i128]) -> Option<i64> {
+    let least = rows.iter().min()?;
+    let mut found = (0..rows.len()).filter(|i| rows[*i] == *least);
+    let place = match found.next()? {
+        0 => FIRST,
+        last if last + 1 == rows.len() => LAST,
+        _ => MIDDLE,
+    };
+    found.next().is_none().then_some(place)
+}
+
+/// At every order factors are accepted and not, just so and by far, and the least is in
+/// the first, in a middle and in the last row, on either side.
+#[test]
+fn offered_factors_are_just_accepted_just_not_and_far_from_it() {
+    let mut generator = Generator::new(68);
+    let mut distances: BTreeMap<usize, Counts> = BTreeMap::new();
+    let mut places: BTreeMap<(usize, bool), Counts> = BTreeMap::new();
+    for _ in 0..30_000 {
+        let (problem, factor) = generator.offer();
+        let n = problem.order;
+        let bounds = Bounds::read(n, &problem.low, &problem.high).unwrap();
+        let Ok(factor) = check_factor(n, &factor) else {
+            continue;
+        };
+        let rows = rows_over(&bounds, &factor);
+        let over = over(&bounds, &factor);
+        let met = distances.entry(n).or_default();
+        *met.entry(distance(over)).or_default() += 1;
+        if let Some(place) = least_row(&rows) {
+            let met = places.entry((n, over >= 0)).or_default();
+            *met.entry(place).or_default() += 1;
+        }
+    }
+    for n in 1..=8 {
+        assert_met(&distances[&n], &[-3, -2, -1, 0, 1, 2, 3]);
+        let rows = [&[FIRST][..], &[FIRST, LAST], &[FIRST, MIDDLE, LAST]][n.min(3) - 1];
+        for accepted in [false, true] {
+            let met = &places[&(n, accepted)];
+            assert_met(met, rows);
+            assert!(met.values().all(|count| *count >= 40), "{n}: {met:?}");
+        }
+    }
 }
 
 #[test]
@@ -76,11 +137,7 @@ fn vector_calls_meet_every_answer() {
 #[test]
 fn judge_calls_meet_every_answer() {
     let mut generator = Generator::new(53);
-    let counts = count(3000, || {
-        let mut call = generator.judge_call();
-        let (factor, vector) = (&mut call.factor, &mut call.vector);
-        entries::judge(call.n, &call.low, &call.high, factor, vector)
-    });
+    let counts = count(3000, || run_judge(&mut generator.judge_call()));
     assert_met(&counts, &[-2, -1, 0, 1, 2, 3, 4, 5]);
 }
 
@@ -144,9 +201,8 @@ fn count_lopsided(mut call: impl FnMut() -> (bool, i64)) -> Counts {
 fn lopsided_calls_on_a_problem_meet_every_answer() {
     let mut own = Generator::new(66);
     let counts = count_lopsided(|| {
-        let call = own.factor_call();
-        let answer = entries::test_factor(call.n, &call.low, &call.high, &call.factor);
-        (has_lopsided(&call.low, &call.high), answer)
+        let mut call = own.factor_call();
+        (has_lopsided(&call.low, &call.high), run_factor(&mut call))
     });
     assert_met(&counts, &[-1, 0, 1, 2, 3, 4, 5, 6]);
     let counts = count_lopsided(|| {
@@ -157,9 +213,7 @@ fn lopsided_calls_on_a_problem_meet_every_answer() {
     assert_met(&counts, &[-1, 0, 1, 2, 3, 4, 5, 7]);
     let counts = count_lopsided(|| {
         let mut call = own.judge_call();
-        let (factor, vector) = (&mut call.factor, &mut call.vector);
-        let answer = entries::judge(call.n, &call.low, &call.high, factor, vector);
-        (has_lopsided(&call.low, &call.high), answer)
+        (has_lopsided(&call.low, &call.high), run_judge(&mut call))
     });
     assert_met(&counts, &[-2, -1, 0, 1, 2, 3, 4, 5]);
     let counts = count_lopsided(|| {
@@ -231,6 +285,7 @@ fn summary_files_meet_every_answer() {
         "definite",
         "empty",
         "not",
+        "over",
         "refused",
         "row",
         "side",

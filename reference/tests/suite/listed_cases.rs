@@ -4,7 +4,7 @@
 use hankboulder_reference::cases::{listed_cases, numbers};
 use hankboulder_reference::entries;
 
-use crate::support::{bytes, enclose, judge, minors_positive, Judged, UNWRITTEN};
+use crate::support::{bytes, enclose, judge, minors_positive, test_factor, Judged, UNWRITTEN};
 
 #[test]
 fn every_listed_case_passes() {
@@ -15,15 +15,21 @@ fn every_listed_case_passes() {
         .map(|case| case.to_string())
         .collect();
     assert_eq!(failed, Vec::<String>::new());
-    assert_eq!(cases.len(), 56);
+    assert_eq!(cases.len(), 63);
 }
 
 #[test]
 fn a_failing_case_would_be_seen() {
     let mut case = listed_cases().remove(0);
-    case.expected = "definite; row 61304".to_string();
-    assert!(!case.passes());
-    assert!(case.to_string().ends_with("FAIL"));
+    for wrong in [
+        "definite; row 61304; over 536909487",
+        "definite; row 61303; over 536909486",
+        "definite; row 61303",
+    ] {
+        case.expected = wrong.to_string();
+        assert!(!case.passes());
+        assert!(case.to_string().ends_with("FAIL"));
+    }
 }
 
 /// Judges matrices written as in docs/RULES.md.
@@ -32,12 +38,13 @@ fn judged(low: &str, high: &str) -> Judged {
     judge(n, &numbers(low), &numbers(high))
 }
 
-fn definite(factor: &[i64]) -> Judged {
+fn definite(factor: &[i64], over: i64) -> Judged {
     let n = (1..=8).find(|n| n * n == factor.len()).unwrap();
     Judged {
         code: 0,
         factor: factor.to_vec(),
         vector: vec![UNWRITTEN; n],
+        over,
     }
 }
 
@@ -46,6 +53,7 @@ fn not_definite(vector: &[i64]) -> Judged {
         code: -1,
         factor: vec![UNWRITTEN; vector.len() * vector.len()],
         vector: vector.to_vec(),
+        over: UNWRITTEN,
     }
 }
 
@@ -54,13 +62,14 @@ fn undecided(n: usize) -> Judged {
         code: -2,
         factor: vec![UNWRITTEN; n * n],
         vector: vec![UNWRITTEN; n],
+        over: UNWRITTEN,
     }
 }
 
 #[test]
 fn judged_matrices_of_order_1() {
-    assert_eq!(judged("[1]", "[1]"), definite(&[61303]));
-    assert_eq!(judged("[1]", "[2]"), definite(&[61303]));
+    assert_eq!(judged("[1]", "[1]"), definite(&[61303], 536909487));
+    assert_eq!(judged("[1]", "[2]"), definite(&[61303], 536909487));
     assert_eq!(judged("[0]", "[0]"), not_definite(&[1]));
     assert_eq!(judged("[0]", "[5]"), not_definite(&[1]));
 }
@@ -68,8 +77,10 @@ fn judged_matrices_of_order_1() {
 #[test]
 fn judged_matrices_of_order_2() {
     let thin = |matrix: &str| judged(matrix, matrix);
-    assert_eq!(thin("[2 1; 1 2]"), definite(&[89738, 47861, 0, 75910]));
-    assert_eq!(thin("[1 2; 2 5]"), definite(&[61303, 140122, 0, 36108]));
+    let factor = [89738, 47861, 0, 75910];
+    assert_eq!(thin("[2 1; 1 2]"), definite(&factor, 536914293));
+    let factor = [61303, 140122, 0, 36108];
+    assert_eq!(thin("[1 2; 2 5]"), definite(&factor, 536838306));
     assert_eq!(thin("[1 2; 2 1]"), not_definite(&[1, -1]));
     assert_eq!(thin("[1 1; 1 1]"), not_definite(&[1, -1]));
     assert_eq!(thin("[1 1000; 1000 10000]"), not_definite(&[-1143, 1]));
@@ -103,8 +114,8 @@ fn judged_vector_and_factor() {
     let m = bytes(&[1, 1000, 1000, 10000]);
     let x = bytes(&[-1143, 1]);
     assert_eq!(entries::test_vector(2, &m, &m, &x), 0);
-    let m = bytes(&[2, 1, 1, 2]);
-    let factor = bytes(&[89738, 47861, 0, 75910]);
-    assert_eq!(entries::test_factor(2, &m, &m, &factor), 0);
+    let (m, factor) = ([2, 1, 1, 2], [89738, 47861, 0, 75910]);
+    assert_eq!(test_factor(2, &m, &m, &factor), (0, 536914293));
+    let m = bytes(&m);
     assert_eq!(entries::test_vector(2, &m, &m, &x), -1);
 }

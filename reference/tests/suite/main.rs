@@ -6,6 +6,7 @@ mod files;
 mod generator;
 mod listed_cases;
 mod mended;
+mod over;
 mod program_text;
 mod properties;
 mod readings;

@@ -17,7 +17,7 @@ use hankboulder_reference::writer::file_of;
 
 use crate::support::{
     bytes, enclose_problem, judge, numbers, read_call, run_gather, run_read, run_sums, run_write,
-    write_call, UNWRITTEN,
+    test_factor, write_call, UNWRITTEN,
 };
 
 const ENTRY: i64 = 1 << 20;
@@ -195,7 +195,8 @@ fn answers(problem: &RawProblem, offered: &Offered) -> Vec<(i64, Vec<u8>)> {
     let n = problem.order as i64;
     let (low, high) = (bytes(&problem.low), bytes(&problem.high));
     let judged = judge(problem.order, &problem.low, &problem.high);
-    let (factor, vector) = (bytes(&offered.factor), bytes(&offered.vector));
+    let (tested, over) = test_factor(problem.order, &problem.low, &problem.high, &offered.factor);
+    let vector = bytes(&offered.vector);
     let (boxed, sides) = enclose_problem(problem);
     let (mut sums, mut write) = (sums_call(problem), write_call(problem));
     let mut read = read_call(&problem.file());
@@ -205,8 +206,11 @@ fn answers(problem: &RawProblem, offered: &Offered) -> Vec<(i64, Vec<u8>)> {
         Err(refusal) => (refusal.number(), vec![]),
     };
     vec![
-        (judged.code, bytes(&[judged.factor, judged.vector].concat())),
-        (entries::test_factor(n, &low, &high, &factor), vec![]),
+        (
+            judged.code,
+            bytes(&[judged.factor, judged.vector, vec![judged.over]].concat()),
+        ),
+        (tested, bytes(&[over])),
         (code, tables),
         (entries::test_vector(n, &low, &high, &vector), vec![]),
         (boxed, bytes(&sides)),

@@ -22,7 +22,7 @@ fn file(matrix: &str, linear: &[i64], limit: i64) -> Vec<u8> {
 const CASE_P: &str = "01 0100 01, 02 0400 04000000, 03 0400 04000000, \
                       04 0800 F8FFFFFFFFFFFFFF, 05 0800 0000000000000000, \
                       06 0800 0200000000000000, 07 0800 F8FFFFFFFFFFFFFF";
-const CASE_P_OUTPUT: &str = "definite\nrow 129007\nside -1 5\n";
+const CASE_P_OUTPUT: &str = "definite\nrow 129007\nover 537063135\nside -1 5\n";
 
 #[test]
 fn case_p() {
@@ -54,8 +54,8 @@ fn the_command_cases_counts_every_case() {
     let done = Command::new(env!("CARGO_BIN_EXE_cases")).output().unwrap();
     assert!(done.status.success());
     let text = String::from_utf8(done.stdout).unwrap();
-    assert_eq!(text.lines().count(), 57);
-    assert!(text.ends_with("\n56 passed, 0 failed\n"));
+    assert_eq!(text.lines().count(), 64);
+    assert!(text.ends_with("\n63 passed, 0 failed\n"));
 }
 
 #[test]
@@ -76,16 +76,16 @@ fn every_verdict_is_followed_by_the_box() {
     let undecided = file("[1 3; 3 10]", &[0, 0], 0);
     assert_eq!(output(&undecided), "undecided\nbox refused 8\n");
     let flat = file("[2 1; 1 2]", &[0, 0], 0);
-    let rows = "definite\nrow 89738 47861\nrow 0 75910\n";
+    let rows = "definite\nrow 89738 47861\nrow 0 75910\nover 536914293\n";
     assert_eq!(output(&flat), format!("{rows}box refused 8\n"));
     let negative_entry = file("[2 -1; -1 2]", &[0, 0], 0);
-    let rows = "definite\nrow 89738 -47862\nrow 0 75909\n";
+    let rows = "definite\nrow 89738 -47862\nrow 0 75909\nover 536914407\n";
     assert_eq!(output(&negative_entry), format!("{rows}box refused 8\n"));
 }
 
 #[test]
 fn every_answer_of_the_box() {
-    let row = "definite\nrow 129007\n";
+    let row = "definite\nrow 129007\nover 537063135\n";
     let text = |linear: i64, limit: i64| output(&file("[4]", &[linear], limit));
     assert_eq!(text(0, -1), format!("{row}empty\n"));
     assert_eq!(text(0, 0), format!("{row}side 0 0\n"));
@@ -101,7 +101,8 @@ fn text_of_entries(problem: &RawProblem) -> String {
         0 => {
             let rows = judged.factor.chunks(problem.order);
             let lines = rows.map(|row| format!("row{}\n", words(row)));
-            format!("definite\n{}", lines.collect::<String>())
+            let lines: String = lines.collect();
+            format!("definite\n{lines}over {}\n", judged.over)
         }
         -1 => format!("not\nvector{}\n", words(&judged.vector)),
         _ => "undecided\n".to_string(),

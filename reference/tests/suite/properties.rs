@@ -4,7 +4,10 @@ use hankboulder_reference::entries;
 use hankboulder_reference::generate::{Generator, ProblemKind, RawProblem, KINDS};
 use hankboulder_reference::random::Random;
 
-use crate::support::{bytes, corners, enclose_problem, judge, minors_positive, quadratic_form};
+use crate::support::{
+    bytes, corners, enclose_problem, judge, minors_positive, numbers, quadratic_form, run_factor,
+    test_factor,
+};
 
 /// Problems of every kind and order, thin and wide, several of each.
 fn problems(seed: u64, orders: std::ops::RangeInclusive<usize>, rounds: usize) -> Vec<RawProblem> {
@@ -35,9 +38,7 @@ fn definite_problems(seed: u64) -> Vec<(RawProblem, Vec<i64>)> {
 #[test]
 fn the_factor_of_a_definite_problem_is_accepted() {
     for (problem, factor) in definite_problems(31) {
-        let (low, high) = (bytes(&problem.low), bytes(&problem.high));
-        let n = problem.order as i64;
-        let code = entries::test_factor(n, &low, &high, &bytes(&factor));
+        let (code, _) = test_factor(problem.order, &problem.low, &problem.high, &factor);
         assert_eq!(code, 0, "{problem:?}");
     }
 }
@@ -48,8 +49,8 @@ fn an_accepted_factor_leaves_no_vector_that_shows() {
     let mut random = Random::new(33);
     let mut accepted = 0;
     for _ in 0..1500 {
-        let call = generator.factor_call();
-        if entries::test_factor(call.n, &call.low, &call.high, &call.factor) != 0 {
+        let mut call = generator.factor_call();
+        if run_factor(&mut call) != 0 {
             continue;
         }
         accepted += 1;
@@ -148,39 +149,43 @@ fn the_vector_test_agrees_with_the_corners() {
     assert!(counts.iter().all(|count| *count > 50), "{counts:?}");
 }
 
+/// By how much row i of the difference of a matrix and P is diagonally dominant.
+fn dominance(matrix: &[i64], r: &[i64], n: usize, i: usize) -> i128 {
+    let difference = |j: usize| -> i128 {
+        let p: i128 = (0..n)
+            .map(|k| i128::from(r[k * n + i]) * i128::from(r[k * n + j]))
+            .sum();
+        i128::from(matrix[i * n + j]) * (1 << 32) - p
+    };
+    let off: i128 = (0..n).map(|j| difference(j).abs()).sum::<i128>() - difference(i).abs();
+    difference(i) - off
+}
+
 /// The residual test, row by row over all corners: the difference of every
-/// corner and P is diagonally dominant exactly if the factor is accepted.
+/// corner and P is diagonally dominant exactly if the factor is accepted. The least by
+/// which a row is dominant is what the rows have over.
 #[test]
 fn the_residual_test_agrees_with_the_corners() {
     let mut generator = Generator::new(38);
     let mut counts = [0; 2];
     for _ in 0..6000 {
-        let call = generator.factor_call();
+        let mut call = generator.factor_call();
         if !(1..=3).contains(&call.n) {
             continue;
         }
-        let code = entries::test_factor(call.n, &call.low, &call.high, &call.factor);
+        let code = run_factor(&mut call);
         if code > 0 {
             continue;
         }
         let n = call.n as usize;
-        let [low, high, r] =
-            [&call.low, &call.high, &call.factor].map(|b| crate::support::numbers(b));
-        let dominant = corners(n, &low, &high).iter().all(|m| {
-            (0..n).all(|i| {
-                let difference = |j: usize| -> i128 {
-                    let p: i128 = (0..n)
-                        .map(|k| i128::from(r[k * n + i]) * i128::from(r[k * n + j]))
-                        .sum();
-                    i128::from(m[i * n + j]) * (1 << 32) - p
-                };
-                let off: i128 =
-                    (0..n).map(|j| difference(j).abs()).sum::<i128>() - difference(i).abs();
-                difference(i) >= off
-            })
-        });
-        assert_eq!(code == 0, dominant, "{call:?}");
-        counts[usize::from(dominant)] += 1;
+        let [low, high, r] = [&call.low, &call.high, &call.factor].map(|b| numbers(b));
+        let corners = corners(n, &low, &high);
+        let rows = corners.iter().flat_map(|m| (0..n).map(move |i| (m, i)));
+        let least = rows.map(|(m, i)| dominance(m, &r, n, i)).min();
+        let over = i128::from(numbers(&call.over)[0]);
+        assert_eq!(Some(over), least, "{call:?}");
+        assert_eq!(code == 0, over >= 0, "{call:?}");
+        counts[usize::from(code == 0)] += 1;
     }
     assert!(counts.iter().all(|count| *count > 50), "{counts:?}");
 }
@@ -231,9 +236,8 @@ fn the_condition_of_demand_3_makes_factoring_end() {
         let (low, high) = at_the_condition(&mut random, n);
         let judged = judge(n, &low, &high);
         assert_eq!(judged.code, 0, "{low:?} {high:?}");
-        let factor = bytes(&judged.factor);
-        let code = entries::test_factor(n as i64, &bytes(&low), &bytes(&high), &factor);
-        assert_eq!(code, 0);
+        let tested = test_factor(n, &low, &high, &judged.factor);
+        assert_eq!(tested, (0, judged.over));
     }
 }
 

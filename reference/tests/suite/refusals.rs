@@ -14,6 +14,7 @@ struct Call {
     high: Vec<u8>,
     factor: Vec<u8>,
     vector: Vec<u8>,
+    over: Vec<u8>,
     linear_low: Vec<u8>,
     linear_high: Vec<u8>,
     limit: i64,
@@ -32,7 +33,8 @@ const ACTS: [(Act, &[i64]); 4] = [
 ];
 
 fn test_factor(call: &mut Call) -> i64 {
-    entries::test_factor(call.n, &call.low, &call.high, &call.factor)
+    let over = &mut call.over;
+    entries::test_factor(call.n, &call.low, &call.high, &call.factor, over)
 }
 
 fn test_vector(call: &mut Call) -> i64 {
@@ -40,8 +42,8 @@ fn test_vector(call: &mut Call) -> i64 {
 }
 
 fn judge(call: &mut Call) -> i64 {
-    let (factor, vector) = (&mut call.factor, &mut call.vector);
-    entries::judge(call.n, &call.low, &call.high, factor, vector)
+    let (factor, vector, over) = (&mut call.factor, &mut call.vector, &mut call.over);
+    entries::judge(call.n, &call.low, &call.high, factor, vector, over)
 }
 
 fn enclose(call: &mut Call) -> i64 {
@@ -65,6 +67,7 @@ fn good_call() -> Call {
         high: bytes(&[4, 2, 2, 6]),
         factor: bytes(&[1, 2, 0, 3]),
         vector: bytes(&[1, -1]),
+        over: bytes(&[7]),
         linear_low: bytes(&[0, 0]),
         linear_high: bytes(&[0, 0]),
         limit: 10,
@@ -89,7 +92,7 @@ fn put_fault(call: &mut Call, number: i64) {
     match number {
         1 => call.n = 9,
         2 => {
-            for buffer in [&mut call.factor, &mut call.vector, &mut call.sides] {
+            for buffer in [&mut call.over, &mut call.vector, &mut call.sides] {
                 buffer.push(0);
             }
         }
@@ -198,6 +201,7 @@ fn buffers(act: usize, call: &mut Call) -> Vec<&mut Vec<u8>> {
         high,
         factor,
         vector,
+        over,
         linear_low,
         linear_high,
         centre,
@@ -205,9 +209,9 @@ fn buffers(act: usize, call: &mut Call) -> Vec<&mut Vec<u8>> {
         ..
     } = call;
     match act {
-        0 => vec![low, high, factor],
+        0 => vec![low, high, factor, over],
         1 => vec![low, high, vector],
-        2 => vec![low, high, factor, vector],
+        2 => vec![low, high, factor, vector, over],
         _ => vec![low, high, linear_low, linear_high, centre, sides],
     }
 }
@@ -253,6 +257,29 @@ fn refusal_2_is_not_asked_of_buffers_of_other_acts() {
     call.linear_high.clear();
     call.sides.clear();
     assert_eq!(run(judge, &call), 0);
+    call = good_call();
+    call.over.clear();
+    assert_eq!(run(test_vector, &call), -1);
+    assert_eq!(run(enclose, &call), 0);
+}
+
+/// The buffer for what the rows have over has 8 bytes at every order, whatever else is
+/// wrong but the order.
+#[test]
+fn refusal_2_of_every_other_size_for_what_the_rows_have_over() {
+    for (act, own) in [(test_factor as Act, &[6][..]), (judge, &[])] {
+        for size in (0..=17).chain([32, 64, 512]).filter(|size| *size != 8) {
+            let mut call = good_call();
+            call.over.resize(size, 0);
+            assert_eq!(run(act, &call), 2, "{size} bytes");
+            for later in [3, 4, 5].iter().chain(own) {
+                put_fault(&mut call, *later);
+                assert_eq!(run(act, &call), 2, "{size} bytes, and {later}");
+            }
+            put_fault(&mut call, 1);
+            assert_eq!(run(act, &call), 1, "{size} bytes");
+        }
+    }
 }
 
 /// Numbers beyond ±range, and the ends themselves.

@@ -11,7 +11,9 @@ use hankboulder_reference::summary::{
 };
 use hankboulder_reference::writer::{file_of, file_size};
 
-use crate::support::{bytes, numbers, read_call, run_read, run_write, write_call, UNWRITTEN};
+use crate::support::{
+    bytes, judge, numbers, read_call, run_read, run_write, write_call, UNWRITTEN,
+};
 
 const WRITTEN: i64 = 0;
 
@@ -445,10 +447,11 @@ fn what_is_read_goes_on_to_judge_and_box() {
     let mut call = read_call(&hexadecimal(CASE_P));
     assert_eq!(run_read(&mut call), WRITTEN);
     assert_eq!(numbers(&call.order), [1]);
-    let (mut factor, mut vector) = (bytes(&[UNWRITTEN]), bytes(&[UNWRITTEN]));
+    let [low, high] = [&call.low, &call.high].map(|table| numbers(&table[..8]));
+    let judged = judge(1, &low, &high);
+    assert_eq!((judged.code, judged.factor), (0, vec![129_007]));
+    assert_eq!(judged.over, 537_063_135);
     let (low, high) = (&call.low[..8], &call.high[..8]);
-    assert_eq!(entries::judge(1, low, high, &mut factor, &mut vector), 0);
-    assert_eq!(numbers(&factor), [129_007]);
     let mut sides = bytes(&[UNWRITTEN; 2]);
     let (least, most) = (&call.linear_low[..8], &call.linear_high[..8]);
     let limit = numbers(&call.limit)[0];

@@ -5,7 +5,7 @@ use std::collections::BTreeSet;
 
 use hankboulder_reference::entries;
 use hankboulder_reference::generate::{
-    BoxCall, GatherCall, RawProblem, ReadCall, SumsCall, WriteCall,
+    BoxCall, FactorCall, GatherCall, JudgeCall, RawProblem, ReadCall, SumsCall, WriteCall,
 };
 use hankboulder_reference::writer::file_size;
 
@@ -23,30 +23,62 @@ pub fn numbers(bytes: &[u8]) -> Vec<i64> {
     bytes.chunks(8).map(number).collect()
 }
 
-/// The judge's return value and both outputs.
+/// The judge's return value and its three outputs.
 #[derive(Debug, PartialEq, Eq)]
 pub struct Judged {
     pub code: i64,
     pub factor: Vec<i64>,
     pub vector: Vec<i64>,
+    pub over: i64,
 }
 
 /// Judges tables given as numbers.
 pub fn judge(n: usize, low: &[i64], high: &[i64]) -> Judged {
-    let mut factor = bytes(&vec![UNWRITTEN; n * n]);
-    let mut vector = bytes(&vec![UNWRITTEN; n]);
-    let code = entries::judge(
-        n as i64,
-        &bytes(low),
-        &bytes(high),
-        &mut factor,
-        &mut vector,
-    );
+    let mut call = JudgeCall {
+        n: n as i64,
+        low: bytes(low),
+        high: bytes(high),
+        factor: bytes(&vec![UNWRITTEN; n * n]),
+        vector: bytes(&vec![UNWRITTEN; n]),
+        over: bytes(&[UNWRITTEN]),
+    };
     Judged {
-        code,
-        factor: numbers(&factor),
-        vector: numbers(&vector),
+        code: run_judge(&mut call),
+        factor: numbers(&call.factor),
+        vector: numbers(&call.vector),
+        over: numbers(&call.over)[0],
     }
+}
+
+/// The factor test's return value, and what the rows have over, of tables given as
+/// numbers.
+pub fn test_factor(n: usize, low: &[i64], high: &[i64], factor: &[i64]) -> (i64, i64) {
+    let mut call = FactorCall {
+        n: n as i64,
+        low: bytes(low),
+        high: bytes(high),
+        factor: bytes(factor),
+        over: bytes(&[UNWRITTEN]),
+    };
+    let code = run_factor(&mut call);
+    (code, numbers(&call.over)[0])
+}
+
+/// Runs a generated call of the judge.
+pub fn run_judge(call: &mut JudgeCall) -> i64 {
+    entries::judge(
+        call.n,
+        &call.low,
+        &call.high,
+        &mut call.factor,
+        &mut call.vector,
+        &mut call.over,
+    )
+}
+
+/// Runs a generated call of the factor test.
+pub fn run_factor(call: &mut FactorCall) -> i64 {
+    entries::test_factor(call.n, &call.low, &call.high, &call.factor, &mut call.over)
 }
 
 /// Runs a generated call of the box.
