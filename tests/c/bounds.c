@@ -268,12 +268,12 @@ static void test_width(void)
     for (int k = 0; k < 60000; k++) {
         struct bounds bounds;
         const struct sums *sums = &bounds.sums;
-        uint8_t factor[HB_TABLE_BYTES(ORDER)], vector[HB_VECTOR_BYTES(ORDER)];
+        uint8_t factor[HB_TABLE_BYTES(ORDER)], vector[HB_VECTOR_BYTES(ORDER)], over[HB_OVER_BYTES];
         int64_t sides[2 * ORDER];
         int shown[2];
         draw(&bounds);
-        shown[0] = hb_judge(ORDER, sums->low, sizeof sums->low, sums->high, sizeof sums->high, factor, sizeof factor, vector, sizeof vector) ==
-                   HB_DEFINITE;
+        shown[0] = hb_judge(ORDER, sums->low, sizeof sums->low, sums->high, sizeof sums->high, factor, sizeof factor, vector, sizeof vector,
+                            over, sizeof over) == HB_DEFINITE;
         shown[1] = boxed(sums, 0, zeros, sides) != HB_REFUSED_FLAT;
         for (int box = 0; box < 2; box++) {
             if (sign(&bounds, 2 * box) < 1) {

@@ -41,6 +41,8 @@ struct result {
     int64_t limit;
     int64_t factor[N * N];
     int64_t vector[N];
+    int64_t over;
+    int64_t tested_over;
     int64_t sides[2 * N];
     uint8_t file[HB_SUMMARY_BYTES(N)];
     int64_t order;
@@ -67,8 +69,9 @@ static void call(const struct problem *problem, struct result *result)
     const size_t size = sizeof problem->table;
     memset(result, 0, sizeof *result);
     result->answers[0] = hb_judge(N, table, size, table, size, (uint8_t *)result->factor, sizeof result->factor, (uint8_t *)result->vector,
-                                  sizeof result->vector);
-    result->answers[1] = hb_test_factor(N, table, size, table, size, bytes(result->factor), sizeof result->factor);
+                                  sizeof result->vector, (uint8_t *)&result->over, sizeof result->over);
+    result->answers[1] = hb_test_factor(N, table, size, table, size, bytes(result->factor), sizeof result->factor,
+                                        (uint8_t *)&result->tested_over, sizeof result->tested_over);
     result->answers[2] = hb_test_vector(N, table, size, table, size, bytes(result->vector), sizeof result->vector);
     result->answers[3] = hb_box(N, table, size, table, size, bytes(problem->linear_low), sizeof problem->linear_low,
                                 bytes(problem->linear_high), sizeof problem->linear_high, 100000, bytes(problem->centre),
@@ -164,8 +167,10 @@ int main(void)
     long differing[THREADS + 1] = {0};
     make_problems();
     expect("definite, and boxed", alone[0].answers[0] == HB_DEFINITE && alone[0].answers[1] == HB_ACCEPTED && alone[0].answers[3] == HB_BOX);
-    expect("undecided", alone[1].answers[0] == HB_UNDECIDED);
-    expect("not definite, as the vector shows", alone[2].answers[0] == HB_NOT_DEFINITE && alone[2].answers[2] == HB_YES);
+    expect("what the rows have over, of both functions", alone[0].over > 0 && alone[0].tested_over == alone[0].over);
+    expect("undecided", alone[1].answers[0] == HB_UNDECIDED && alone[1].over == 0);
+    expect("not definite, as the vector shows",
+           alone[2].answers[0] == HB_NOT_DEFINITE && alone[2].over == 0 && alone[2].answers[2] == HB_YES);
     expect("gathered, and read", alone[0].answers[4] == HB_TAKEN && alone[0].answers[5] == HB_WRITTEN);
     expect("64 gathered, and 6 too many", alone[1].answers[4] == 6 * HB_REFUSED_FULL && alone[1].answers[5] == HB_WRITTEN);
     expect("all samples refused", alone[2].answers[4] == SAMPLES * HB_REFUSED_SAMPLE && alone[2].limit == 1000000);

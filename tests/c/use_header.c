@@ -41,7 +41,10 @@ static void load(int64_t *numbers, const uint8_t *buffer, size_t count)
     }
 }
 
-/* A call of the factor test and its expected answer. low and high are lent whole, the factor with factor_len bytes. */
+/*
+ * A call of the factor test, its expected answer, and what the rows have over where that is no refusal. low and high are lent whole, the
+ * factor with factor_len bytes.
+ */
 struct factor_case {
     const char *what;
     int64_t n;
@@ -50,6 +53,7 @@ struct factor_case {
     int64_t factor[ENTRIES];
     size_t factor_len;
     int64_t expected;
+    int64_t over;
 };
 
 #define WHOLE HB_TABLE_BYTES(ORDER)
@@ -57,36 +61,67 @@ struct factor_case {
 #define FACTOR {89738, 47861, 0, 75910}
 
 static const struct factor_case factor_cases[] = {
-    {"the factor of [2 1; 1 2]", 2, MATRIX, MATRIX, FACTOR, WHOLE, HB_ACCEPTED},
-    {"the same, and high wider", 2, MATRIX, {2, 2, 2, 2}, FACTOR, WHOLE, HB_NOT_ACCEPTED},
-    {"a factor of twice the identity", 2, MATRIX, MATRIX, {131072, 0, 0, 131072}, WHOLE, HB_NOT_ACCEPTED},
-    {"order 0", 0, MATRIX, MATRIX, FACTOR, WHOLE, HB_REFUSED_ORDER},
-    {"order 9", 9, MATRIX, MATRIX, FACTOR, WHOLE, HB_REFUSED_ORDER},
-    {"order 2^32 + 2", ((int64_t)1 << 32) + 2, MATRIX, MATRIX, FACTOR, WHOLE, HB_REFUSED_ORDER},
-    {"tables of order 2 at order 1", 1, MATRIX, MATRIX, FACTOR, WHOLE, HB_REFUSED_LENGTH},
-    {"a factor one byte short", 2, MATRIX, MATRIX, FACTOR, WHOLE - 1, HB_REFUSED_LENGTH},
-    {"an entry above the range", 2, MATRIX, {HB_ENTRY_RANGE + 1, 1, 1, 2}, FACTOR, WHOLE, HB_REFUSED_RANGE},
-    {"the least 64-bit number", 2, {2, INT64_MIN, 1, 2}, MATRIX, FACTOR, WHOLE, HB_REFUSED_RANGE},
-    {"low above high", 2, {2, 1, 1, 3}, MATRIX, FACTOR, WHOLE, HB_REFUSED_CROSSED},
-    {"a half of low that is mended away", 2, {2, 0, 1, 2}, MATRIX, FACTOR, WHOLE, HB_ACCEPTED},
-    {"a half of high that is mended away", 2, MATRIX, {2, 1, 9, 2}, FACTOR, WHOLE, HB_ACCEPTED},
-    {"both, at the ends of their range", 2, {2, -HB_ENTRY_RANGE, 1, 2}, {2, 1, HB_ENTRY_RANGE, 2}, FACTOR, WHOLE, HB_ACCEPTED},
-    {"a half below the range that would be mended away", 2, {2, -HB_ENTRY_RANGE - 1, 1, 2}, MATRIX, FACTOR, WHOLE, HB_REFUSED_RANGE},
-    {"a half that is crossed", 2, {2, 2, 1, 2}, MATRIX, FACTOR, WHOLE, HB_REFUSED_CROSSED},
-    {"halves that leave no number", 2, {2, 0, 1, 2}, {2, 0, 1, 2}, FACTOR, WHOLE, HB_REFUSED_LOPSIDED},
-    {"a diagonal entry 0", 2, MATRIX, MATRIX, {89738, 47861, 0, 0}, WHOLE, HB_REFUSED_FACTOR},
-    {"an entry below the diagonal", 2, MATRIX, MATRIX, {89738, 47861, 1, 75910}, WHOLE, HB_REFUSED_FACTOR},
-    {"an entry above the range of factors", 2, MATRIX, MATRIX, {89738, HB_FACTOR_RANGE + 1, 0, 75910}, WHOLE, HB_REFUSED_FACTOR},
+    {"the factor of [2 1; 1 2]", 2, MATRIX, MATRIX, FACTOR, WHOLE, HB_ACCEPTED, 536914293},
+    {"the same, and high wider", 2, MATRIX, {2, 2, 2, 2}, FACTOR, WHOLE, HB_NOT_ACCEPTED, -3758053003},
+    {"a factor of twice the identity", 2, MATRIX, MATRIX, {131072, 0, 0, 131072}, WHOLE, HB_NOT_ACCEPTED, -12884901888},
+    {"order 0", 0, MATRIX, MATRIX, FACTOR, WHOLE, HB_REFUSED_ORDER, 0},
+    {"order 9", 9, MATRIX, MATRIX, FACTOR, WHOLE, HB_REFUSED_ORDER, 0},
+    {"order 2^32 + 2", ((int64_t)1 << 32) + 2, MATRIX, MATRIX, FACTOR, WHOLE, HB_REFUSED_ORDER, 0},
+    {"tables of order 2 at order 1", 1, MATRIX, MATRIX, FACTOR, WHOLE, HB_REFUSED_LENGTH, 0},
+    {"a factor one byte short", 2, MATRIX, MATRIX, FACTOR, WHOLE - 1, HB_REFUSED_LENGTH, 0},
+    {"an entry above the range", 2, MATRIX, {HB_ENTRY_RANGE + 1, 1, 1, 2}, FACTOR, WHOLE, HB_REFUSED_RANGE, 0},
+    {"the least 64-bit number", 2, {2, INT64_MIN, 1, 2}, MATRIX, FACTOR, WHOLE, HB_REFUSED_RANGE, 0},
+    {"low above high", 2, {2, 1, 1, 3}, MATRIX, FACTOR, WHOLE, HB_REFUSED_CROSSED, 0},
+    {"a half of low that is mended away", 2, {2, 0, 1, 2}, MATRIX, FACTOR, WHOLE, HB_ACCEPTED, 536914293},
+    {"a half of high that is mended away", 2, MATRIX, {2, 1, 9, 2}, FACTOR, WHOLE, HB_ACCEPTED, 536914293},
+    {"both, at the ends of their range", 2, {2, -HB_ENTRY_RANGE, 1, 2}, {2, 1, HB_ENTRY_RANGE, 2}, FACTOR, WHOLE, HB_ACCEPTED, 536914293},
+    {"a half below the range that would be mended away", 2, {2, -HB_ENTRY_RANGE - 1, 1, 2}, MATRIX, FACTOR, WHOLE, HB_REFUSED_RANGE, 0},
+    {"a half that is crossed", 2, {2, 2, 1, 2}, MATRIX, FACTOR, WHOLE, HB_REFUSED_CROSSED, 0},
+    {"halves that leave no number", 2, {2, 0, 1, 2}, {2, 0, 1, 2}, FACTOR, WHOLE, HB_REFUSED_LOPSIDED, 0},
+    {"a diagonal entry 0", 2, MATRIX, MATRIX, {89738, 47861, 0, 0}, WHOLE, HB_REFUSED_FACTOR, 0},
+    {"an entry below the diagonal", 2, MATRIX, MATRIX, {89738, 47861, 1, 75910}, WHOLE, HB_REFUSED_FACTOR, 0},
+    {"an entry above the range of factors", 2, MATRIX, MATRIX, {89738, HB_FACTOR_RANGE + 1, 0, 75910}, WHOLE, HB_REFUSED_FACTOR, 0},
+    {"a factor that has nothing over", 2, {1, 3, 3, 10}, {1, 3, 3, 10}, {65536, 196608, 0, 65536}, WHOLE, HB_ACCEPTED, 0},
+    {"a factor that falls short by little", 2, {1, 3, 3, 10}, {1, 3, 3, 10}, {65536, 196607, 0, 65536}, WHOLE, HB_NOT_ACCEPTED, -65536},
+    {"a factor that falls short by 1", 2, {0, 0, 0, 1}, {0, 0, 0, 1}, {1, 0, 0, 1}, WHOLE, HB_NOT_ACCEPTED, -1},
 };
+
+/* What every output holds before a call */
+#define KEPT 0x5A
+
+/* Whether every byte of a buffer is as it was. */
+static int kept(const uint8_t *buffer, size_t size)
+{
+    size_t k;
+    for (k = 0; k < size; k++)
+        if (buffer[k] != KEPT)
+            return 0;
+    return 1;
+}
+
+/* Whether a number stands in a buffer from its second byte on, and the bytes beside it are as they were. */
+static int holds_alone(const uint8_t buffer[1 + HB_OVER_BYTES + 1], int64_t number)
+{
+    return hb_load_number(buffer + 1) == number && kept(buffer, 1) && kept(buffer + 1 + HB_OVER_BYTES, 1);
+}
 
 static void run_factor_case(const struct factor_case *test)
 {
     /* One byte more, so that the buffers start at an odd address. */
-    uint8_t low[1 + WHOLE], high[1 + WHOLE], factor[1 + WHOLE];
+    uint8_t low[1 + WHOLE], high[1 + WHOLE], factor[1 + WHOLE], over[1 + HB_OVER_BYTES + 1];
+    int64_t answer;
     store(low + 1, test->low, ENTRIES);
     store(high + 1, test->high, ENTRIES);
     store(factor + 1, test->factor, ENTRIES);
-    expect(test->what, hb_test_factor(test->n, low + 1, WHOLE, high + 1, WHOLE, factor + 1, test->factor_len), test->expected);
+    memset(over, KEPT, sizeof over);
+    answer = hb_test_factor(test->n, low + 1, WHOLE, high + 1, WHOLE, factor + 1, test->factor_len, over + 1, HB_OVER_BYTES);
+    expect(test->what, answer, test->expected);
+    if (answer <= 0) {
+        expect("what the rows have over", hb_load_number(over + 1), test->over);
+        expect("no byte beside it is written", holds_alone(over, test->over), 1);
+    } else {
+        expect("what the rows have over is kept", kept(over, sizeof over), 1);
+    }
 }
 
 /* A call of the vector test and its expected answer. */
@@ -121,7 +156,10 @@ static void run_vector_case(const struct vector_case *test)
     expect(test->what, hb_test_vector(ORDER, low + 1, WHOLE, high + 1, WHOLE, vector + 1, test->vector_len), test->expected);
 }
 
-/* A call of the judge, the answer it gives, and the numbers it writes: those of the factor where it is 0, those of the vector where it is -1. */
+/*
+ * A call of the judge, the answer it gives, and the numbers it writes: those of the factor and what its rows have over where it is 0, those
+ * of the vector where it is -1.
+ */
 struct judge_case {
     const char *what;
     int64_t n;
@@ -130,30 +168,28 @@ struct judge_case {
     size_t vector_len;
     int64_t expected;
     int64_t written[ENTRIES];
+    int64_t over;
 };
 
 static const struct judge_case judge_cases[] = {
-    {"judge [2 1; 1 2]", 2, MATRIX, MATRIX, WHOLE_VECTOR, HB_DEFINITE, FACTOR},
-    {"judge [2 -1; -1 2]", 2, {2, -1, -1, 2}, {2, -1, -1, 2}, WHOLE_VECTOR, HB_DEFINITE, {89738, -47862, 0, 75909}},
-    {"judge [1 2; 2 1]", 2, {1, 2, 2, 1}, {1, 2, 2, 1}, WHOLE_VECTOR, HB_NOT_DEFINITE, {1, -1}},
-    {"judge [1 0; 0 1] to [1 2; 2 1]", 2, {1, 0, 0, 1}, {1, 2, 2, 1}, WHOLE_VECTOR, HB_NOT_DEFINITE, {1, -1}},
-    {"judge [1 1000; 1000 10000]", 2, {1, 1000, 1000, 10000}, {1, 1000, 1000, 10000}, WHOLE_VECTOR, HB_NOT_DEFINITE, {-1143, 1}},
-    {"judge [100 37; 37 13]", 2, {100, 37, 37, 13}, {100, 37, 37, 13}, WHOLE_VECTOR, HB_NOT_DEFINITE, {-24, 64}},
-    {"judge [1 3; 3 10]", 2, {1, 3, 3, 10}, {1, 3, 3, 10}, WHOLE_VECTOR, HB_UNDECIDED, {0}},
-    {"judge at order 0", 0, MATRIX, MATRIX, WHOLE_VECTOR, HB_REFUSED_ORDER, {0}},
-    {"judge at order 9", 9, MATRIX, MATRIX, WHOLE_VECTOR, HB_REFUSED_ORDER, {0}},
-    {"judge with a vector one byte short", 2, MATRIX, MATRIX, WHOLE_VECTOR - 1, HB_REFUSED_LENGTH, {0}},
-    {"judge with a vector as long as a table", 2, MATRIX, MATRIX, WHOLE, HB_REFUSED_LENGTH, {0}},
-    {"judge an entry above the range", 2, MATRIX, {2, 1, 1, HB_ENTRY_RANGE + 1}, WHOLE_VECTOR, HB_REFUSED_RANGE, {0}},
-    {"judge low above high", 2, {2, 2, 2, 2}, MATRIX, WHOLE_VECTOR, HB_REFUSED_CROSSED, {0}},
-    {"judge halves that are mended to [2 1; 1 2]", 2, {2, 0, 1, 2}, {2, 1, 2, 2}, WHOLE_VECTOR, HB_DEFINITE, FACTOR},
-    {"judge halves that are mended to [1 2; 2 1]", 2, {1, -9, 2, 1}, {1, 2, 5, 1}, WHOLE_VECTOR, HB_NOT_DEFINITE, {1, -1}},
-    {"judge halves that are mended to [1 3; 3 10]", 2, {1, 3, 2, 10}, {1, 1000, 3, 10}, WHOLE_VECTOR, HB_UNDECIDED, {0}},
-    {"judge halves that leave no number", 2, {2, 0, 2, 2}, {2, 1, 3, 2}, WHOLE_VECTOR, HB_REFUSED_LOPSIDED, {0}},
+    {"judge [2 1; 1 2]", 2, MATRIX, MATRIX, WHOLE_VECTOR, HB_DEFINITE, FACTOR, 536914293},
+    {"judge [2 -1; -1 2]", 2, {2, -1, -1, 2}, {2, -1, -1, 2}, WHOLE_VECTOR, HB_DEFINITE, {89738, -47862, 0, 75909}, 536914407},
+    {"judge [1 2; 2 1]", 2, {1, 2, 2, 1}, {1, 2, 2, 1}, WHOLE_VECTOR, HB_NOT_DEFINITE, {1, -1}, 0},
+    {"judge [1 0; 0 1] to [1 2; 2 1]", 2, {1, 0, 0, 1}, {1, 2, 2, 1}, WHOLE_VECTOR, HB_NOT_DEFINITE, {1, -1}, 0},
+    {"judge [1 1000; 1000 10000]", 2, {1, 1000, 1000, 10000}, {1, 1000, 1000, 10000}, WHOLE_VECTOR, HB_NOT_DEFINITE, {-1143, 1}, 0},
+    {"judge [100 37; 37 13]", 2, {100, 37, 37, 13}, {100, 37, 37, 13}, WHOLE_VECTOR, HB_NOT_DEFINITE, {-24, 64}, 0},
+    {"judge [1 3; 3 10]", 2, {1, 3, 3, 10}, {1, 3, 3, 10}, WHOLE_VECTOR, HB_UNDECIDED, {0}, 0},
+    {"judge at order 0", 0, MATRIX, MATRIX, WHOLE_VECTOR, HB_REFUSED_ORDER, {0}, 0},
+    {"judge at order 9", 9, MATRIX, MATRIX, WHOLE_VECTOR, HB_REFUSED_ORDER, {0}, 0},
+    {"judge with a vector one byte short", 2, MATRIX, MATRIX, WHOLE_VECTOR - 1, HB_REFUSED_LENGTH, {0}, 0},
+    {"judge with a vector as long as a table", 2, MATRIX, MATRIX, WHOLE, HB_REFUSED_LENGTH, {0}, 0},
+    {"judge an entry above the range", 2, MATRIX, {2, 1, 1, HB_ENTRY_RANGE + 1}, WHOLE_VECTOR, HB_REFUSED_RANGE, {0}, 0},
+    {"judge low above high", 2, {2, 2, 2, 2}, MATRIX, WHOLE_VECTOR, HB_REFUSED_CROSSED, {0}, 0},
+    {"judge halves that are mended to [2 1; 1 2]", 2, {2, 0, 1, 2}, {2, 1, 2, 2}, WHOLE_VECTOR, HB_DEFINITE, FACTOR, 536914293},
+    {"judge halves that are mended to [1 2; 2 1]", 2, {1, -9, 2, 1}, {1, 2, 5, 1}, WHOLE_VECTOR, HB_NOT_DEFINITE, {1, -1}, 0},
+    {"judge halves that are mended to [1 3; 3 10]", 2, {1, 3, 2, 10}, {1, 1000, 3, 10}, WHOLE_VECTOR, HB_UNDECIDED, {0}, 0},
+    {"judge halves that leave no number", 2, {2, 0, 2, 2}, {2, 1, 3, 2}, WHOLE_VECTOR, HB_REFUSED_LOPSIDED, {0}, 0},
 };
-
-/* What every output holds before a call */
-#define KEPT 0x5A
 
 /* Whether count numbers at a buffer are the expected ones. */
 static int holds(const uint8_t *buffer, const int64_t *expected, size_t count)
@@ -163,26 +199,18 @@ static int holds(const uint8_t *buffer, const int64_t *expected, size_t count)
     return memcmp(numbers, expected, count * sizeof *numbers) == 0;
 }
 
-/* Whether every byte of a buffer is as it was. */
-static int kept(const uint8_t *buffer, size_t size)
-{
-    size_t k;
-    for (k = 0; k < size; k++)
-        if (buffer[k] != KEPT)
-            return 0;
-    return 1;
-}
-
 /* Judges, and then has what was written tested by the other two functions. */
 static void run_judge_case(const struct judge_case *test)
 {
-    uint8_t low[1 + WHOLE], high[1 + WHOLE], factor[1 + WHOLE + 1], vector[1 + WHOLE + 1];
+    uint8_t low[1 + WHOLE], high[1 + WHOLE], factor[1 + WHOLE + 1], vector[1 + WHOLE + 1], over[1 + HB_OVER_BYTES + 1];
+    uint8_t tested[HB_OVER_BYTES];
     int64_t answer;
     store(low + 1, test->low, ENTRIES);
     store(high + 1, test->high, ENTRIES);
     memset(factor, KEPT, sizeof factor);
     memset(vector, KEPT, sizeof vector);
-    answer = hb_judge(test->n, low + 1, WHOLE, high + 1, WHOLE, factor + 1, WHOLE, vector + 1, test->vector_len);
+    memset(over, KEPT, sizeof over);
+    answer = hb_judge(test->n, low + 1, WHOLE, high + 1, WHOLE, factor + 1, WHOLE, vector + 1, test->vector_len, over + 1, HB_OVER_BYTES);
     expect(test->what, answer, test->expected);
     expect("the tables are as they were", holds(low + 1, test->low, ENTRIES) && holds(high + 1, test->high, ENTRIES), 1);
     switch (answer) {
@@ -190,17 +218,48 @@ static void run_judge_case(const struct judge_case *test)
         expect("the factor is written", holds(factor + 1, test->written, ENTRIES), 1);
         expect("no byte beside it is", kept(factor, 1) && kept(factor + 1 + WHOLE, 1), 1);
         expect("the vector is kept", kept(vector, sizeof vector), 1);
-        expect("the factor is accepted", hb_test_factor(ORDER, low + 1, WHOLE, high + 1, WHOLE, factor + 1, WHOLE), HB_ACCEPTED);
+        expect("what its rows have over is written", holds_alone(over, test->over), 1);
+        expect("the factor is accepted",
+               hb_test_factor(ORDER, low + 1, WHOLE, high + 1, WHOLE, factor + 1, WHOLE, tested, sizeof tested), HB_ACCEPTED);
+        expect("with the same number over", memcmp(over + 1, tested, sizeof tested), 0);
         break;
     case HB_NOT_DEFINITE:
         expect("the vector is written", holds(vector + 1, test->written, ORDER), 1);
         expect("no byte beside it is", kept(vector, 1) && kept(vector + 1 + WHOLE_VECTOR, sizeof vector - 1 - WHOLE_VECTOR), 1);
-        expect("the factor is kept", kept(factor, sizeof factor), 1);
+        expect("the factor is kept", kept(factor, sizeof factor) && kept(over, sizeof over), 1);
         expect("the vector shows it", hb_test_vector(ORDER, low + 1, WHOLE, high + 1, WHOLE, vector + 1, WHOLE_VECTOR), HB_YES);
         break;
     default:
-        expect("both outputs are kept", kept(factor, sizeof factor) && kept(vector, sizeof vector), 1);
+        expect("all outputs are kept", kept(factor, sizeof factor) && kept(vector, sizeof vector) && kept(over, sizeof over), 1);
     }
+}
+
+/* Every other size of what the rows have over, in both functions; n comes before it, and the tables and the factor behind it */
+static void run_over_sizes(void)
+{
+    static const int64_t good[ENTRIES] = MATRIX, crossed[ENTRIES] = {3, 1, 1, 2}, root[ENTRIES] = FACTOR;
+    uint8_t low[WHOLE], above[WHOLE], factor[WHOLE], none[WHOLE], vector[WHOLE_VECTOR], over[3 * HB_OVER_BYTES];
+    size_t size;
+    expect("its size", HB_OVER_BYTES, HB_NUMBER_BYTES);
+    store(low, good, ENTRIES);
+    store(above, crossed, ENTRIES);
+    store(factor, root, ENTRIES);
+    memset(none, 0, sizeof none);
+    memset(over, KEPT, sizeof over);
+    for (size = 0; size <= sizeof over; size++) {
+        if (size == HB_OVER_BYTES)
+            continue;
+        expect("test a factor, another size", hb_test_factor(ORDER, low, WHOLE, low, WHOLE, factor, WHOLE, over, size), HB_REFUSED_LENGTH);
+        expect("the same and crossed", hb_test_factor(ORDER, above, WHOLE, low, WHOLE, none, WHOLE, over, size), HB_REFUSED_LENGTH);
+        expect("the same and order 9", hb_test_factor(9, low, WHOLE, low, WHOLE, factor, WHOLE, over, size), HB_REFUSED_ORDER);
+        expect("judge, another size", hb_judge(ORDER, low, WHOLE, low, WHOLE, none, WHOLE, vector, WHOLE_VECTOR, over, size),
+               HB_REFUSED_LENGTH);
+        expect("the same and crossed", hb_judge(ORDER, above, WHOLE, low, WHOLE, none, WHOLE, vector, WHOLE_VECTOR, over, size),
+               HB_REFUSED_LENGTH);
+        expect("the same and order 0", hb_judge(0, low, WHOLE, low, WHOLE, none, WHOLE, vector, WHOLE_VECTOR, over, size),
+               HB_REFUSED_ORDER);
+    }
+    expect("nothing is written", kept(over, sizeof over), 1);
 }
 
 /* A call of the box, the answer it gives, and the sides it writes where that is 0. */
@@ -388,11 +447,14 @@ static void run_one_table(void)
     const int64_t numbers[ENTRIES] = {5, 1, 1, 5}, zeros[ORDER] = ZEROS, still[2 * ORDER] = {0, 0, 0, 0};
     const int64_t ones[ORDER] = {1, 1}, unit[ORDER] = {1, 0}, around[2 * ORDER] = {-4, 6, -4, 4};
     uint8_t table[WHOLE], factor[WHOLE], vector[WHOLE_VECTOR], terms[WHOLE_VECTOR], middle[WHOLE_VECTOR], sides[WHOLE_SIDES];
+    uint8_t over[HB_OVER_BYTES], tested[HB_OVER_BYTES];
     store(table, numbers, ENTRIES);
     store(terms, zeros, ORDER);
     store(middle, zeros, ORDER);
-    expect("judge one table", hb_judge(ORDER, table, WHOLE, table, WHOLE, factor, WHOLE, vector, WHOLE_VECTOR), HB_DEFINITE);
-    expect("test its factor", hb_test_factor(ORDER, table, WHOLE, table, WHOLE, factor, WHOLE), HB_ACCEPTED);
+    expect("judge one table",
+           hb_judge(ORDER, table, WHOLE, table, WHOLE, factor, WHOLE, vector, WHOLE_VECTOR, over, sizeof over), HB_DEFINITE);
+    expect("test its factor", hb_test_factor(ORDER, table, WHOLE, table, WHOLE, factor, WHOLE, tested, sizeof tested), HB_ACCEPTED);
+    expect("the same number over", memcmp(over, tested, sizeof over), 0);
     store(vector, numbers, ORDER);
     expect("test a vector", hb_test_vector(ORDER, table, WHOLE, table, WHOLE, vector, WHOLE_VECTOR), HB_NO);
     expect("box it",
@@ -702,9 +764,10 @@ static void run_read_summary(void)
     expect("its centre", begins_with(held.centre, sizeof held.centre, 2), 1);
     expect("judge what was read",
            hb_judge(1, held.low, HB_TABLE_BYTES(1), held.high, HB_TABLE_BYTES(1), held.linear_low, HB_TABLE_BYTES(1), held.centre,
-                    HB_VECTOR_BYTES(1)),
+                    HB_VECTOR_BYTES(1), held.limit, HB_OVER_BYTES),
            HB_DEFINITE);
     expect("its factor", hb_load_number(held.linear_low), 129007);
+    expect("what its rows have over", hb_load_number(held.limit), 537063135);
     for (k = 0; k < 2; k++) {
         expect("read it into a table of another size", read_file(case_p, sizeof case_p, &held, k ? 1 : -1), HB_REFUSED_LENGTH);
         expect("nothing is written", kept((const uint8_t *)&held, sizeof held), 1);
@@ -839,14 +902,15 @@ int main(void)
     run_box_of_order_1();
     for (k = 0; k < sizeof judge_cases / sizeof judge_cases[0]; k++)
         run_judge_case(&judge_cases[k]);
+    run_over_sizes();
     for (k = 0; k < sizeof vector_cases / sizeof vector_cases[0]; k++)
         run_vector_case(&vector_cases[k]);
     for (k = 0; k < sizeof factor_cases / sizeof factor_cases[0]; k++)
         run_factor_case(&factor_cases[k]);
-    expect("null buffers", hb_test_factor(1, NULL, 0, NULL, 0, NULL, 0), HB_REFUSED_LENGTH);
-    expect("null buffers and order 0", hb_test_factor(0, NULL, 0, NULL, 0, NULL, 0), HB_REFUSED_ORDER);
-    expect("null buffers of the judge", hb_judge(1, NULL, 0, NULL, 0, NULL, 0, NULL, 0), HB_REFUSED_LENGTH);
-    expect("the same and order 9", hb_judge(9, NULL, 0, NULL, 0, NULL, 0, NULL, 0), HB_REFUSED_ORDER);
+    expect("null buffers", hb_test_factor(1, NULL, 0, NULL, 0, NULL, 0, NULL, 0), HB_REFUSED_LENGTH);
+    expect("null buffers and order 0", hb_test_factor(0, NULL, 0, NULL, 0, NULL, 0, NULL, 0), HB_REFUSED_ORDER);
+    expect("null buffers of the judge", hb_judge(1, NULL, 0, NULL, 0, NULL, 0, NULL, 0, NULL, 0), HB_REFUSED_LENGTH);
+    expect("the same and order 9", hb_judge(9, NULL, 0, NULL, 0, NULL, 0, NULL, 0, NULL, 0), HB_REFUSED_ORDER);
     expect("null buffers of the box", hb_box(1, NULL, 0, NULL, 0, NULL, 0, NULL, 0, 0, NULL, 0, NULL, 0), HB_REFUSED_LENGTH);
     expect("the same and order -1", hb_box(-1, NULL, 0, NULL, 0, NULL, 0, NULL, 0, 0, NULL, 0, NULL, 0), HB_REFUSED_ORDER);
     printf("%d passed, %d failed\n", passed, failed);

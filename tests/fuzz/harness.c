@@ -3,6 +3,7 @@
  * through the program that HANKBOULDER_JUDGE names, as a child process. What the program prints has to be the same byte for byte, with nothing on
  * standard error, and its exit status 0. hb_read_summary, in this process too, has to answer as the second implementation does, and to leave the same
  * bytes; and what it reads hb_write_summary has to write as the file of the mended problem: the same file where its tables are symmetric.
+ * hb_judge has to write the number that the program prints behind `over`, and to keep its buffer where it prints no such line.
  */
 #define _GNU_SOURCE
 #include <errno.h>
@@ -31,7 +32,7 @@ int LLVMFuzzerTestOneInput(const uint8_t *data, size_t size);
 static char *program;
 static posix_spawnattr_t attributes;
 
-/* Outputs by kind: their lines without those of factors and vectors, and without the numbers of sides. */
+/* Outputs by kind: their lines without those of factors, what their rows have over and vectors, and without the numbers of sides. */
 static struct kind {
     char words[64];
     unsigned long count;
@@ -63,7 +64,7 @@ static void tell_kind(const char *text, char *words, size_t room) {
     size_t used = 0;
     for (size_t length; *text != 0; text += length + 1) {
         length = strcspn(text, "\n");
-        bool side = *text == 's', left_out = *text == 'v' || (text[0] == 'r' && text[1] == 'o');
+        bool side = *text == 's', left_out = *text == 'v' || *text == 'o' || (text[0] == 'r' && text[1] == 'o');
         if (left_out) {
             continue;
         }
@@ -229,7 +230,26 @@ static bool written_again(const struct problem *read, const uint8_t *data, size_
     return answer == HB_WRITTEN && memcmp(file, expected, size) == 0 && same == (symmetric(low, (size_t)n) && symmetric(high, (size_t)n));
 }
 
-static void compare_reading(const uint8_t *data, size_t size) {
+/* The number behind `over` in the program's text, or another one where it has no such line: no other line begins with an o */
+static int64_t printed_over(const char *text, int64_t other) {
+    while (*text != 0 && *text != 'o') {
+        text += strcspn(text, "\n") + 1;
+    }
+    return *text == 0 ? other : strtoll(text + strlen("over "), NULL, 10);
+}
+
+/* Whether hb_judge writes the number over that the program printed for what was read, and keeps its buffer where none was printed */
+static bool same_over(const struct problem *read, const char *text) {
+    const int64_t unwritten = INT64_MIN;
+    uint8_t factor[HB_TABLE_BYTES(HB_MAX_ORDER)], vector[HB_VECTOR_BYTES(HB_MAX_ORDER)], over[HB_OVER_BYTES];
+    int64_t n = hb_load_number(read->order), printed = printed_over(text, unwritten);
+    hb_store_number(over, unwritten);
+    int64_t verdict = hb_judge(n, read->low, HB_TABLE_BYTES(n), read->high, HB_TABLE_BYTES(n), factor, HB_TABLE_BYTES(n), vector,
+                               HB_VECTOR_BYTES(n), over, sizeof over);
+    return hb_load_number(over) == printed && (verdict == HB_DEFINITE) == (printed != unwritten);
+}
+
+static void compare_reading(const uint8_t *data, size_t size, const char *text) {
     struct problem read, expected;
     memset(&read, 0x5A, sizeof read);
     memset(&expected, 0x5A, sizeof expected);
@@ -246,6 +266,10 @@ static void compare_reading(const uint8_t *data, size_t size) {
         fprintf(stderr, "DIFFERENCE on %zu bytes: hb_write_summary writes another file\n", size);
         abort();
     }
+    if (answer == HB_WRITTEN && !same_over(&read, text)) {
+        fprintf(stderr, "DIFFERENCE on %zu bytes: hb_judge has another number over than the program:\n%s", size, text);
+        abort();
+    }
 }
 
 int LLVMFuzzerTestOneInput(const uint8_t *data, size_t size) {
@@ -258,7 +282,7 @@ int LLVMFuzzerTestOneInput(const uint8_t *data, size_t size) {
                 (char *)printed, (char *)expected);
         abort();
     }
-    compare_reading(data, size);
+    compare_reading(data, size, (char *)expected);
     count_kind((char *)expected);
     return 0;
 }

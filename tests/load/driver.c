@@ -48,7 +48,7 @@
 
 #define THREADS 2
 #define GUARD 32
-#define PAGE 8192 /* two of the processor's, so that a file which is too long has room */
+#define PAGE 12288 /* three of the processor's, so that a file which is twice too long has room */
 /* Numbers are dealt to the threads in blocks of this many. */
 #define BLOCK 120
 #define PROGRESS 10 /* seconds */
@@ -245,9 +245,11 @@ static int64_t answered(const struct load_call *call, const struct place *lent) 
     const struct place *seventh = &lent[6], *eighth = &lent[7];
     switch (call->act) {
     case LOAD_JUDGE:
-        return hb_judge(n, low->lent, low->length, high->lent, high->length, third->lent, third->length, fourth->lent, fourth->length);
+        return hb_judge(n, low->lent, low->length, high->lent, high->length, third->lent, third->length, fourth->lent, fourth->length,
+                        fifth->lent, fifth->length);
     case LOAD_TEST_FACTOR:
-        return hb_test_factor(n, low->lent, low->length, high->lent, high->length, third->lent, third->length);
+        return hb_test_factor(n, low->lent, low->length, high->lent, high->length, third->lent, third->length, fourth->lent,
+                              fourth->length);
     case LOAD_TEST_VECTOR:
         return hb_test_vector(n, low->lent, low->length, high->lent, high->length, third->lent, third->length);
     case LOAD_GATHER:
@@ -271,8 +273,11 @@ static int64_t answered(const struct load_call *call, const struct place *lent) 
 
 /* Whether the answer has a buffer written whole. */
 static bool is_written(const struct load_call *call, size_t k) {
-    if (call->act == LOAD_JUDGE) {
-        return (call->answer == HB_DEFINITE && k == 2) || (call->answer == HB_NOT_DEFINITE && k == 3);
+    if (call->act == LOAD_JUDGE) { /* the factor with what its rows have over, or the vector */
+        return (call->answer == HB_DEFINITE && (k == 2 || k == 4)) || (call->answer == HB_NOT_DEFINITE && k == 3);
+    }
+    if (call->act == LOAD_TEST_FACTOR) {
+        return (call->answer == HB_ACCEPTED || call->answer == HB_NOT_ACCEPTED) && k == 3;
     }
     if (call->act == LOAD_GATHER) {
         return call->answer == HB_TAKEN;

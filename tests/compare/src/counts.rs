@@ -20,6 +20,17 @@ pub enum Detail {
     Full(Kind),
     /// The box is given, though t(k) = 0 for some k.
     Stepless,
+    /// This row alone has the least over.
+    LeastIn(Row),
+}
+
+/// Places of a row. The only row of order 1 is the first.
+#[derive(Clone, Copy, Debug, PartialEq, Eq, PartialOrd, Ord)]
+#[allow(missing_docs)]
+pub enum Row {
+    First,
+    Middle,
+    Last,
 }
 
 /// The kinds of numbers that checks 3 and 18 ask.
@@ -84,6 +95,7 @@ impl fmt::Display for Outcome {
             Some(Detail::Beyond(kind)) => write!(f, ", by {kind:?} alone"),
             Some(Detail::Full(kind)) => write!(f, ", {kind:?} alone"),
             Some(Detail::Stepless) => write!(f, ", t(k) = 0 for some k"),
+            Some(Detail::LeastIn(row)) => write!(f, ", {row:?} row the least"),
         }
     }
 }
@@ -150,6 +162,11 @@ impl Counts {
     pub fn of_detail(&self, order: Option<i64>, detail: Detail) -> usize {
         self.of(|n, outcome| n == order && outcome.detail == Some(detail))
             .calls
+    }
+
+    /// The same of one answer alone.
+    pub fn of_outcome(&self, order: Option<i64>, outcome: Outcome) -> usize {
+        self.of(|n, met| n == order && *met == outcome).calls
     }
 
     fn at(&self, order: Option<i64>, answer: i64) -> Met {

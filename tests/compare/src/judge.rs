@@ -21,6 +21,8 @@ extern "C" {
         factor_len: usize,
         vector: *mut u8,
         vector_len: usize,
+        over: *mut u8,
+        over_len: usize,
     ) -> i64;
 }
 
@@ -40,15 +42,15 @@ pub const JUDGE: Act = Act {
 
 fn generate(generator: &mut Generator) -> Call {
     let call = generator.judge_call();
-    let buffers = vec![call.low, call.high, call.factor, call.vector];
+    let buffers = vec![call.low, call.high, call.factor, call.vector, call.over];
     Call::new(call.n, buffers)
 }
 
 fn reference(call: &mut Call) -> Outcome {
-    let [low, high, factor, vector] = &mut call.buffers[..] else {
-        unreachable!("the judge has four buffers");
+    let [low, high, factor, vector, over] = &mut call.buffers[..] else {
+        unreachable!("the judge has five buffers");
     };
-    let answer = judged(call.n, low, high, factor, vector);
+    let answer = judged(call.n, low, high, factor, vector, over);
     Outcome {
         answer: judge_code(&answer),
         detail: match answer {
@@ -59,8 +61,8 @@ fn reference(call: &mut Call) -> Outcome {
 }
 
 fn library(call: &Call, lent: &[Lent]) -> i64 {
-    let [low, high, factor, vector] = lent else {
-        unreachable!("the judge has four buffers");
+    let [low, high, factor, vector, over] = lent else {
+        unreachable!("the judge has five buffers");
     };
     // SAFETY: each pointer has its length in readable and writable bytes, and no
     // two overlap.
@@ -75,22 +77,31 @@ fn library(call: &Call, lent: &[Lent]) -> i64 {
             factor.length,
             vector.pointer,
             vector.length,
+            over.pointer,
+            over.length,
         )
     }
 }
 
-/// A factor that the judge has written is accepted by the factor test, and of a
-/// vector that it has written the vector test says yes.
+/// A factor that the judge has written is accepted by the factor test, which writes the
+/// same number over; and of a vector that it has written the vector test says yes.
 fn confirm(after: &Call, answer: i64) {
-    let [low, high, factor, vector] = &after.buffers[..] else {
-        unreachable!("the judge has four buffers");
+    let [low, high, factor, vector, over] = &after.buffers[..] else {
+        unreachable!("the judge has five buffers");
     };
-    let (test, written) = match answer {
-        POSITIVE => (&TEST_FACTOR, factor),
-        NEGATIVE => (&TEST_VECTOR, vector),
-        _ => return,
-    };
-    let buffers = [low, high, written].map(Vec::clone).to_vec();
-    let call = Call::new(after.n, buffers);
-    test.expect(&call, POSITIVE);
+    match answer {
+        POSITIVE => {
+            let lent = [low, high, factor].map(Vec::clone).to_vec();
+            // Other bytes than those that have to be written
+            let unwritten = over.iter().map(|byte| !byte).collect();
+            let call = Call::new(after.n, [lent.clone(), vec![unwritten]].concat());
+            let tested = [lent, vec![over.clone()]].concat();
+            TEST_FACTOR.expect_after(&call, POSITIVE, &tested);
+        }
+        NEGATIVE => {
+            let lent = [low, high, vector].map(Vec::clone).to_vec();
+            TEST_VECTOR.expect(&Call::new(after.n, lent), POSITIVE);
+        }
+        _ => {}
+    }
 }

@@ -14,7 +14,6 @@ pub mod gather;
 mod guarded;
 pub mod judge;
 mod lopsided;
-mod offered;
 pub mod read_summary;
 pub mod read_sums;
 pub mod test_factor;
@@ -23,7 +22,7 @@ mod variation;
 pub mod write_summary;
 
 pub use act::{Act, Call, Inputs};
-pub use counts::{Counts, Detail, Kind, Outcome};
+pub use counts::{Counts, Detail, Kind, Outcome, Row};
 pub use guarded::Lent;
 pub use lopsided::has_lopsided;
 

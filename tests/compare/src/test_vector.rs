@@ -3,7 +3,8 @@
 use hankboulder_reference::entries;
 
 use crate::act::{symmetric_at_1, Act, Call, Inputs};
-use crate::offered::{library, reference};
+use crate::counts::Outcome;
+use crate::guarded::Lent;
 
 extern "C" {
     fn hb_test_vector(
@@ -27,7 +28,32 @@ pub const TEST_VECTOR: Act = Act {
         let call = generator.vector_call();
         Call::new(call.n, vec![call.low, call.high, call.vector])
     },
-    reference: |call| reference(call, entries::test_vector),
-    library: |call, lent| library(call.n, lent, hb_test_vector),
+    reference,
+    library,
     confirm: |_, _| {},
 };
+
+fn reference(call: &mut Call) -> Outcome {
+    let [low, high, vector] = &call.buffers[..] else {
+        unreachable!("the vector test has three buffers");
+    };
+    entries::test_vector(call.n, low, high, vector).into()
+}
+
+fn library(call: &Call, lent: &[Lent]) -> i64 {
+    let [low, high, vector] = lent else {
+        unreachable!("the vector test has three buffers");
+    };
+    // SAFETY: each pointer has its length in readable bytes, and no two overlap.
+    unsafe {
+        hb_test_vector(
+            call.n,
+            low.pointer,
+            low.length,
+            high.pointer,
+            high.length,
+            vector.pointer,
+            vector.length,
+        )
+    }
+}

@@ -87,12 +87,12 @@ impl Call {
             Act::Judge => {
                 let call = generator.judge_call();
                 passed.n = call.n;
-                vec![call.low, call.high, call.factor, call.vector]
+                vec![call.low, call.high, call.factor, call.vector, call.over]
             }
             Act::TestFactor => {
                 let call = generator.factor_call();
                 passed.n = call.n;
-                vec![call.low, call.high, call.factor]
+                vec![call.low, call.high, call.factor, call.over]
             }
             Act::TestVector => {
                 let call = generator.vector_call();
@@ -152,10 +152,12 @@ impl Call {
         let passed = &self.passed;
         let n = passed.n;
         match (self.act, &mut self.buffers[..]) {
-            (Act::Judge, [low, high, factor, vector]) => {
-                entries::judge(n, low, high, factor, vector)
+            (Act::Judge, [low, high, factor, vector, over]) => {
+                entries::judge(n, low, high, factor, vector, over)
             }
-            (Act::TestFactor, [low, high, factor]) => entries::test_factor(n, low, high, factor),
+            (Act::TestFactor, [low, high, factor, over]) => {
+                entries::test_factor(n, low, high, factor, over)
+            }
             (Act::TestVector, [low, high, vector]) => entries::test_vector(n, low, high, vector),
             (Act::Box, [low, high, least, most, centre, sides]) => {
                 entries::enclose(n, low, high, least, most, passed.limit, centre, sides)

@@ -17,16 +17,17 @@ pub const KINDS: [&str; 18] = [
     "refused 15",
     "refused 16",
     "refused 19",
-    "definite; row; side",
-    "definite; row; empty",
-    "definite; row; box refused 8",
-    "definite; row; box refused 9",
+    "definite; row; over; side",
+    "definite; row; over; empty",
+    "definite; row; over; box refused 8",
+    "definite; row; over; box refused 9",
     "not; vector; box refused 8",
     "undecided; box refused 8",
 ];
 
 /// The kind of an output: a refusal of the file, or a verdict and an answer of
-/// the box. The numbers of factors, vectors and sides are left out.
+/// the box. The numbers of factors, of what their rows have over, of vectors and of
+/// sides are left out.
 pub fn kind(text: &str) -> String {
     let mut kinds: Vec<&str> = text.lines().map(line_kind).collect();
     kinds.dedup();
@@ -35,7 +36,7 @@ pub fn kind(text: &str) -> String {
 
 fn line_kind(line: &str) -> &str {
     match line.split_once(' ') {
-        Some((word @ ("row" | "vector" | "side"), _)) => word,
+        Some((word @ ("row" | "over" | "vector" | "side"), _)) => word,
         _ => line,
     }
 }

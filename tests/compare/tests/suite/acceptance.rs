@@ -1,4 +1,5 @@
-//! Which factors are accepted.
+//! Which factors are accepted, and what their rows have over: literals worked from the
+//! rules.
 
 use hankboulder_compare::test_factor::TEST_FACTOR;
 use hankboulder_reference::factoring::{factor, Factoring};
@@ -6,14 +7,10 @@ use hankboulder_reference::generate::{Generator, KINDS};
 use hankboulder_reference::problem::Bounds;
 use hankboulder_reference::random::Random;
 
-use crate::support::{places, FactorTest, ENTRY_RANGE, FACTOR_RANGE, SCALE};
+use crate::support::{places, FactorTest, ENTRY_RANGE, FACTOR_RANGE, SCALE, UNIT};
 
 const ACCEPTED: i64 = 0;
 const NOT_ACCEPTED: i64 = -1;
-
-fn expect(test: &FactorTest, answer: i64) {
-    TEST_FACTOR.expect(&test.call(), answer);
-}
 
 /// A test that each row passes with nothing to spare: the product has 4 on the
 /// diagonal and 0 elsewhere, the bounds n + 3 on it and 1 elsewhere.
@@ -37,7 +34,7 @@ fn factor_is_accepted(generator: &mut Generator, order: usize, place: usize) -> 
         high: problem.high,
         factor: table.concat().iter().map(|entry| *entry as i64).collect(),
     };
-    expect(&test, ACCEPTED);
+    assert_eq!(TEST_FACTOR.agree(&test.call(), place).answer, ACCEPTED);
     true
 }
 
@@ -53,41 +50,58 @@ fn the_factor_of_every_factoring_that_ends_is_accepted() {
 
 #[test]
 fn the_listed_factors_are_accepted() {
-    let listed: [(&[i64], &[i64]); 5] = [
-        (&[1], &[61303]),
-        (&[4], &[129007]),
-        (&[2, 1, 1, 2], &[89738, 47861, 0, 75910]),
-        (&[2, -1, -1, 2], &[89738, -47862, 0, 75910]),
-        (&[1, 2, 2, 5], &[61303, 140122, 0, 36108]),
+    // What the rows have over, and what they have with 2^17 + 1 for the first entry
+    let listed: [(&[i64], &[i64], i64, i64); 5] = [
+        (&[1], &[61303], 536909487, -12885164033),
+        (&[4], &[129007], 537063135, -262145),
+        (
+            &[2, 1, 1, 2],
+            &[89738, 47861, 0, 75910],
+            536914293,
+            -10568514294,
+        ),
+        (
+            &[2, -1, -1, 2],
+            &[89738, -47862, 0, 75910],
+            536762588,
+            -10568645367,
+        ),
+        (
+            &[1, 2, 2, 5],
+            &[61303, 140122, 0, 36108],
+            536838306,
+            -22661440347,
+        ),
     ];
-    for (table, factor) in listed {
+    for (table, factor, over, short) in listed {
         let mut test = FactorTest {
             order: if table.len() == 1 { 1 } else { 2 },
             low: table.to_vec(),
             high: table.to_vec(),
             factor: factor.to_vec(),
         };
-        expect(&test, ACCEPTED);
+        test.expect(ACCEPTED, over);
         test.factor[0] = 2 * SCALE + 1;
-        expect(&test, NOT_ACCEPTED);
+        test.expect(NOT_ACCEPTED, short);
     }
 }
 
 #[test]
 fn a_row_may_be_equal_and_no_less_in_every_row() {
     for order in 1..=8 {
-        expect(&balanced(order), ACCEPTED);
+        balanced(order).expect(ACCEPTED, 0);
         for i in 0..order {
             let mut test = balanced(order);
             let place = test.at(i, i);
             test.low[place] -= 1;
-            expect(&test, NOT_ACCEPTED);
+            test.expect(NOT_ACCEPTED, -UNIT);
             // The high bound does not count on the diagonal.
             test.low[place] += 1;
             test.high[place] = ENTRY_RANGE;
-            expect(&test, ACCEPTED);
+            test.expect(ACCEPTED, 0);
+            // 2^34 - (2^17 + 1)²
             test.factor[place] += 1;
-            expect(&test, NOT_ACCEPTED);
+            test.expect(NOT_ACCEPTED, -262145);
         }
     }
 }
@@ -98,13 +112,14 @@ fn the_greater_remainder_counts_at_every_place_off_the_diagonal() {
         // low and high at (i,j), where both were 1
         let bounds = [(0, 1), (-1, 1), (-1, -1), (-2, 1), (0, 2), (-2, -2)];
         let expected = [0, 0, 0, -1, -1, -1];
-        for ((low, high), answer) in bounds.into_iter().zip(expected) {
+        for ((low, high), over) in bounds.into_iter().zip(expected) {
             let mut test = balanced(order);
             for place in [test.at(i, j), test.at(j, i)] {
                 test.low[place] = low;
                 test.high[place] = high;
             }
-            expect(&test, answer);
+            // −1 is 'not accepted', too.
+            test.expect(over, over * UNIT);
         }
     }
 }
@@ -113,9 +128,9 @@ fn the_greater_remainder_counts_at_every_place_off_the_diagonal() {
 fn the_greatest_entry_and_the_greatest_factor_balance() {
     for order in 1..=8 {
         let mut test = FactorTest::even(order, ENTRY_RANGE, 0, FACTOR_RANGE);
-        expect(&test, ACCEPTED);
+        test.expect(ACCEPTED, 0);
         *test.low.last_mut().unwrap() -= 1;
-        expect(&test, NOT_ACCEPTED);
+        test.expect(NOT_ACCEPTED, -UNIT);
     }
 }
 

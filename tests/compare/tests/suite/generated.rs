@@ -9,7 +9,7 @@ use hankboulder_compare::read_sums::READ_SUMS;
 use hankboulder_compare::test_factor::TEST_FACTOR;
 use hankboulder_compare::test_vector::TEST_VECTOR;
 use hankboulder_compare::write_summary::WRITE_SUMMARY;
-use hankboulder_compare::{Act, Counts, Detail, Inputs, Kind};
+use hankboulder_compare::{Act, Counts, Detail, Inputs, Kind, Outcome, Row};
 use hankboulder_reference::judge::List;
 
 /// The kinds of numbers that sums share with a problem.
@@ -92,13 +92,22 @@ fn expect_way(counts: &Counts, order: i64, detail: Detail, possible: bool) {
     }
 }
 
+/// The least is in the first, a middle and the last row, of accepted factors and others.
 #[test]
 fn the_factor_test_agrees_with_the_reference_at_every_order() {
     let answered = Answered {
         calls: 200_000,
         least: &[(0, 30_000), (-1, 120_000)],
     };
-    agrees_on_generated_calls(&TEST_FACTOR, 1, answered);
+    let counts = agrees_on_generated_calls(&TEST_FACTOR, 1, answered);
+    for (order, answer) in (1..=8).flat_map(|order| [(order, 0), (order, -1)]) {
+        let rows = [Row::First, Row::Last, Row::Middle];
+        for row in &rows[..(order as usize).min(3)] {
+            let detail = Some(Detail::LeastIn(*row));
+            let met = counts.of_outcome(Some(order), Outcome { answer, detail });
+            assert!(met >= IN_A_WAY, "order {order}, {answer}, {row:?}: {met}");
+        }
+    }
 }
 
 #[test]

@@ -5,6 +5,7 @@ mod acceptance;
 mod boxes;
 mod generated;
 mod mended;
+mod over;
 mod refusals;
 mod rides;
 mod shown;

@@ -18,7 +18,8 @@ use hankboulder_reference::random::Random;
 use hankboulder_reference::rides::Sample;
 
 use crate::support::{
-    call_on, judge_call, places, problem_call, square, write_call, ENTRY_RANGE, FILE, SCALE, SIDES,
+    call_on, factor_call, judge_call, places, problem_call, square, write_call, ENTRY_RANGE, FILE,
+    JUDGED_OVER, SCALE, SIDES,
 };
 
 const WRITTEN: i64 = 0;
@@ -70,9 +71,7 @@ type Caller = fn(&RawProblem, &Offered) -> Call;
 /// Every act. Those from the box on are handed linear terms.
 const ACTS: [(&Act, Caller); 8] = [
     (&JUDGE, |p, _| judge_call(&p.low, &p.high)),
-    (&TEST_FACTOR, |p, o| {
-        call_on(&p.low, &p.high, &[bytes(&o.factor)])
-    }),
+    (&TEST_FACTOR, |p, o| factor_call(&p.low, &p.high, &o.factor)),
     (&TEST_VECTOR, |p, o| {
         call_on(&p.low, &p.high, &[bytes(&o.vector)])
     }),
@@ -309,8 +308,7 @@ fn what_comes_after_5_is_asked_of_the_mended_tables() {
         let zeros = bytes(&vec![0; order]);
         let call = call_on(&apart.low, &apart.high, &[zeros]);
         TEST_VECTOR.expect(&call, REFUSED_VECTOR);
-        let factor = bytes(&square(order, 0, 0));
-        let call = call_on(&apart.low, &apart.high, &[factor]);
+        let call = factor_call(&apart.low, &apart.high, &square(order, 0, 0));
         TEST_FACTOR.expect(&call, REFUSED_FACTOR);
     }
 }
@@ -321,6 +319,7 @@ fn verdicts_worked_by_hand() {
     let call = judge("[2 0; 1 2]", "[2 1; 2 2]");
     let mut after = call.buffers.clone();
     after[2] = bytes(&[89738, 47861, 0, 75910]);
+    after[JUDGED_OVER] = bytes(&[536914293]);
     JUDGE.expect_after(&call, DEFINITE, &after);
     let call = judge("[1 -9; 2 1]", "[1 2; 5 1]");
     let mut after = call.buffers.clone();
@@ -343,6 +342,7 @@ fn the_margin_is_asked_of_the_mended_tables() {
         let call = judge_call(&low, &high);
         let mut after = call.buffers.clone();
         after[2] = bytes(&square(order, 61303, 0));
+        after[JUDGED_OVER] = bytes(&[536909487]);
         JUDGE.expect_after(&call, DEFINITE, &after);
     }
 }

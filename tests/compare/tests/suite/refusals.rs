@@ -3,11 +3,11 @@
 //! literals; what is let through agrees with the reference. Lopsided tables that are let
 //! through are in `mended`.
 
-use hankboulder_compare::test_factor::TEST_FACTOR;
 use hankboulder_compare::{bytes, Call};
 
 use crate::support::{
     beyond, places, Caller, FactorTest, ACTS, ENTRY_RANGE, FACTOR_RANGE, LINEAR_HIGH, LINEAR_LOW,
+    SCALE, UNIT,
 };
 
 /// Every act refuses the bounds of a test, and writes nothing.
@@ -15,10 +15,6 @@ fn expect_refused(test: &FactorTest, answer: i64) {
     for (act, call) in ACTS {
         act.expect(&call(test), answer);
     }
-}
-
-fn expect(test: &FactorTest, answer: i64) {
-    TEST_FACTOR.expect(&test.call(), answer);
 }
 
 #[test]
@@ -88,7 +84,7 @@ fn refusal_2_where_all_buffers_fit_another_order() {
             let refused = act.agree(&call, 0).answer == 2;
             assert_eq!(refused, other != order as i64);
         }
-        expect(&FactorTest::accepted(order), 0);
+        FactorTest::accepted(order).expect(0, 2 * UNIT);
     }
 }
 
@@ -115,7 +111,9 @@ fn the_ends_of_the_entry_range_pass_3() {
             test.low[place] = -ENTRY_RANGE;
             test.high[place] = ENTRY_RANGE;
         }
-        expect(&test, -1);
+        let greatest = ENTRY_RANGE * UNIT;
+        let over = if i == j { -UNIT } else { 2 * UNIT } - greatest;
+        test.expect(-1, over);
         for (act, call) in ACTS {
             let answer = act.agree(&call(&test), 0).answer;
             assert!(!(1..=5).contains(&answer), "{}: {answer}", act.name);
@@ -170,7 +168,7 @@ fn refusal_6_at_every_entry_of_the_factor() {
             let mut test = FactorTest::accepted(order);
             let place = test.at(i, j);
             test.factor[place] = entry;
-            expect(&test, 6);
+            test.expect_refused(6);
         }
     }
 }
@@ -187,7 +185,14 @@ fn the_ends_of_the_factor_range_pass_6() {
             let mut test = FactorTest::accepted(order);
             let place = test.at(i, j);
             test.factor[place] = entry;
-            expect(&test, if entry == 1 { 0 } else { -1 });
+            let (answer, over) = match entry {
+                1 if order == 1 => (0, 3 * UNIT - 1),
+                1 => (0, 2 * UNIT),
+                _ if i == j => (-1, 3 * UNIT - entry * entry),
+                // Row j, which has the entry's square and its product with 2^16
+                _ => (-1, 2 * UNIT - entry * entry - SCALE * entry.abs()),
+            };
+            test.expect(answer, over);
         }
     }
 }

@@ -14,6 +14,13 @@ pub const ENTRY_RANGE: i64 = 1 << 20;
 pub const FACTOR_RANGE: i64 = 1 << 26;
 /// The scale of a factor: 2^16 times the identity is a factor of the identity.
 pub const SCALE: i64 = 1 << 16;
+/// The scale of the residual: an entry of 1 counts for 2^32.
+pub const UNIT: i64 = SCALE * SCALE;
+
+/// The place of what the rows have over, among the buffers of the factor test and of the
+/// judge
+pub const TESTED_OVER: usize = 3;
+pub const JUDGED_OVER: usize = 4;
 
 /// The arguments of the factor test, before they are put into bytes.
 #[derive(Clone, Debug)]
@@ -37,7 +44,7 @@ impl FactorTest {
         }
     }
 
-    /// A call that is accepted.
+    /// A call that is accepted, where each row has 2^33 over.
     pub fn accepted(order: usize) -> FactorTest {
         FactorTest::even(order, 3, 0, SCALE)
     }
@@ -47,8 +54,22 @@ impl FactorTest {
         i * self.order + j
     }
 
+    /// The call, whose output holds random bytes.
     pub fn call(&self) -> Call {
-        call_on(&self.low, &self.high, &[bytes(&self.factor)])
+        factor_call(&self.low, &self.high, &self.factor)
+    }
+
+    /// Fails where the library does not answer so, with this number over.
+    pub fn expect(&self, answer: i64, over: i64) {
+        let call = self.call();
+        let mut after = call.buffers.clone();
+        after[TESTED_OVER] = bytes(&[over]);
+        TEST_FACTOR.expect_after(&call, answer, &after);
+    }
+
+    /// Fails where the library does not refuse the call by this number, or writes.
+    pub fn expect_refused(&self, refusal: i64) {
+        TEST_FACTOR.expect(&self.call(), refusal);
     }
 }
 
@@ -94,7 +115,14 @@ pub fn judge_call(low: &[i64], high: &[i64]) -> Call {
     let order = low.len().isqrt();
     let mut random = Random::new(order as u64);
     let mut output = |count: usize| random.bytes(8 * count);
-    call_on(low, high, &[output(order * order), output(order)])
+    let outputs = [output(order * order), output(order), output(1)];
+    call_on(low, high, &outputs)
+}
+
+/// A call of the factor test, whose output holds random bytes.
+pub fn factor_call(low: &[i64], high: &[i64], factor: &[i64]) -> Call {
+    let over = Random::new(low.len() as u64).bytes(8);
+    call_on(low, high, &[bytes(factor), over])
 }
 
 /// The places of the box's buffers after the bounds; sums have the first two

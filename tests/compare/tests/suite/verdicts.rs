@@ -7,12 +7,13 @@ use hankboulder_reference::cases::numbers;
 use hankboulder_reference::judge::List;
 use hankboulder_reference::vectors::tried_vectors;
 
-use crate::support::{judge_call, square, ENTRY_RANGE};
+use crate::support::{judge_call, square, ENTRY_RANGE, JUDGED_OVER};
 use Verdict::{Definite, Not, Undecided};
 
-/// A verdict with what is written: the factor row by row, or the vector.
+/// A verdict with what is written: the factor row by row and what its rows have over, or
+/// the vector.
 enum Verdict<'a> {
-    Definite(&'a [i64]),
+    Definite(&'a [i64], i64),
     Not(&'a [i64]),
     Undecided,
 }
@@ -27,8 +28,9 @@ fn expect_tables(low: &[i64], high: &[i64], verdict: Verdict) -> Option<List> {
     let call = judge_call(low, high);
     let mut after = call.buffers.clone();
     let answer = match verdict {
-        Definite(rows) => {
+        Definite(rows, over) => {
             after[FACTOR] = bytes(rows);
+            after[JUDGED_OVER] = bytes(&[over]);
             0
         }
         Not(vector) => {
@@ -60,12 +62,14 @@ fn expect_refused(matrix: &str, refusal: i64) {
 
 #[test]
 fn the_starred_matrices() {
-    expect("[1]", Definite(&[61303]));
-    expect_wide("[1]", "[2]", Definite(&[61303]));
+    expect("[1]", Definite(&[61303], 536909487));
+    expect_wide("[1]", "[2]", Definite(&[61303], 536909487));
     expect("[0]", Not(&[1]));
     expect_wide("[0]", "[5]", Not(&[1]));
-    expect("[2 1; 1 2]", Definite(&[89738, 47861, 0, 75910]));
-    expect("[1 2; 2 5]", Definite(&[61303, 140122, 0, 36108]));
+    let factor = [89738, 47861, 0, 75910];
+    expect("[2 1; 1 2]", Definite(&factor, 536914293));
+    let factor = [61303, 140122, 0, 36108];
+    expect("[1 2; 2 5]", Definite(&factor, 536838306));
     expect("[1 2; 2 1]", Not(&[1, -1]));
     expect("[1 1; 1 1]", Not(&[1, -1]));
     expect("[1 1000; 1000 10000]", Not(&[-1143, 1]));
@@ -82,7 +86,7 @@ fn the_least_value_of_the_solved_vector_is_the_starred_one() {
 
 #[test]
 fn the_other_listed_lines() {
-    expect("[1048576]", Definite(&[67108859]));
+    expect("[1048576]", Definite(&[67108859], 671088615));
     expect_refused("[1048577]", 3);
     expect_refused("[-1048577]", 3);
     expect("[-1048576]", Not(&[1]));
@@ -94,13 +98,14 @@ fn the_other_listed_lines() {
         JUDGE.expect(&call, 1);
     }
     // Case P's matrix
-    expect("[4]", Definite(&[129007]));
+    expect("[4]", Definite(&[129007], 537063135));
 }
 
 #[test]
 fn mistakes_easily_made() {
     // Quotients toward zero
-    expect("[2 -1; -1 2]", Definite(&[89738, -47862, 0, 75909]));
+    let factor = [89738, -47862, 0, 75909];
+    expect("[2 -1; -1 2]", Definite(&factor, 536914407));
     // L looked at alone
     expect_wide("[1 0; 0 1]", "[1 2; 2 1]", Not(&[1, -1]));
     expect_wide("[1 -2; -2 1]", "[1 0; 0 1]", Not(&[1, 1]));
@@ -136,10 +141,13 @@ fn a_rest_of_exactly_0_stops_and_of_exactly_1_does_not() {
     );
     expect(
         "[50 0 0 0 205; 0 60 0 0 178; 0 0 70 0 331; 0 0 0 80 205; 205 178 331 205 3466]",
-        Definite(&[
-            462829, 0, 0, 0, 1902361, 0, 507110, 0, 0, 1507570, 0, 0, 547823, 0, 2595061, 0, 0, 0,
-            585713, 1503241, 0, 0, 0, 0, 1,
-        ]),
+        Definite(
+            &[
+                462829, 0, 0, 0, 1902361, 0, 507110, 0, 0, 1507570, 0, 0, 547823, 0, 2595061, 0, 0,
+                0, 585713, 1503241, 0, 0, 0, 0, 1,
+            ],
+            535485893,
+        ),
     );
 }
 
@@ -225,6 +233,7 @@ fn every_tried_vector_is_written_where_it_and_its_opposite_alone_show_it() {
 fn the_widest_factor_is_written() {
     for order in 1..=8 {
         let table = square(order, ENTRY_RANGE, 0);
-        expect_tables(&table, &table, Definite(&square(order, 67108859, 0)));
+        let factor = square(order, 67108859, 0);
+        expect_tables(&table, &table, Definite(&factor, 671088615));
     }
 }

@@ -5,6 +5,8 @@ use std::collections::BTreeSet;
 use hankboulder_program::{on_threads, Counts, Program, KINDS};
 use hankboulder_reference::generate::{DrawnFile, Generator};
 
+use crate::support::expect_over_in_place;
+
 /// Files are drawn until so many damaged ones are among them. Of the good ones the
 /// first are taken.
 const DAMAGED: usize = 20_000;
@@ -51,6 +53,8 @@ fn the_program_agrees_with_the_reference_on_generated_files() {
         let files = counts.of(kind);
         assert!(files >= OF_A_KIND, "{kind}: {files} files");
     }
+    let definite = texts.iter().filter(|text| expect_over_in_place(text));
+    assert!(definite.count() >= 4 * OF_A_KIND);
     for word in ["row", "vector", "side"] {
         assert_eq!(orders(&texts, word), (1..=8).collect(), "{word}");
     }

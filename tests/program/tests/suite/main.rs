@@ -7,6 +7,7 @@ mod drafts;
 mod entries;
 mod faults;
 mod generated;
+mod over;
 mod pipes;
 mod speed;
 mod summary_text;
