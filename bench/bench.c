@@ -8,8 +8,12 @@
  *     bench count             makes each call once, for callgrind, which writes down the instructions of each act, order and side
  *     bench time [COUNTS]     compares, times and prints the tables. Each line of the file COUNTS is an act, an order, a side and its instructions.
  *                             Ends with status 1 where the library takes longer beside plain C than it may
- *     bench alone             times the library alone, for bench/before, on problems with symmetric tables: a line for each act and order
- *                             with the nanoseconds of a call, a sum over all answers and buffers, and the act's name
+ *     bench alone             times the library alone, for bench/before: a line for each act and order with the nanoseconds of a call, a sum
+ *                             over all answers and buffers but over, a sum over that buffer, or - where the archive has none, whether the act
+ *                             has all of its steps in this archive, or fewer, and the act's name
+ *
+ * Compiled with WITHOUT_OVER it calls an archive of before version 0.6, whose hb_judge and hb_test_factor have no buffer over: such a bench
+ * is for alone.
  */
 #define _POSIX_C_SOURCE 199309L
 #include "peers.h"
@@ -35,6 +39,8 @@
 #define LACKING INT64_MIN
 #define SLICE_NS 40e3
 #define MOST_NS 1e9
+#define FNV_START 14695981039346656037u
+#define FNV_PRIME 1099511628211u
 
 /*
  * Checks 1 to 5 and factoring, of an archive made for this bench: 0 where it ends, -1 where it stops, or a refusal. Lengths are in numbers.
@@ -44,10 +50,24 @@ int64_t hb_bench_factor(int64_t n, const int64_t *low, size_t low_len, const int
 /* Where no archive has it, its address is null. */
 #pragma weak hb_bench_factor
 
+#ifdef WITHOUT_OVER
+#define HAS_OVER 0
+
+/* The two entries as they were, under names of their own */
+int64_t judge_without_over(int64_t n, const uint8_t *low, size_t low_len, const uint8_t *high, size_t high_len, uint8_t *factor,
+                           size_t factor_len, uint8_t *vector, size_t vector_len) __asm__("hb_judge");
+
+int64_t test_factor_without_over(int64_t n, const uint8_t *low, size_t low_len, const uint8_t *high, size_t high_len,
+                                 const uint8_t *factor, size_t factor_len) __asm__("hb_test_factor");
+#else
+#define HAS_OVER 1
+#endif
+
 /* What the calls write. The last five are running sums, or with the order, the limit and the centre a problem. */
 static struct {
     int64_t factor[MAX_ENTRIES];
     int64_t vector[HB_MAX_ORDER];
+    int64_t over;
     int64_t sides[2 * HB_MAX_ORDER];
     uint8_t file[HB_SUMMARY_BYTES(HB_MAX_ORDER)];
     int64_t order;
@@ -98,19 +118,25 @@ static int64_t tuned_factor_side(int64_t n, const struct problem *problem)
 static int64_t library_test_factor(int64_t n, const struct problem *problem)
 {
     size_t size = HB_TABLE_BYTES(n);
-    return hb_test_factor(n, bytes(problem->low), size, bytes(problem->high), size, bytes(problem->factor), size);
+#ifdef WITHOUT_OVER
+    return test_factor_without_over(n, bytes(problem->low), size, bytes(problem->high), size, bytes(problem->factor), size);
+#else
+    return hb_test_factor(n, bytes(problem->low), size, bytes(problem->high), size, bytes(problem->factor), size, (uint8_t *)&out.over,
+                          HB_OVER_BYTES);
+#endif
 }
 
 static int64_t plain_test_factor_side(int64_t n, const struct problem *problem)
 {
     size_t count = (size_t)(n * n);
-    return plain_test_factor(n, problem->low, count, problem->high, count, problem->factor, count);
+    return plain_test_factor(n, problem->low, count, problem->high, count, problem->factor, count, &out.over, 1);
 }
 
 static int64_t tuned_test_factor_side(int64_t n, const struct problem *problem)
 {
     size_t size = HB_TABLE_BYTES(n);
-    return tuned_test_factor(n, bytes(problem->low), size, bytes(problem->high), size, bytes(problem->factor), size);
+    return tuned_test_factor(n, bytes(problem->low), size, bytes(problem->high), size, bytes(problem->factor), size, (uint8_t *)&out.over,
+                             HB_OVER_BYTES);
 }
 
 static int64_t library_test_vector(int64_t n, const struct problem *problem)
@@ -134,26 +160,32 @@ static int64_t tuned_test_vector_side(int64_t n, const struct problem *problem)
 static int64_t library_judge(int64_t n, const struct problem *problem)
 {
     size_t size = HB_TABLE_BYTES(n);
-    return hb_judge(n, bytes(problem->low), size, bytes(problem->high), size, (uint8_t *)out.factor, size, (uint8_t *)out.vector, HB_VECTOR_BYTES(n));
+#ifdef WITHOUT_OVER
+    return judge_without_over(n, bytes(problem->low), size, bytes(problem->high), size, (uint8_t *)out.factor, size, (uint8_t *)out.vector,
+                              HB_VECTOR_BYTES(n));
+#else
+    return hb_judge(n, bytes(problem->low), size, bytes(problem->high), size, (uint8_t *)out.factor, size, (uint8_t *)out.vector,
+                    HB_VECTOR_BYTES(n), (uint8_t *)&out.over, HB_OVER_BYTES);
+#endif
 }
 
 static int64_t plain_judge_side(int64_t n, const struct problem *problem)
 {
     size_t count = (size_t)(n * n);
-    return plain_judge(n, problem->low, count, problem->high, count, out.factor, count, out.vector, (size_t)n);
+    return plain_judge(n, problem->low, count, problem->high, count, out.factor, count, out.vector, (size_t)n, &out.over, 1);
 }
 
 static int64_t plain_pairs_judge_side(int64_t n, const struct problem *problem)
 {
     size_t count = (size_t)(n * n);
-    return plain_pairs_judge(n, problem->low, count, problem->high, count, out.factor, count, out.vector, (size_t)n);
+    return plain_pairs_judge(n, problem->low, count, problem->high, count, out.factor, count, out.vector, (size_t)n, &out.over, 1);
 }
 
 static int64_t tuned_judge_side(int64_t n, const struct problem *problem)
 {
     size_t size = HB_TABLE_BYTES(n);
     return tuned_judge(n, bytes(problem->low), size, bytes(problem->high), size, (uint8_t *)out.factor, size, (uint8_t *)out.vector,
-                       HB_VECTOR_BYTES(n));
+                       HB_VECTOR_BYTES(n), (uint8_t *)&out.over, HB_OVER_BYTES);
 }
 
 static int64_t library_box(int64_t n, const struct problem *problem)
@@ -616,30 +648,62 @@ int64_t bench_lacking(void)
     return LACKING;
 }
 
-/* A sum over what the library answers and writes, on all problems of an order */
-static uint64_t sum_of(const struct act *act, int64_t n)
+/* A sum goes on over some bytes. */
+static uint64_t add_bytes(uint64_t sum, const void *bytes, size_t size)
 {
-    uint64_t sum = 14695981039346656037u;
+    for (size_t at = 0; at < size; at++)
+        sum = (sum ^ ((const unsigned char *)bytes)[at]) * FNV_PRIME;
+    return sum;
+}
+
+/* A sum over what the library answers and writes, on all problems of an order; and one over what it writes to over, which is left out of the first */
+struct sums {
+    uint64_t all;
+    uint64_t over;
+};
+
+static struct sums sums_of(const struct act *act, int64_t n)
+{
+    struct sums sums = {FNV_START, FNV_START};
     own_sums = 1;
     for (int place = 0; place < PROBLEMS; place++) {
         memset(&out, 0x5A, sizeof out);
         int64_t answer = act->sides[LIBRARY](n, problem_of(act->kind, n, place));
-        sum = (sum ^ (uint64_t)answer) * 1099511628211u;
-        for (size_t at = 0; at < sizeof out; at++)
-            sum = (sum ^ ((const unsigned char *)&out)[at]) * 1099511628211u;
+        sums.over = add_bytes(sums.over, &out.over, sizeof out.over);
+        out.over = 0;
+        sums.all = add_bytes((sums.all ^ (uint64_t)answer) * FNV_PRIME, &out, sizeof out);
     }
     own_sums = 0;
-    return sum;
+    return sums;
 }
 
 /*
- * Whether the library has an act, the same one not twice: those of FACTORING_FLOATING and after it have the library's sides of others. The
- * problems of the others are symmetric, so that an archive before version 0.5 takes them too.
+ * Whether the library has an act, the same one not twice: those between FACTORING_FLOATING and the acts with halves apart have the library's
+ * sides of others. An archive before version 0.5 refuses halves that are apart.
  */
 static int has_act(int a)
 {
     const struct act *act = &acts[a];
-    return a < FACTORING_FLOATING && act->sides[LIBRARY] && act->sides[LIBRARY](act->last_order, problem_of(act->kind, act->last_order, 0)) != LACKING;
+    if ((a >= FACTORING_FLOATING && a < APART_FACTOR_TEST) || a > APART_GATHER || !act->sides[LIBRARY])
+        return 0;
+    int64_t answer = act->sides[LIBRARY](act->last_order, problem_of(act->kind, act->last_order, 0));
+    return answer != LACKING && answer != HB_REFUSED_LOPSIDED;
+}
+
+/* Whether an act has fewer steps in this archive than now: before version 0.6 a definite verdict came without the residual of its factor. */
+static int has_fewer_steps(int a)
+{
+    return !HAS_OVER && (a == JUDGE_DEFINITE || a == APART_JUDGE);
+}
+
+static void print_alone(int a, int64_t n)
+{
+    struct sums sums = sums_of(&acts[a], n);
+    char over[20] = "-";
+    if (HAS_OVER)
+        snprintf(over, sizeof over, "%016llx", (unsigned long long)sums.over);
+    printf("%d %d %.2f %016llx %s %s %s\n", a, (int)n, time_of(&acts[a], n, LIBRARY), (unsigned long long)sums.all, over,
+           has_fewer_steps(a) ? "fewer" : "all", acts[a].name);
 }
 
 static void time_alone(void)
@@ -652,7 +716,7 @@ static void time_alone(void)
     for (int a = 0; a < ACTS; a++)
         for (int64_t n = acts[a].first_order; n <= acts[a].last_order; n++)
             if (has_act(a))
-                printf("%d %d %.2f %016llx %s\n", a, (int)n, time_of(&acts[a], n, LIBRARY), (unsigned long long)sum_of(&acts[a], n), acts[a].name);
+                print_alone(a, n);
 }
 
 static double instructions_of(const struct act *act, int64_t n, int k)
@@ -743,9 +807,9 @@ static const struct {
     int act;
     double most;
 } limits[] = {
-    {FACTORING, 1.2},         {FACTOR_TEST, 1.2},  {JUDGE_DEFINITE, 1.2}, {BOX, 1.2},       {JUDGE_UNDECIDED, 0.01},
+    {FACTORING, 1.2},         {FACTOR_TEST, 1.2},  {JUDGE_DEFINITE, 1.1}, {BOX, 1.2},       {JUDGE_UNDECIDED, 0.01},
     {GATHER, 1.5},            {READ_SUMS, 1.5},    {WRITE_SUMMARY, 1.5},  {READ_SUMMARY, 1.5},
-    {APART_FACTOR_TEST, 1.2}, {APART_JUDGE, 1.2},  {APART_BOX, 1.2},      {APART_GATHER, 1.5},
+    {APART_FACTOR_TEST, 1.2}, {APART_JUDGE, 1.1},  {APART_BOX, 1.2},      {APART_GATHER, 1.5},
 };
 
 /* Prints whether the limits are kept. What has no side of the library is not measured. */

@@ -194,20 +194,18 @@ static void residual(int64_t n, const int64_t *low, const int64_t *high, const i
     }
 }
 
-/* The row test of each row, over the two tables of a residual */
-static int rows_hold(int64_t n, const int64_t *from_low, const int64_t *from_high)
+/* The row test over the two tables of a residual: the least that a row has over, its diagonal entry less the radii beside it */
+static int64_t rows_over(int64_t n, const int64_t *from_low, const int64_t *from_high)
 {
+    int64_t least = INT64_MAX;
     for (int64_t i = 0; i < n; i++) {
-        int64_t surplus = from_low[i * n + i];
-        for (int64_t j = 0; j < n; j++) {
-            int64_t low = magnitude(from_low[i * n + j]), high = magnitude(from_high[i * n + j]);
+        int64_t over = from_low[i * n + i];
+        for (int64_t j = 0; j < n; j++)
             if (j != i)
-                surplus -= low > high ? low : high;
-        }
-        if (surplus < 0)
-            return 0;
+                over -= greater(magnitude(from_low[i * n + j]), magnitude(from_high[i * n + j]));
+        least = lesser(least, over);
     }
-    return 1;
+    return least;
 }
 
 /* Check 3 of the tables */
@@ -221,6 +219,14 @@ struct mended {
     int64_t low[PLAIN_MAX_ORDER * PLAIN_MAX_ORDER];
     int64_t high[PLAIN_MAX_ORDER * PLAIN_MAX_ORDER];
 };
+
+/* The residual of a factor, whole, and what its rows have over */
+static int64_t factor_over(int64_t n, const struct mended *mended, const int64_t *factor)
+{
+    int64_t from_low[PLAIN_MAX_ORDER * PLAIN_MAX_ORDER], from_high[PLAIN_MAX_ORDER * PLAIN_MAX_ORDER];
+    residual(n, mended->low, mended->high, factor, from_low, from_high);
+    return rows_over(n, from_low, from_high);
+}
 
 /* Checks 4, of the tables as handed in, and 5, of the mended ones: 0, or the number of the refusal */
 static int64_t check_shape(int64_t n, const int64_t *low, const int64_t *high, int64_t *mended_low, int64_t *mended_high)
@@ -252,12 +258,12 @@ int64_t plain_floating_factor(int64_t n, const int64_t *low, const int64_t *high
 }
 
 int64_t plain_test_factor(int64_t n, const int64_t *low, size_t low_count, const int64_t *high, size_t high_count, const int64_t *factor,
-                          size_t factor_count)
+                          size_t factor_count, int64_t *over, size_t over_count)
 {
     if (n < 1 || n > PLAIN_MAX_ORDER)
         return 1;
     size_t count = (size_t)(n * n);
-    if (low_count != count || high_count != count || factor_count != count)
+    if (low_count != count || high_count != count || factor_count != count || over_count != 1)
         return 2;
     struct mended mended;
     int64_t refusal = check_tables(n, low, high, &mended);
@@ -265,9 +271,8 @@ int64_t plain_test_factor(int64_t n, const int64_t *low, size_t low_count, const
         return refusal;
     if (!proper_factor(factor, n))
         return 6;
-    int64_t from_low[PLAIN_MAX_ORDER * PLAIN_MAX_ORDER], from_high[PLAIN_MAX_ORDER * PLAIN_MAX_ORDER];
-    residual(n, mended.low, mended.high, factor, from_low, from_high);
-    return rows_hold(n, from_low, from_high) ? 0 : -1;
+    *over = factor_over(n, &mended, factor);
+    return *over < 0 ? -1 : 0;
 }
 
 /* What x(i) x(j) m adds at its least, for an m from low to high */
@@ -376,7 +381,7 @@ static int solve(int64_t n, const int64_t *factor, const struct stop *stop, int6
 }
 
 INLINED int64_t judge_by(form *least, int64_t n, const int64_t *low, size_t low_count, const int64_t *high, size_t high_count, int64_t *factor,
-                         size_t factor_count, int64_t *vector, size_t vector_count)
+                         size_t factor_count, int64_t *vector, size_t vector_count, int64_t *over, size_t over_count)
 {
     int64_t table[PLAIN_MAX_ORDER * PLAIN_MAX_ORDER], x[PLAIN_MAX_ORDER];
     struct mended mended;
@@ -384,12 +389,13 @@ INLINED int64_t judge_by(form *least, int64_t n, const int64_t *low, size_t low_
     if (n < 1 || n > PLAIN_MAX_ORDER)
         return 1;
     size_t count = (size_t)(n * n);
-    if (low_count != count || high_count != count || factor_count != count || vector_count != (size_t)n)
+    if (low_count != count || high_count != count || factor_count != count || vector_count != (size_t)n || over_count != 1)
         return 2;
     int64_t refusal = check_tables(n, low, high, &mended);
     if (refusal)
         return refusal;
     if (factor_by(whole_root, n, mended.low, mended.high, table, &stop) == 0) {
+        *over = factor_over(n, &mended, table);
         memcpy(factor, table, count * sizeof *factor);
         return 0;
     }
@@ -403,15 +409,15 @@ INLINED int64_t judge_by(form *least, int64_t n, const int64_t *low, size_t low_
 }
 
 int64_t plain_judge(int64_t n, const int64_t *low, size_t low_count, const int64_t *high, size_t high_count, int64_t *factor, size_t factor_count,
-                    int64_t *vector, size_t vector_count)
+                    int64_t *vector, size_t vector_count, int64_t *over, size_t over_count)
 {
-    return judge_by(whole_form, n, low, low_count, high, high_count, factor, factor_count, vector, vector_count);
+    return judge_by(whole_form, n, low, low_count, high, high_count, factor, factor_count, vector, vector_count, over, over_count);
 }
 
 int64_t plain_pairs_judge(int64_t n, const int64_t *low, size_t low_count, const int64_t *high, size_t high_count, int64_t *factor,
-                          size_t factor_count, int64_t *vector, size_t vector_count)
+                          size_t factor_count, int64_t *vector, size_t vector_count, int64_t *over, size_t over_count)
 {
-    return judge_by(pairs_form, n, low, low_count, high, high_count, factor, factor_count, vector, vector_count);
+    return judge_by(pairs_form, n, low, low_count, high, high_count, factor, factor_count, vector, vector_count, over, over_count);
 }
 
 /* The tables that the box makes its trials with, and what the trials start from */

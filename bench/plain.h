@@ -24,24 +24,25 @@ int64_t plain_checked_factor(int64_t n, const int64_t *low, const int64_t *high,
 /* The same with roots by the processor's floating-point unit: other steps than the library's, for comparison. */
 int64_t plain_floating_factor(int64_t n, const int64_t *low, const int64_t *high, int64_t *factor);
 
-/* The factor test with its checks. 0 accepted, -1 not accepted, or the number of the refusal. */
+/* The factor test with its checks. 0 accepted or -1 not accepted, and what the rows have over is written; or the number of the refusal. */
 int64_t plain_test_factor(int64_t n, const int64_t *low, size_t low_count, const int64_t *high, size_t high_count, const int64_t *factor,
-                          size_t factor_count);
+                          size_t factor_count, int64_t *over, size_t over_count);
 
 /* The vector test with its checks, each pair of entries worked out once. 0 yes, -1 no, or the number of the refusal. */
 int64_t plain_test_vector(int64_t n, const int64_t *low, size_t low_count, const int64_t *high, size_t high_count, const int64_t *vector,
                           size_t vector_count);
 
 /*
- * The judge with its checks: 0 definite, and the factor is written; -1 not definite, and the vector is; -2 undecided; or the number of the refusal.
- * The tried vectors are taken one by one, and each has its whole quadratic form worked out, all n * n terms.
+ * The judge with its checks: 0 definite, and the factor is written, with what the rows of its residual have over, which is worked out as in
+ * the factor test; -1 not definite, and the vector is written; -2 undecided; or the number of the refusal. The tried vectors are taken one
+ * by one, and each has its whole quadratic form worked out, all n * n terms.
  */
 int64_t plain_judge(int64_t n, const int64_t *low, size_t low_count, const int64_t *high, size_t high_count, int64_t *factor, size_t factor_count,
-                    int64_t *vector, size_t vector_count);
+                    int64_t *vector, size_t vector_count, int64_t *over, size_t over_count);
 
 /* The same with each pair of entries worked out once in a form, so n * (n + 1) / 2 terms. */
 int64_t plain_pairs_judge(int64_t n, const int64_t *low, size_t low_count, const int64_t *high, size_t high_count, int64_t *factor,
-                          size_t factor_count, int64_t *vector, size_t vector_count);
+                          size_t factor_count, int64_t *vector, size_t vector_count, int64_t *over, size_t over_count);
 
 /*
  * The box with its checks: 0, and the sides are written, low and high for each k; -1 empty; or the number of the refusal.

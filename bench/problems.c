@@ -63,9 +63,9 @@ static void set_product(int64_t n, struct problem *problem, const int64_t *b, in
 
 static int64_t verdict(int64_t n, const struct problem *problem)
 {
-    int64_t factor[MAX_ENTRIES], vector[HB_MAX_ORDER];
+    int64_t factor[MAX_ENTRIES], vector[HB_MAX_ORDER], over;
     size_t count = (size_t)(n * n);
-    return plain_pairs_judge(n, problem->low, count, problem->high, count, factor, count, vector, (size_t)n);
+    return plain_pairs_judge(n, problem->low, count, problem->high, count, factor, count, vector, (size_t)n, &over, 1);
 }
 
 /* A centre, linear terms with ends up to 100 apart that put the ellipsoid's middle near it, and a limit with which it is not empty */

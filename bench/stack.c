@@ -38,7 +38,7 @@ static struct input input;
 
 /* What gathering takes for sums: the bounds, the linear terms, and the limit for a running limit */
 static struct input sums;
-static int64_t factor[MAX_ENTRIES], vector[HB_MAX_ORDER], sides[2 * HB_MAX_ORDER], limit;
+static int64_t factor[MAX_ENTRIES], vector[HB_MAX_ORDER], over, sides[2 * HB_MAX_ORDER], limit;
 
 /* The last summary file that was written, and how much of it is read; and what is read from it */
 static uint8_t file[HB_SUMMARY_BYTES(HB_MAX_ORDER)];
@@ -62,14 +62,14 @@ static void call_judge(void)
 {
     frame = __builtin_frame_address(0);
     answer = hb_judge(input.n, bytes(input.low), HB_TABLE_BYTES(input.n), bytes(input.high), HB_TABLE_BYTES(input.n), (uint8_t *)factor,
-                      HB_TABLE_BYTES(input.n), (uint8_t *)vector, HB_VECTOR_BYTES(input.n));
+                      HB_TABLE_BYTES(input.n), (uint8_t *)vector, HB_VECTOR_BYTES(input.n), (uint8_t *)&over, HB_OVER_BYTES);
 }
 
 static void call_test_factor(void)
 {
     frame = __builtin_frame_address(0);
     answer = hb_test_factor(input.n, bytes(input.low), HB_TABLE_BYTES(input.n), bytes(input.high), HB_TABLE_BYTES(input.n), bytes(input.factor),
-                            HB_TABLE_BYTES(input.n));
+                            HB_TABLE_BYTES(input.n), (uint8_t *)&over, HB_OVER_BYTES);
 }
 
 static void call_test_vector(void)

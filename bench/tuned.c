@@ -177,21 +177,40 @@ struct stop {
     int64_t rows;
 };
 
+/* Takes the remainder at (i,j) off what rows i and j have over, where that is asked for. */
+INLINED void take_remainder(int64_t *over, int64_t i, int64_t j, int64_t remainder)
+{
+    if (over) {
+        over[i] -= remainder;
+        over[j] -= remainder;
+    }
+}
+
 /*
  * Factors h in place, row by row: the divisions of a row do not wait for each other. Whether it ends. Where column j stops, the columns from j on are
  * left out, and one before it may stop yet: the last stop seen is that of the first column.
+ *
+ * Where over is not null and factoring ends, over[i] is what row i of the factor's residual has over, from the remainders: H(i,j) - P(i,j)
+ * is that of the division, or of the root on the diagonal. Off the diagonal the radius is the remainder and 2^31 times the entry's width.
+ * H(i,i) is less by 2^31 times the widths of row i, which so cancel, and by 2^29: that and the root's remainder, less the remainders of row
+ * and column i, is what row i has over.
  */
-INLINED int factor_rows(int64_t n, int64_t h[ORDER][ORDER], struct stop *stop)
+INLINED int factor_rows(int64_t n, int64_t h[ORDER][ORDER], struct stop *stop, int64_t *over)
 {
     int64_t end = 0;
     while (end < n && h[end][end] >= 1)
         end++;
+    for (int64_t i = 0; over && i < n; i++)
+        over[i] = MARGIN;
     stop->rows = 0;
     for (int64_t i = 0; i < end; i++) {
         int64_t d = short_root(h[i][i]);
+        if (over)
+            over[i] += h[i][i] - d * d;
         h[i][i] = d;
         for (int64_t j = i + 1; j < end; j++) {
             int64_t r = floor_quotient(h[i][j], d), rest = h[j][j] - r * r;
+            take_remainder(over, i, j, h[i][j] - r * d);
             h[i][j] = r;
             h[j][j] = rest;
             if (rest < 1 || !within(r, FACTOR_RANGE)) {
@@ -215,7 +234,16 @@ int64_t tuned_factor(int64_t n, const int64_t *low, const int64_t *high, int64_t
     struct stop stop;
     if (!scale(n, low, high, h))
         return refusal(n, low, high);
-    return factor_rows(n, h, &stop) ? 0 : -1;
+    return factor_rows(n, h, &stop, NULL) ? 0 : -1;
+}
+
+/* The least that a row has over */
+INLINED int64_t least_over(int64_t n, const int64_t *over)
+{
+    int64_t least = over[0];
+    for (int64_t i = 1; i < n; i++)
+        least = over[i] < least ? over[i] : least;
+    return least;
 }
 
 /* What the greater of |2^32 low - p| and |2^32 high - p| is, for low <= high */
@@ -235,17 +263,17 @@ INLINED int64_t product(int64_t n, const number *factor, int64_t i, int64_t j)
 }
 
 int64_t tuned_test_factor(int64_t n, const uint8_t *low_bytes, size_t low_len, const uint8_t *high_bytes, size_t high_len,
-                          const uint8_t *factor_bytes, size_t factor_len)
+                          const uint8_t *factor_bytes, size_t factor_len, uint8_t *over_bytes, size_t over_len)
 {
     const number *low = numbers(low_bytes), *high = numbers(high_bytes), *factor = numbers(factor_bytes);
     if (n < 1 || n > ORDER)
         return 1;
     size_t size = (size_t)(8 * n * n);
-    if (low_len != size || high_len != size || factor_len != size)
+    if (low_len != size || high_len != size || factor_len != size || over_len != sizeof(number))
         return 2;
     /* the last two: or of numbers that are from 0 to 2^27, and of those that are 0, where check 6 passes */
     uint64_t seen = 0, sizes = 0, below = 0;
-    int64_t over[ORDER], negative = 0;
+    int64_t over[ORDER];
     for (int64_t j = 0; j < n; j++) {
         const number *low_row = low + j * n, *high_row = high + j * n, *factor_row = factor + j * n;
         int64_t own = 0;
@@ -263,13 +291,13 @@ int64_t tuned_test_factor(int64_t n, const uint8_t *low_bytes, size_t low_len, c
         sizes |= (uint64_t)(f - 1) | (uint64_t)(FACTOR_RANGE - f);
         over[j] = own + (l << SCALE_BITS) - product(n, factor, j, j);
     }
-    for (int64_t i = 0; i < n; i++)
-        negative |= over[i];
     if (refused(seen))
         return refusal(n, low, high);
     if (sizes >> 28 || below)
         return 6;
-    return negative < 0 ? -1 : 0;
+    int64_t least = least_over(n, over);
+    *(number *)over_bytes = least;
+    return least < 0 ? -1 : 0;
 }
 
 /* The least of x m over the m from low to high */
@@ -638,21 +666,22 @@ INLINED void write_factor(int64_t n, int64_t h[ORDER][ORDER], number *factor)
 }
 
 int64_t tuned_judge(int64_t n, const uint8_t *low_bytes, size_t low_len, const uint8_t *high_bytes, size_t high_len, uint8_t *factor_bytes,
-                    size_t factor_len, uint8_t *vector_bytes, size_t vector_len)
+                    size_t factor_len, uint8_t *vector_bytes, size_t vector_len, uint8_t *over_bytes, size_t over_len)
 {
     const number *low = numbers(low_bytes), *high = numbers(high_bytes);
-    int64_t h[ORDER][ORDER], x[ORDER];
+    int64_t h[ORDER][ORDER], x[ORDER], over[ORDER];
     struct mended mended;
     struct stop stop;
     if (n < 1 || n > ORDER)
         return 1;
     size_t size = (size_t)(8 * n * n);
-    if (low_len != size || high_len != size || factor_len != size || vector_len != (size_t)(8 * n))
+    if (low_len != size || high_len != size || factor_len != size || vector_len != (size_t)(8 * n) || over_len != sizeof(number))
         return 2;
     if (!scale(n, low, high, h))
         return refusal(n, low, high);
-    if (factor_rows(n, h, &stop)) {
+    if (factor_rows(n, h, &stop, over)) {
         write_factor(n, h, (number *)factor_bytes);
+        *(number *)over_bytes = least_over(n, over);
         return 0;
     }
     fill_mended(n, low, high, &mended);

@@ -16,13 +16,14 @@
 int64_t tuned_factor(int64_t n, const int64_t *low, const int64_t *high, int64_t *factor);
 
 int64_t tuned_test_factor(int64_t n, const uint8_t *low, size_t low_len, const uint8_t *high, size_t high_len, const uint8_t *factor,
-                          size_t factor_len);
+                          size_t factor_len, uint8_t *over, size_t over_len);
 
 int64_t tuned_test_vector(int64_t n, const uint8_t *low, size_t low_len, const uint8_t *high, size_t high_len, const uint8_t *vector,
                           size_t vector_len);
 
+/* What the rows of the factor's residual have over is worked out from the remainders of the factoring: the residual itself is not. */
 int64_t tuned_judge(int64_t n, const uint8_t *low, size_t low_len, const uint8_t *high, size_t high_len, uint8_t *factor, size_t factor_len,
-                    uint8_t *vector, size_t vector_len);
+                    uint8_t *vector, size_t vector_len, uint8_t *over, size_t over_len);
 
 int64_t tuned_box(int64_t n, const uint8_t *low, size_t low_len, const uint8_t *high, size_t high_len, const uint8_t *linear_low,
                   size_t linear_low_len, const uint8_t *linear_high, size_t linear_high_len, int64_t limit, const uint8_t *centre,
