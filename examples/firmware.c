@@ -162,11 +162,12 @@ static void log_refusal(const char *function, int64_t number)
 /* Judges the bounds. Returns 1, with the factor written, where every matrix between them is positive definite. */
 static int judge(const struct sums *sums, uint8_t *factor)
 {
-    uint8_t vector[HB_VECTOR_BYTES(ORDER)];
-    int64_t answer = hb_judge(ORDER, sums->low, sizeof sums->low, sums->high, sizeof sums->high, factor, HB_TABLE_BYTES(ORDER), vector, sizeof vector);
+    uint8_t vector[HB_VECTOR_BYTES(ORDER)], over[HB_OVER_BYTES];
+    int64_t answer = hb_judge(ORDER, sums->low, sizeof sums->low, sums->high, sizeof sums->high, factor, HB_TABLE_BYTES(ORDER), vector,
+                              sizeof vector, over, sizeof over);
     switch (answer) {
     case HB_DEFINITE:
-        printf("  definite\n");
+        printf("  definite, %" PRId64 " over\n", hb_load_number(over));
         return 1;
     case HB_NOT_DEFINITE:
         printf("  not definite, as the vector");
@@ -183,17 +184,59 @@ static int judge(const struct sums *sums, uint8_t *factor)
     }
 }
 
+/* part: stiffer */
+/* The sums with a step taken off each diagonal entry of both tables */
+static void lower(const struct sums *sums, int64_t step, struct sums *lowered)
+{
+    *lowered = *sums;
+    for (int k = 0; k < ORDER; k++) {
+        int place = HB_NUMBER_BYTES * k * (ORDER + 1);
+        hb_store_number(lowered->low + place, hb_load_number(sums->low + place) - step);
+        hb_store_number(lowered->high + place, hb_load_number(sums->high + place) - step);
+    }
+}
+
+/*
+ * Looks for a factor that shows more stiffness than the one that the judge has written for the sums: that of the sums with a step taken off
+ * their diagonal. The step is tried bit by bit, and is kept where the judge says that what is left is definite: only then is the factor
+ * written.
+ */
+static void find_stiffer(const struct sums *sums, uint8_t *factor)
+{
+    uint8_t vector[HB_VECTOR_BYTES(ORDER)], over[HB_OVER_BYTES];
+    struct sums lowered;
+    int64_t step = 0;
+    for (int64_t bit = HB_ENTRY_RANGE / 2; bit > 0; bit /= 2) {
+        lower(sums, step + bit, &lowered);
+        if (hb_judge(ORDER, lowered.low, sizeof lowered.low, lowered.high, sizeof lowered.high, factor, HB_TABLE_BYTES(ORDER), vector,
+                     sizeof vector, over, sizeof over) == HB_DEFINITE)
+            step += bit;
+    }
+}
+
 /* part: filed */
-/* Tests the factor that was filed with the sums. Returns 1 where it shows that they are definite, and they need not be judged again. */
+/* What the rows have over, for each 1 of stiffness */
+#define STIFFNESS_SCALE 4294967296
+
+/* Prints the bound of the stiffness that an accepted factor gives, rounded down to hundredths: the number is 0 or more. */
+static void print_stiffness(int64_t over)
+{
+    printf("  the factor is accepted: stiffness of at least %" PRId64 ".%02" PRId64 "\n", over / STIFFNESS_SCALE,
+           over % STIFFNESS_SCALE * 100 / STIFFNESS_SCALE);
+}
+
+/* Tests a factor with the sums, before it is filed and at each start. Returns 1 where it shows that they are definite. */
 static int test_filed(const struct sums *sums, const uint8_t *factor)
 {
-    int64_t answer = hb_test_factor(ORDER, sums->low, sizeof sums->low, sums->high, sizeof sums->high, factor, HB_TABLE_BYTES(ORDER));
+    uint8_t over[HB_OVER_BYTES];
+    int64_t answer = hb_test_factor(ORDER, sums->low, sizeof sums->low, sums->high, sizeof sums->high, factor, HB_TABLE_BYTES(ORDER), over,
+                                    sizeof over);
     switch (answer) {
     case HB_ACCEPTED:
-        printf("  the filed factor is accepted\n");
+        print_stiffness(hb_load_number(over));
         return 1;
     case HB_NOT_ACCEPTED:
-        printf("  the filed factor is not accepted\n");
+        printf("  the factor is not accepted, %" PRId64 " over\n", hb_load_number(over));
         return 0;
     default:
         log_refusal("hb_test_factor", answer);
@@ -312,15 +355,18 @@ static void show_kilometres(const int64_t *sides)
 
 /* part: display */
 /*
- * The display's work: test the factor that was filed with the sums, or judge them and have a factor to file; then read them, which checks all of them
- * before anything is worked out from them, and box from the centre. filed is 1 where there is a filed factor.
+ * The display's work: test the factor that was filed with the sums, or judge them, look for a factor to file, and test that; then read the
+ * sums, which checks all of them before anything is worked out from them, and box from the centre. filed is 1 where there is a filed
+ * factor.
  */
 static void display(const struct sums *sums, uint8_t *factor, int filed)
 {
     int64_t limit, centre[ORDER], sides[2 * ORDER];
     int definite = filed && test_filed(sums, factor);
-    if (!definite)
-        definite = judge(sums, factor);
+    if (!definite && judge(sums, factor)) {
+        find_stiffer(sums, factor);
+        definite = test_filed(sums, factor);
+    }
     if (!definite || !read_limit(sums, &limit)) {
         show_table();
         return;
@@ -428,6 +474,24 @@ static void show_wider(void)
     display(&sums, factor, 0);
 }
 
+/* Rides that get more alike: of two stretches with air and starts one has 5 and 0, the other 4 and 4, then 5 and 3, and last 8 and 0. */
+static void show_alike(void)
+{
+    uint8_t factor[HB_TABLE_BYTES(ORDER)] = {0};
+    for (int k = 0; k <= 4; k++) {
+        float air = (float)(4 + k), start = (float)(4 - k);
+        const struct stretch stretches[] = {
+            {4, 0, 0, 0, 96}, {0, 3, 0, 0, 108}, {0, 0, 5, 0, 60}, {0, 0, air, start, 12 * air + 18 * start}};
+        struct sums sums = {{0}, {0}, {0}, {0}, {0}, 0};
+        printf("stretches with air and starts of 5 and 0, and of %d and %d\n", 4 + k, 4 - k);
+        gather_all(&sums, stretches, COUNT(stretches), &nothing, 2);
+        if (judge(&sums, factor)) {
+            find_stiffer(&sums, factor);
+            test_filed(&sums, factor);
+        }
+    }
+}
+
 /* Rides that do not tell */
 static void show_others(void)
 {
@@ -462,6 +526,7 @@ int main(void)
 {
     show_rides();
     show_wider();
+    show_alike();
     show_others();
     return 0;
 }

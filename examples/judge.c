@@ -1,4 +1,7 @@
-/* Judges five problems and prints each verdict with what was written: the rows of the factor, or the witness vector. */
+/*
+ * Judges five problems and prints each verdict with what was written: the rows of the factor and what the rows of its residual have over,
+ * or the witness vector.
+ */
 #include <inttypes.h>
 #include <stdio.h>
 
@@ -16,9 +19,9 @@ static void print_line(const char *word, const int64_t *numbers, int64_t count)
 /* The bounds low and high of order n, row by row. This example is for processors that store the low byte first. */
 static void judge(int64_t n, const int64_t *low, const int64_t *high)
 {
-    int64_t factor[HB_MAX_ORDER * HB_MAX_ORDER], vector[HB_MAX_ORDER];
-    int64_t verdict = hb_judge(n, (const uint8_t *)low, HB_TABLE_BYTES(n), (const uint8_t *)high, HB_TABLE_BYTES(n),
-                               (uint8_t *)factor, HB_TABLE_BYTES(n), (uint8_t *)vector, HB_VECTOR_BYTES(n));
+    int64_t factor[HB_MAX_ORDER * HB_MAX_ORDER], vector[HB_MAX_ORDER], over;
+    int64_t verdict = hb_judge(n, (const uint8_t *)low, HB_TABLE_BYTES(n), (const uint8_t *)high, HB_TABLE_BYTES(n), (uint8_t *)factor,
+                               HB_TABLE_BYTES(n), (uint8_t *)vector, HB_VECTOR_BYTES(n), (uint8_t *)&over, HB_OVER_BYTES);
 
     print_line("low", low, n * n);
     print_line("high", high, n * n);
@@ -28,6 +31,7 @@ static void judge(int64_t n, const int64_t *low, const int64_t *high)
         for (int64_t i = 0; i < n; i++) {
             print_line("row", factor + i * n, n);
         }
+        print_line("over", &over, 1);
         break;
     case HB_NOT_DEFINITE:
         printf("not\n");

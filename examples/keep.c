@@ -107,14 +107,15 @@ static int restore(const struct kept *kept, struct problem *problem)
 /* Judges and boxes a problem that was read: its tables and vectors go on as they are, with the lengths of its order. */
 static void judge(const struct problem *problem)
 {
-    uint8_t factor[HB_TABLE_BYTES(HB_MAX_ORDER)], vector[HB_VECTOR_BYTES(HB_MAX_ORDER)], sides[HB_SIDES_BYTES(HB_MAX_ORDER)];
+    uint8_t factor[HB_TABLE_BYTES(HB_MAX_ORDER)], vector[HB_VECTOR_BYTES(HB_MAX_ORDER)], over[HB_OVER_BYTES];
+    uint8_t sides[HB_SIDES_BYTES(HB_MAX_ORDER)];
     int64_t n = hb_load_number(problem->order);
     size_t table = HB_TABLE_BYTES(n), list = HB_VECTOR_BYTES(n);
-    if (hb_judge(n, problem->low, table, problem->high, table, factor, table, vector, list) != HB_DEFINITE) {
+    if (hb_judge(n, problem->low, table, problem->high, table, factor, table, vector, list, over, sizeof over) != HB_DEFINITE) {
         printf("  not shown to be definite: the display has its printed table\n");
         return;
     }
-    printf("  order %" PRId64 ", definite\n", n);
+    printf("  order %" PRId64 ", definite, %" PRId64 " over\n", n, hb_load_number(over));
     int64_t answer = hb_box(n, problem->low, table, problem->high, table, problem->linear_low, list, problem->linear_high, list,
                             hb_load_number(problem->limit), problem->centre, list, sides, HB_SIDES_BYTES(n));
     if (answer != HB_BOX) {

@@ -16,8 +16,9 @@
  * a factor has n * n numbers, row by row (the entry of row i and column j, counted from 0, starts at byte 8 * (i * n + j)), so it is HB_TABLE_BYTES(n)
  * bytes long. A vector, an end of the linear terms and a centre have n, and are HB_VECTOR_BYTES(n) bytes long. The sides of a box have
  * 2 * n (the low and the high of side 0, those of side 1, and so on), and are HB_SIDES_BYTES(n) bytes long. A running limit that is lent, a
- * limit that is written and an order that is written are HB_NUMBER_BYTES long. hb_load_number and hb_store_number, below, read and store one number on any processor. Where the
- * processor stores the low byte first, an array of int64_t has this form already and is passed as it is:
+ * limit that is written and an order that is written are HB_NUMBER_BYTES long; what the rows have over, one number too, is HB_OVER_BYTES
+ * long. hb_load_number and hb_store_number, below, read and store one number on any processor. Where the processor stores the low byte
+ * first, an array of int64_t has this form already and is passed as it is:
  *
  *     int64_t low[4] = {2, 1, 1, 2};
  *     ... (const uint8_t *)low, sizeof low ...
@@ -42,6 +43,26 @@
  * - A table that is lent for reading, so const, is never written: it stays as it was handed over. Only hb_gather and hb_read_summary write
  *   low and high, and what they write there is symmetric.
  * - Where low and high are the same table its halves have to agree: two numbers for one entry leave none.
+ *
+ * WHAT THE ROWS HAVE OVER
+ *
+ * hb_test_factor works out the residual of a Cholesky factor R and asks for a left side at least as great as a right side, row by row: its
+ * comment has both. What a row has over is its left side less its right side, and what the rows have over is the least of these over all
+ * rows: one signed number v, below 2^60 in magnitude. The factor is accepted exactly if v is 0 or more. hb_test_factor and hb_judge write v
+ * to the buffer over, HB_OVER_BYTES = 8 bytes, and hb_load_number(over) reads it.
+ *
+ * Whatever factor R is offered and whichever sign v has,
+ *
+ *     2^32 * x'Mx  >=  v * x'x + |Rx|^2
+ *
+ * for every symmetric matrix M from low to high and every x of n fractions, where |Rx|^2 is the sum of the squares of the entries of Rx. So
+ * v / 2^32 is a lower bound of the stiffness of every such M, which is the least x'Mx over all x with x'x = 1, its smallest eigenvalue: in
+ * no direction is M flatter than that. It is a lower bound and not the stiffness itself, and another factor may give a greater one. A bound
+ * below 0 does not say that M is definite, nor that it is not. To have the bound as a whole number, round v / 2^32 down: C's quotient of a
+ * negative number is rounded up.
+ *
+ * The factor that hb_judge writes has a v of 0 or more. By the rules it is near 2^29 whether the matrices are stiff or not, which is not
+ * proved: docs/FIRMWARE.md says why it is so, and how a factor with a greater v is found.
  *
  * SUMMARY FILES
  *
@@ -105,10 +126,11 @@ extern "C" {
  * pkg-config has it from here. Since 0.2 hb_box has two parameters more, which a linker does not see: header and archive have to be of one
  * version. Since 0.3 there are hb_gather and hb_read_sums, and a summary file has its tags rising (19). Since 0.4 there are hb_write_summary and
  * hb_read_summary. Since 0.5 the halves of low and high may differ, and HB_REFUSED_LOPSIDED refuses only a pair that leaves no number: what
- * 0.4 answers by any number but 5 is answered as before.
+ * 0.4 answers by any number but 5 is answered as before. Since 0.6 hb_judge and hb_test_factor have two parameters more, the buffer over and
+ * its length, which again a linker does not see; all that they answered and wrote before they answer and write as they did.
  */
 #define HB_VERSION_MAJOR 0
-#define HB_VERSION_MINOR 5
+#define HB_VERSION_MINOR 6
 #define HB_VERSION_PATCH 0
 #define HB_VERSION_STRING HB_VERSION_JOINED(HB_VERSION_MAJOR, HB_VERSION_MINOR, HB_VERSION_PATCH)
 #define HB_VERSION_JOINED(major, minor, patch) HB_VERSION_QUOTED(major) "." HB_VERSION_QUOTED(minor) "." HB_VERSION_QUOTED(patch)
@@ -118,8 +140,12 @@ extern "C" {
 #define HB_MAX_ORDER 8
 #define HB_SAMPLE_ORDER 4
 
-/* Bytes of a number; and of order n: of a table or factor; of a vector, of one end of the linear terms or of a centre; of the sides of a box. */
+/*
+ * Bytes of a number; of what the rows have over, at any order; and of order n: of a table or factor; of a vector, of one end of the linear
+ * terms or of a centre; of the sides of a box.
+ */
 #define HB_NUMBER_BYTES 8
+#define HB_OVER_BYTES HB_NUMBER_BYTES
 #define HB_TABLE_BYTES(n) ((size_t)HB_NUMBER_BYTES * (size_t)(n) * (size_t)(n))
 #define HB_VECTOR_BYTES(n) ((size_t)HB_NUMBER_BYTES * (size_t)(n))
 #define HB_SIDES_BYTES(n) ((size_t)2 * HB_NUMBER_BYTES * (size_t)(n))
@@ -145,10 +171,11 @@ extern "C" {
 #define HB_MAX_ALLOWANCE 1099511627776LL
 
 /*
- * The stack that a call needs, in bytes, at any order, its arguments and return address included. Measured and not proved: bench/stack painted the stack
- * below 2000 calls of each function at each order, and what was overwritten is rounded up here by a third or more (docs/FIRMWARE.md has the figures).
- * That is the archive which rattle-kit-5b compiles with LLVM 22 for x86-64, with memcpy and memset of glibc 2.36: with any other compiler or processor,
- * measure again. hb_gather takes order 4 alone, so its depth is that of its calls of order 4. What an interrupt puts on the same stack comes on top.
+ * The stack that a call needs, in bytes, at any order, its arguments and return address included. Measured and not proved: bench/stack
+ * painted the stack below 2000 calls of each function at each order, and what was overwritten is rounded up here by three tenths or more
+ * (docs/FIRMWARE.md has the figures). That is the archive which rattle-kit-5b compiles with LLVM 22 for x86-64, with memcpy and memset of
+ * glibc 2.36: with any other compiler or processor, measure again. hb_gather takes order 4 alone, so its depth is that of its calls of
+ * order 4. What an interrupt puts on the same stack comes on top.
  */
 #define HB_JUDGE_STACK 8192
 #define HB_TEST_FACTOR_STACK 4096
@@ -217,7 +244,8 @@ enum {
 
 /*
  * hb_load_number: the number in 8 bytes, signed, low byte first. hb_store_number: puts a number there. On any processor, at any address. They are
- * for running limits and limits, and for tables and vectors one number after the other: number k of a buffer starts at byte HB_NUMBER_BYTES * k.
+ * for running limits, limits and what the rows have over, and for tables and vectors one number after the other: number k of a buffer starts
+ * at byte HB_NUMBER_BYTES * k.
  */
 static inline int64_t hb_load_number(const uint8_t *bytes)
 {
@@ -245,36 +273,41 @@ static inline void hb_store_number(uint8_t *bytes, int64_t number)
  *                           pair. Their halves may differ: the mended tables count, and low and high are only read
  *   factor                  HB_TABLE_BYTES(n) bytes, written where the answer is HB_DEFINITE and kept as they were where it is any other
  *   vector                  HB_VECTOR_BYTES(n) bytes, written where the answer is HB_NOT_DEFINITE and kept as they were where it is any other
- *   low_len, high_len,      the lengths of the four buffers, in bytes. All four have their full size in every call: which of the two outputs will be
- *   factor_len, vector_len  written is not known before
+ *   over                    HB_OVER_BYTES = 8 bytes, written where factor is, so where the answer is HB_DEFINITE, and kept as they were where it
+ *                           is any other
+ *   low_len, high_len,      the lengths of the five buffers, in bytes. All five have their full size in every call: which of the outputs will
+ *   factor_len,             be written is not known before
+ *   vector_len, over_len
  *
- * The middle of the bounds, less a margin for their width, is factored in whole numbers. Where that ends, the answer is 'definite'. Where it stops,
- * vectors are looked for whose least value (see hb_test_vector) is 0 or less: first all with entries 0, 1 and -1, in a fixed order, then two that are
- * solved for from the columns factored so far. The first found is the answer 'not definite'. Where there is none, the answer is 'undecided'. The same
- * input has the same answer always, and what is written depends on n, low and high alone.
+ * The middle of the bounds, less a margin for their width, is factored in whole numbers. Where that ends, the answer is 'definite', and what
+ * the rows of the factor's residual have over is worked out. Where it stops, vectors are looked for whose least value (see hb_test_vector)
+ * is 0 or less: first all with entries 0, 1 and -1, in a fixed order, then two that are solved for from the columns factored so far. The
+ * first found is the answer 'not definite'. Where there is none, the answer is 'undecided'. The same input has the same answer always, and
+ * what is written depends on n, low and high alone.
  *
  * Returns
  *
  *   HB_DEFINITE          every symmetric matrix from low to high, entry by entry, is positive definite. factor has the Cholesky factor R, scaled by 2^16:
  *                        upper triangular, row by row, 0 below the diagonal, diagonal entries 1 to 2^26, entries above it within +-2^26. hb_test_factor
- *                        accepts it
+ *                        accepts it. over has the number that hb_test_factor gives of it, which is 0 or more: see WHAT THE ROWS HAVE OVER
  *   HB_NOT_DEFINITE      not every one is: vector has a witness vector x, not all zero, entries within +-2^15, and some symmetric matrix M from low to
  *                        high has x'Mx <= 0. hb_test_vector says yes of it
  *   HB_UNDECIDED         neither was shown. Bounds that are close to the edge of definiteness end so, some definite ones among them: 1 3 / 3 10 is one
  *   HB_REFUSED_ORDER     n is not 1 to 8; no length is looked at
- *   HB_REFUSED_LENGTH    a length is not HB_TABLE_BYTES(n), or HB_VECTOR_BYTES(n) for the vector; too long is refused like too short
+ *   HB_REFUSED_LENGTH    a length is not HB_TABLE_BYTES(n), or HB_VECTOR_BYTES(n) for the vector and HB_OVER_BYTES for over; too long is refused
+ *                        like too short
  *   HB_REFUSED_RANGE     an entry of low or high is beyond +-2^20
  *   HB_REFUSED_CROSSED   an entry of low is above its entry of high
  *   HB_REFUSED_LOPSIDED  low(i,j) is above high(j,i) for some i and j: the pair leaves no number
  *
- * and nothing else. What factor and vector hold before the call plays no part.
+ * and nothing else. What factor, vector and over hold before the call plays no part.
  *
  * Buffers: at any address; none overlaps another, but low and high may be the same table. Nothing is allocated. Reentrant.
  * Stack: HB_JUDGE_STACK bytes.
  * Time: the longest calls are those of order 8 in which no vector with entries 0, 1 and -1 is found: all 6560 of them are looked at.
  */
 int64_t hb_judge(int64_t n, const uint8_t *low, size_t low_len, const uint8_t *high, size_t high_len, uint8_t *factor, size_t factor_len,
-                 uint8_t *vector, size_t vector_len);
+                 uint8_t *vector, size_t vector_len, uint8_t *over, size_t over_len);
 
 /*
  * hb_test_factor: does this factor show that every matrix between the bounds is positive definite?
@@ -284,32 +317,37 @@ int64_t hb_judge(int64_t n, const uint8_t *low, size_t low_len, const uint8_t *h
  *                       Their halves may differ: the mended tables count, and low and high are only read
  *   factor              the offered Cholesky factor R, scaled by 2^16: HB_TABLE_BYTES(n) bytes, upper triangular (0 below the diagonal), diagonal
  *                       entries 1 to 2^26, entries above the diagonal within +-2^26
- *   low_len, high_len,  the lengths of the three buffers, in bytes
- *   factor_len
+ *   over                HB_OVER_BYTES = 8 bytes, written where the answer is HB_ACCEPTED and where it is HB_NOT_ACCEPTED, and kept as they were
+ *                       on a refusal
+ *   low_len, high_len,  the lengths of the four buffers, in bytes
+ *   factor_len,
+ *   over_len
  *
  * Let P(i,j) be the sum over k of R(k,i) * R(k,j). The test asks of every row i, with the mended low and high, that
  *
  *     2^32 * low(i,i) - P(i,i)  >=  the sum over j other than i of the greater of |2^32 * low(i,j) - P(i,j)| and |2^32 * high(i,j) - P(i,j)|
  *
- * and accepts the factor exactly where all of them hold.
+ * and accepts the factor exactly where all of them hold. over gets the least, over all rows, of the left side less the right side: a signed
+ * number, 0 or more exactly where the factor is accepted. WHAT THE ROWS HAVE OVER says what it means.
  *
  * Returns
  *
- *   HB_ACCEPTED          it is accepted: every symmetric matrix from low to high, entry by entry, is positive definite
- *   HB_NOT_ACCEPTED      it is not: this factor shows nothing, another one may
+ *   HB_ACCEPTED          it is accepted: every symmetric matrix from low to high, entry by entry, is positive definite. over has 0 or more
+ *   HB_NOT_ACCEPTED      it is not: nothing is said of definiteness, and another factor may be accepted. over has a number below 0
  *   HB_REFUSED_ORDER     n is not 1 to 8; no length is looked at
- *   HB_REFUSED_LENGTH    a length is not HB_TABLE_BYTES(n); too long is refused like too short
+ *   HB_REFUSED_LENGTH    a length is not HB_TABLE_BYTES(n), or HB_OVER_BYTES for over; too long is refused like too short
  *   HB_REFUSED_RANGE     an entry of low or high is beyond +-2^20
  *   HB_REFUSED_CROSSED   an entry of low is above its entry of high
  *   HB_REFUSED_LOPSIDED  low(i,j) is above high(j,i) for some i and j: the pair leaves no number
  *   HB_REFUSED_FACTOR    the factor is not of the form above
  *
- * and nothing else. Nothing is written.
+ * and nothing else. What over holds before the call plays no part.
  *
  * Buffers: at any address; none overlaps another, but low and high may be the same table. Nothing is allocated. Reentrant.
  * Stack: HB_TEST_FACTOR_STACK bytes.
  */
-int64_t hb_test_factor(int64_t n, const uint8_t *low, size_t low_len, const uint8_t *high, size_t high_len, const uint8_t *factor, size_t factor_len);
+int64_t hb_test_factor(int64_t n, const uint8_t *low, size_t low_len, const uint8_t *high, size_t high_len, const uint8_t *factor,
+                       size_t factor_len, uint8_t *over, size_t over_len);
 
 /*
  * hb_test_vector: does this vector show that not every matrix between the bounds is positive definite?
