@@ -57,9 +57,9 @@
  *
  * for every symmetric matrix M from low to high and every x of n fractions, where |Rx|^2 is the sum of the squares of the entries of Rx. So
  * v / 2^32 is a lower bound of the stiffness of every such M, which is the least x'Mx over all x with x'x = 1, its smallest eigenvalue (the
- * step from fractions to all x is by continuity): in no direction is M flatter than that. It is a lower bound and not the stiffness itself, and another factor may give a greater one. A bound
- * below 0 does not say that M is definite, nor that it is not. To have the bound as a whole number, round v / 2^32 down: C's quotient of a
- * negative number is rounded up.
+ * step from fractions to all x is by continuity): in no direction is M flatter than that. It is a lower bound and not the stiffness itself,
+ * and another factor may give a greater one. A bound below 0 does not say that M is definite, nor that it is not. To have the bound as a
+ * whole number, round v / 2^32 down: C's quotient of a negative number is rounded up.
  *
  * The factor that hb_judge writes has a v of 0 or more. By the rules it is from 2^26 to 2^29 + 2^27, and near 2^29 where entries are small,
  * whether the matrices are stiff or not. That is not proved: docs/FIRMWARE.md says why it is so, and how a factor with a greater v is found.
