@@ -32,7 +32,8 @@ fn factor_sizes_ok(n: usize, low: usize, high: usize, factor: usize, over: usize
 // Stores what an answer carries, in a buffer of one number.
 fn store_over(answer: FactorAnswer, over: &mut [u8]) -> FactorAnswer
     requires { ⌜ length (now over) ≡ bytes w64 ⌝ }
-    ensures { λ r. ⌜ _≡_ {A = StoredAnswer} (record { answer = r; over = now (over .exit) }) (storedOver answer (now (over .entry))) ⌝ }
+    ensures { λ r. ⌜ _≡_ {A = StoredAnswer} (record { answer = r; over = now (over .exit) })
+        (storedOver answer (now (over .entry))) ⌝ }
 {
     match answer {
         FactorAnswer::Accepted(v) => {

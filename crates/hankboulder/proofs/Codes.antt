@@ -3,7 +3,7 @@ use mathlib.Core.Path.{_≡_, refl, ap}
 use mathlib.Core.Bool.{true, false≢true}
 use mathlib.Core.List.{List}
 use mathlib.Core.Logic.{inl, inr}
-use Prim.Native.Nat.{ℕ, _^_, _<_}
+use Prim.Native.Nat.{ℕ, _<_}
 use native.Mathlib.Omega.{arith}
 use lib.IntN.{ℤ, pos, natAbs}
 use lib.ListN.{length}
@@ -15,6 +15,7 @@ use Rattle.tables.specs.Answers.{answerCode}
 use Rattle.tables.specs.Refusals.{refusalNumber}
 use Rattle.tables.specs.declared.Answer.the-variants as Answer
 use Rattle.tables.proofs.Answers.{refusal-positive, code-yes, code-no}
+use Rattle.residual.specs.Residual.{overLimit}
 use Rattle.residual.specs.FactorTest as Rule
 use Rattle.residual.specs.FactorTest.{factorTested, factorCode}
 use Rattle.residual.specs.declared.factor_test.FactorAnswer.{FactorAnswer}
@@ -27,9 +28,9 @@ use Rattle.buffers.proofs.Stores.{read-number}
 use Rattle.hankboulder.specs.Entries.{testStored, testFactorEntry, testVectorEntry}
 use Rattle.hankboulder.specs.Meanings.{FactorMeaning, VectorMeaning}
 
--- a number below 2^60 is read back
-read-small : (w : ℤ) → natAbs w < 2 ^ 60 → numberOf (bytesOfNumber w) ≡ w
-read-small w h = let b : Within (2 ^ 60) w = record { size = omega arith } in read-number w (fits-within b (omega arith))
+-- a number below that limit is read back
+read-small : (w : ℤ) → natAbs w < overLimit → numberOf (bytesOfNumber w) ≡ w
+read-small w h = let b : Within overLimit w = record { size = omega arith } in read-number w (fits-within b (omega arith))
 
 module _ (n : ℤ) (l u f : List ℕ) where
   abbrev order : ℕ

@@ -2,7 +2,7 @@
 use mathlib.Core.Path.{_≡_}
 use mathlib.Core.Bool.{true}
 use mathlib.Core.List.{List, List·Memᴰ}
-use Prim.Native.Nat.{ℕ, _*_, _^_, _<_}
+use Prim.Native.Nat.{ℕ, _*_, _<_}
 use lib.IntN.{ℤ, pos, negsuc, _*ℤ_, natAbs}
 use lib.Signed.{_≤ℤ_, _<ℤ_}
 use lib.ListN.{length}
@@ -13,7 +13,7 @@ use Rattle.tables.specs.Checks.{orderOf}
 use Rattle.tables.specs.Entering.{lowBounds, highBounds}
 use Rattle.tables.specs.Problem.{constraintOf, mendedProblem}
 use Rattle.tables.specs.Members.{PositiveDefinite, Margin}
-use Rattle.residual.specs.Residual.{FormBound}
+use Rattle.residual.specs.Residual.{overLimit, FormBound}
 use Rattle.vectors.specs.Least.{shows, Witness}
 use Rattle.verdict.specs.Judge.{listed}
 use Rattle.enclosure.specs.Points.{Allowed, Contains}
@@ -53,7 +53,7 @@ module _ (n : ℤ) (l u : List ℕ) where
     -- -1, it is not: the number is negative
     pub lacking : r ≡ negsuc 0 → numberOf o <ℤ pos 0
     -- no refusal: with v in over, |v| < 2^60, and (D3.8) 2^32 x'Mx ≥ v x'x + |Rx|² for every member M, every x and the factor R
-    pub small : r ≤ℤ pos 0 → natAbs (numberOf o) < 2 ^ 60
+    pub small : r ≤ℤ pos 0 → natAbs (numberOf o) < overLimit
     pub bound : r ≤ℤ pos 0 → FormBound k (at k (tableOf k f)) L U (numberOf o)
 
   -- v: the vector that is offered
@@ -68,7 +68,8 @@ module _ (n : ℤ) (l u : List ℕ) where
     -- 0, definite (D3.2, D3.6): x'Mx > 0 for every member M and every nonzero x, and hb_test_factor accepts the factor that is written,
     -- and writes the number in over to any buffer of its size
     pub definite : r ≡ pos 0 → PositiveDefinite k L U
-    pub accepted : r ≡ pos 0 → (s : List ℕ) → length s ≡ bytes w64 → testFactorEntry n l u f s ≡ record { number = pos 0; over = o }
+    pub accepted : r ≡ pos 0 → (s : List ℕ) → length s ≡ bytes w64 →
+        testFactorEntry n l u f s ≡ record { number = pos 0; over = o }
     -- D3.8: that number, w, is 0 or more, and 2^32 x'Mx ≥ w x'x + |Rx|² for every member M, every x and the factor R that is written
     pub enough : r ≡ pos 0 → pos 0 ≤ℤ numberOf o
     pub bound : r ≡ pos 0 → FormBound k (at k (tableOf k f)) L U (numberOf o)
@@ -77,7 +78,8 @@ module _ (n : ℤ) (l u : List ℕ) where
     pub confirmed : r ≡ negsuc 0 → testVectorEntry n l u v ≡ pos 0
     pub from-list : r ≡ negsuc 0 → List·Memᴰ (vectorOf k v) (listed k L′ U′)
     -- no refusal, and some listed vector shows it: -1 (D2.4)
-    pub exactly : r ≤ℤ pos 0 → (x : List ℤ) → List·Memᴰ x (listed k L′ U′) → shows k L′ U′ (nth x) ≡ true → r ≡ negsuc 0
+    pub exactly : r ≤ℤ pos 0 → (x : List ℤ) → List·Memᴰ x (listed k L′ U′) →
+        shows k L′ U′ (nth x) ≡ true → r ≡ negsuc 0
     -- no refusal, and the margin of R3.5, of the mended tables: 0 (D3.5)
     pub margin : r ≤ℤ pos 0 → Margin k L′ U′ → r ≡ pos 0
 

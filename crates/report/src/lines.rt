@@ -77,8 +77,8 @@ pub fn put_verdict(
     f: &Table,
     x: &Vector,
 ) -> usize
-    requires { ⌜ (n ≤ greatestOrder) × (length (now f) ≡ tableRoom) × (length (now x) ≡ greatestOrder) × (at + verdictRoom ≤ length
-        (now out)) ⌝ }
+    requires { ⌜ (n ≤ greatestOrder) × (length (now f) ≡ tableRoom) × (length (now x) ≡ greatestOrder)
+        × (at + verdictRoom ≤ length (now out)) ⌝ }
     ensures { λ k. ⌜ Put (now (out .entry)) at (verdictText n (statedVerdict n verdict (now (f .entry)) (now (x .entry))))
         verdictRoom k (now (out .exit)) ⌝ }
 {

@@ -1,7 +1,7 @@
 -- Laws of the row test: the radius as the code works it out, what a row has over, and the least over all rows.
 use mathlib.Core.Path.{_≡_, refl, sym, ap, ap₂, _∙_}
 use mathlib.Core.List.{[], _∷_}
-use Prim.Native.Nat.{ℕ, zero, suc, _-_, _≤_, _<_, _^_}
+use Prim.Native.Nat.{ℕ, zero, suc, _-_, _≤_, _<_}
 use native.Mathlib.Omega.{arith}
 use lib.IntN.{ℤ, pos, negℤ, _+ℤ_, _-ℤ_}
 use lib.Signed.{_≤ℤ_, ≤ℤ-refl, leZ}
@@ -18,7 +18,7 @@ use Rattle.integers.proofs.Machine.{within-more, within-neg, within-+, within--
 use Rattle.tables.specs.Matrix.{Matrix}
 use Rattle.tables.specs.Checks.{all}
 use Rattle.tables.proofs.Checks.{all-of, all-at, all-ext, bool-ext, le-of}
-use Rattle.residual.specs.Residual.{radius, rowPasses, rowsPass, rowOver, leastOver}
+use Rattle.residual.specs.Residual.{radius, rowPasses, rowsPass, rowOver, leastOver, overLimit}
 use Rattle.residual.specs.Scratch.{residualRange, overRange, Ranged}
 
 -- ---- the greater of |a| and |b|, for a ≤ b
@@ -138,7 +138,7 @@ module _ {n : ℕ} {A B : Matrix} (r : Ranged n A B) {i : ℕ} (hi : i < n) wher
 pub least-over-within : {n : ℕ} {A B : Matrix} → Ranged n A B → Within overRange (leastOver n A B)
 least-over-within {n} {A} {B} r = over-by n A B (Within overRange) (record { size = omega arith }) (λ i h. row-over-within r h)
 
-pub over-below : overRange < 2 ^ 60
+pub over-below : overRange < overLimit
 over-below = omega arith
 
 -- ---- the rows read the first n rows and columns alone

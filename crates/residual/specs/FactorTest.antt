@@ -4,7 +4,7 @@ use mathlib.Core.Path.{_≡_}
 use mathlib.Core.Bool.{Bool, _&&_, true, false}
 use mathlib.Core.Logic.{_⊎_}
 use mathlib.Core.List.{List, [], _∷_}
-use Prim.Native.Nat.{ℕ, _*_, _^_, _<_, compare, Ordering·lt, Ordering·eq, Ordering·gt}
+use Prim.Native.Nat.{ℕ, _*_, _<_, compare, Ordering·lt, Ordering·eq, Ordering·gt}
 use lib.IntN.{ℤ, pos, negsuc, natAbs}
 use lib.Signed.{_≤ℤ_, _<ℤ_, leZ}
 use lib.ListN.{length}
@@ -16,7 +16,7 @@ use Rattle.tables.specs.Refusals.{refusalNumber}
 use Rattle.tables.specs.Answers.{after}
 use Rattle.tables.specs.Entering.{lowBounds, highBounds, entered}
 use Rattle.tables.specs.declared.Refusal.the-variants.{Factor}
-use Rattle.residual.specs.Residual.{accepts, over, FormBound}
+use Rattle.residual.specs.Residual.{accepts, over, overLimit, FormBound}
 use Rattle.residual.specs.declared.factor_test.FactorAnswer.{FactorAnswer}
 use Rattle.residual.specs.declared.factor_test.FactorAnswer.the-variants as FactorAnswer
 
@@ -80,5 +80,5 @@ module _ (n : ℤ) (l u f : List ℤ) where
     pub enough : (v : ℤ) → r ≡ FactorAnswer.Accepted v → pos 0 ≤ℤ v
     pub lacking : (v : ℤ) → r ≡ FactorAnswer.NotAccepted v → v <ℤ pos 0
     -- either way |v| < 2^60, and (D3.8) 2^32 x'Mx ≥ v x'x + |Rx|² for every member M and every x
-    pub small : (v : ℤ) → Carries r v → natAbs v < 2 ^ 60
+    pub small : (v : ℤ) → Carries r v → natAbs v < overLimit
     pub bound : (v : ℤ) → Carries r v → FormBound k (at k f) (at k l) (at k u) v

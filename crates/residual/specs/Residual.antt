@@ -1,6 +1,6 @@
 -- R7 of docs/RULES.md: the residual of a factor, the row test, a Gerschgorin test of the residual, and what its rows have over.
 use mathlib.Core.Bool.{Bool}
-use Prim.Native.Nat.{ℕ, zero, suc}
+use Prim.Native.Nat.{ℕ, zero, suc, _^_}
 use lib.IntN.{ℤ, pos, _+ℤ_, _-ℤ_, _*ℤ_}
 use lib.Signed.{_≤ℤ_, leZ}
 use Rattle.integers.specs.Numbers.{absℤ, maxℤ, leastOf}
@@ -43,6 +43,10 @@ leastOver (suc m) A B = leastOf m (rowOver (suc m) A B)
 -- of the factor R for the bounds L and U
 unfoldable pub over : ℕ → Matrix → Matrix → Matrix → ℤ
 over n R L U = leastOver n (residual n R L) (residual n R U)
+
+-- it is below this in magnitude
+abbrev pub overLimit : ℕ
+overLimit = 2 ^ 60
 
 -- D3.8: 2^32 x'Mx ≥ v x'x + |Rx|² for every member M = N over q and every x
 pub record FormBound (n : ℕ) (R L U : Matrix) (v : ℤ) : Type 0 where

@@ -39,8 +39,8 @@ pub fn check_entry(n: i64, sized: bool) -> Checked
 // says whether the call's other numbers are in their ranges.
 pub fn check_laid(n: usize, within: bool, l: &mut Table, u: &mut Table) -> Checked
     requires { ⌜ (n ≤ greatestOrder) × (n * n ≤ tableRoom) × Rooms (now l) (now u) ⌝ }
-    ensures { λ r. ⌜ Mended (boundsChecks within n (now (l .entry)) (now (u .entry))) n (now (l .entry)) (now (u .entry)) r (now (l .exit))
-        (now (u .exit)) ⌝ }
+    ensures { λ r. ⌜ Mended (boundsChecks within n (now (l .entry)) (now (u .entry))) n (now (l .entry)) (now (u .entry))
+        r (now (l .exit)) (now (u .exit)) ⌝ }
 {
     mend_bounds(n, within, l, u)
 }

@@ -77,8 +77,8 @@ pub fn decide(
     factor: &mut [i64],
     x: &mut Vector,
 ) -> Verdict
-    requires { ⌜ CheckedTables n (now low) (now high) × Rooms (now low) (now high) × (0 < n) × (n * n ≤ length (now factor)) × (length
-        (now x) ≡ greatestOrder) ⌝ }
+    requires { ⌜ CheckedTables n (now low) (now high) × Rooms (now low) (now high) × (0 < n) × (n * n ≤ length (now factor))
+        × (length (now x) ≡ greatestOrder) ⌝ }
     ensures { λ r. ⌜ Decided (judged n (at n (now (low .entry))) (at n (now (high .entry)))) n r (now (factor .entry)) (now
         (factor .exit)) (now (x .exit)) ⌝ }
 {
@@ -98,8 +98,8 @@ fn judge_bounds(
     factor: &mut [i64],
     vector: &mut [i64],
 ) -> Verdict
-    requires { ⌜ CheckedTables n (now low) (now high) × Rooms (now low) (now high) × (0 < n) × (length (now factor) ≡ n * n) × (length
-        (now vector) ≡ n) ⌝ }
+    requires { ⌜ CheckedTables n (now low) (now high) × Rooms (now low) (now high) × (0 < n) × (length (now factor) ≡ n * n)
+        × (length (now vector) ≡ n) ⌝ }
     ensures { λ r. ⌜ _≡_ {A = Judged} (record { verdict = r; factor = now (factor .exit); vector = now (vector .exit) })
         (written (judged n (at n (now (low .entry))) (at n (now (high .entry)))) (now (factor .entry)) (now (vector .entry))) ⌝ }
 {
