@@ -14,16 +14,15 @@ use Rattle.integers.specs.Sum.{sum}
 use Rattle.integers.proofs.Parts.{≤ℤ-trans}
 use Rattle.integers.proofs.Order.{abs-nonneg, ≤-maxˡ}
 use Rattle.integers.proofs.Machine.{within-more, within-+, within--, within-*, within-sum, fits-within}
-use Rattle.tables.specs.Ranges.{greatestOrder, entryRange, linearRange, limitRange, gradientRange}
+use Rattle.tables.specs.Ranges.{greatestOrder, entryRange, centreRange, linearRange, limitRange, gradientRange}
 use Rattle.tables.specs.Matrix.{at, nth, form}
 use Rattle.tables.specs.Members.{Ends}
 use Rattle.tables.specs.Problem.{endsOf}
 use Rattle.tables.specs.Checks.{all}
 use Rattle.tables.proofs.CheckedTables.{low-within, high-within}
 use Rattle.tables.proofs.Checks.{all-at, le-of}
-use Rattle.vectors.specs.Least.{leastMember, leastValue}
 use Rattle.vectors.specs.LeastShares.{Asked}
-use Rattle.vectors.proofs.Showing.{least-by}
+use Rattle.vectors.proofs.Showing.{least-value-within}
 use Rattle.integers.proofs.Extremes.{within-min}
 use Rattle.arithmetic.proofs.Products.{two-within}
 use Rattle.centre.specs.Centre.{leastSum, lowGradient, gradient, atCentre}
@@ -115,18 +114,6 @@ module _ {n : ℕ} {l u a b c : List ℤ} (q : Centred n l u a b c) where
     entries = λ k h. within-more (omega arith) (q .terms .centre k h);
   }
 
-  member-within : {i j : ℕ} → i < n → j < n → Within entryRange (leastMember (at n l) (at n u) (nth c) i j)
-  member-within {i} {j} h k =
-      let low = low-within (q .tables) h k in
-      least-by (at n l) (at n u) (nth c) i j (Within entryRange) (λ e. low) (λ d p. low) (λ d p. high-within (q .tables) h k)
-
-  least-value-within : Within (greatestOrder * (greatestOrder * formTermRange)) (leastValue n (at n l) (at n u) (nth c))
-  unfolding leastValue form
-  least-value-within =
-      within-more (omega (arith, q .tables .order))
-      (within-sum n (greatestOrder * formTermRange) _ (λ i h. within-more (omega (arith, q .tables .order))
-      (within-sum n formTermRange _ (λ j k. within-* (within-* (q .terms .centre i h) (member-within h k)) (q .terms .centre j k)))))
-
   twice-within : Within (2 * (greatestOrder * linearTermRange)) (pos 2 *ℤ leastSum n (nth a) (nth b) (nth c))
   twice-within = within-* two-within (least-sum-within (q .terms) n (omega arith))
 
@@ -142,7 +129,7 @@ module _ {n : ℕ} {l u a b c : List ℤ} (q : Centred n l u a b c) where
 
     pub centre-within : Within (limitRange + 2 * (greatestOrder * linearTermRange) + greatestOrder * (greatestOrder * formTermRange)) (atCentre n (at n l) (at n u) (endsOf a b) (nth c) α)
     unfolding atCentre
-    centre-within = within-- limit-within least-value-within
+    centre-within = within-- limit-within (least-value-within (q .tables .bounds) (nth c) (q .tables .order) centreRange (q .terms .centre))
 
 -- a gradient is not negative
 pub gradient-nonneg : (n : ℕ) (L U : ℕ → ℕ → ℤ) (a : Ends) (c : ℕ → ℤ) (k : ℕ) → pos 0 ≤ℤ gradient n L U a c k

@@ -1,15 +1,15 @@
 -- Orders of products, squares, absolute values, and of the smaller and the greater of two integers.
 use mathlib.Core.Path.{_≡_, refl}
 use mathlib.Core.Bool.{Bool, true, false}
-use mathlib.Core.Logic.{_⊎_, inl, inr, ⊎-elim}
+use mathlib.Core.Logic.{_≢_, _⊎_, inl, inr, ⊎-elim}
 use mathlib.Core.List.{[], _∷_}
 use Prim.Native.Nat.{zero, suc}
 use native.Mathlib.Omega.{arith}
 use lib.Dec.{T}
-use lib.IntN.{ℤ, pos, negsuc, negℤ, _+ℤ_, _*ℤ_}
+use lib.IntN.{ℤ, pos, negsuc, negℤ, _+ℤ_, _-ℤ_, _*ℤ_}
 use lib.Signed.{_≤ℤ_, _<ℤ_, leZ, ≤ℤ-refl}
 use Rattle.integers.specs.Numbers.{absℤ, minℤ, maxℤ}
-use Rattle.integers.proofs.Parts.{≤-in, ≤ℤ-or-<ℤ, ≤ℤ-trans, *ℤ-nonneg, gap-nonneg, pos-nonneg}
+use Rattle.integers.proofs.Parts.{≤-in, ≤ℤ-or-<ℤ, ≤ℤ-trans, ≤ℤ-antisym, *ℤ-nonneg, square-nonneg, gap-nonneg, pos-nonneg}
 use Rattle.integers.proofs.Solver.{_&_, order, solver}
 
 -- x lies from a to b
@@ -53,6 +53,15 @@ square-cancel {x} {y} h k =
     ≤-unless (λ e.
     let s : y ≤ℤ (x +ℤ y) = order (x ∷ y ∷ []) (e & h) (search solver depth 40 fits 20000) (omega arith) in
     order (x ∷ y ∷ []) (*ℤ-nonneg (gap-nonneg (<-suc e)) (≤ℤ-trans h s) & h & k & e) (search solver depth 40 fits 20000) (omega arith))
+
+-- a whole number but 0 has a square from 1 up
+pub square-positive : {x : ℤ} → x ≢ pos 0 → pos 1 ≤ℤ (x *ℤ x)
+square-positive {x} h = go (≤ℤ-or-<ℤ x (pos 0)) (≤ℤ-or-<ℤ (pos 0) x)
+  where
+    go : (x ≤ℤ pos 0) ⊎ (pos 0 <ℤ x) → (pos 0 ≤ℤ x) ⊎ (x <ℤ pos 0) → pos 1 ≤ℤ (x *ℤ x)
+    go (inr p) q = order (x ∷ []) (square-nonneg (x -ℤ pos 1) & p) (search solver depth 40 fits 20000) (omega arith)
+    go (inl p) (inr q) = order (x ∷ []) (square-nonneg (x +ℤ pos 1) & q) (search solver depth 40 fits 20000) (omega arith)
+    go (inl p) (inl q) = absurd (h (≤ℤ-antisym p q))
 
 -- ---- the absolute value
 pub abs-nonneg : (x : ℤ) → pos 0 ≤ℤ absℤ x

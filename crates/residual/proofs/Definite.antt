@@ -1,23 +1,23 @@
 -- D3.8 and D3.1 of docs/RULES.md: what the rows of a residual have over bounds the forms of all members from below; and where the residual
 -- test accepts an upper triangular matrix, from any source, x'Mx > 0 for all members M and all x but 0. For any order n.
 use mathlib.Core.Path.{_≡_, sym, ap, ap₂, _∙_}
-use mathlib.Core.Logic.{_≢_, _⊎_, inl, inr}
+use mathlib.Core.Logic.{_≢_}
 use mathlib.Core.List.{[], _∷_}
 use Prim.Native.Nat.{ℕ, zero, suc, _≤_, _<_}
 use native.Mathlib.Omega.{arith}
 use lib.Dec.{T}
-use lib.IntN.{ℤ, pos, negℤ, _+ℤ_, _-ℤ_, _*ℤ_, ℤ-discrete, *ℤ-zero, zero-*ℤ, +ℤ-idr}
-use lib.Signed.{_≤ℤ_, _<ℤ_}
+use lib.IntN.{ℤ, pos, negℤ, _+ℤ_, _*ℤ_, ℤ-discrete, *ℤ-zero, zero-*ℤ, +ℤ-idr}
+use lib.Signed.{_≤ℤ_}
 use Rattle.integers.specs.Numbers.{absℤ}
-use Rattle.integers.specs.Sum.{sum, sumExcept}
-use Rattle.integers.proofs.Parts.{≤ℤ-or-<ℤ, ≤ℤ-antisym, ≤ℤ-trans, square-nonneg, pos-nonneg}
+use Rattle.integers.specs.Sum.{sumExcept}
+use Rattle.integers.proofs.Parts.{≤ℤ-trans, pos-nonneg}
 use Rattle.integers.proofs.Solver.{_&_, order, solver}
-use Rattle.integers.proofs.Order.{product-mono, *ℤ-mono, ≤-abs, neg-≤-abs, abs-≤, ≤-maxˡ, ≤-maxʳ}
-use Rattle.integers.proofs.Sums.{sum-suc, sum-ext, sum-single, sum-nonneg, sumExcept-mono, sumExcept-*}
+use Rattle.integers.proofs.Order.{product-mono, *ℤ-mono, square-positive, ≤-abs, neg-≤-abs, abs-≤, ≤-maxˡ, ≤-maxʳ}
+use Rattle.integers.proofs.Sums.{sum-suc, sum-single, sumExcept-mono, sumExcept-*}
 use Rattle.tables.specs.Matrix.{Matrix, form, image, normSquared, gram}
 use Rattle.tables.specs.Members.{Member, Nonzero, PositiveDefinite}
 use Rattle.tables.proofs.Checks.{true-of, all-at, le-of}
-use Rattle.tables.proofs.Forms.{form-+, form-*, gram-symmetric, form-gram}
+use Rattle.tables.proofs.Forms.{form-+, form-*, gram-symmetric, form-gram, norm-positive}
 use Rattle.tables.proofs.Dominance.{Dominant, dominant-above}
 use Rattle.tables.proofs.Triangular.{UpperTriangular}
 use Rattle.cholesky.specs.Scale.{scale}
@@ -27,53 +27,36 @@ use Rattle.residual.proofs.Rows.{row-passes, least-over-≤}
 pub upper-prefix : {m n : ℕ} {R : Matrix} → m ≤ n → UpperTriangular n R → UpperTriangular m R
 upper-prefix h up = record { below = λ i j k l. up .below i j k (omega arith); diagonal = λ j k. up .diagonal j (omega arith) }
 
--- ---- |Rx|² ≥ 1 for a nonzero x: at the last index k with x(k) ≠ 0, entry k of Rx is R(k,k) x(k)
-square-positive : {x : ℤ} → x ≢ pos 0 → pos 1 ≤ℤ (x *ℤ x)
-square-positive {x} h = go (≤ℤ-or-<ℤ x (pos 0)) (≤ℤ-or-<ℤ (pos 0) x)
+-- ---- Rx is nonzero for a nonzero x: at the last index k with x(k) ≠ 0, entry k of Rx is R(k,k) x(k)
+image-nonzero : (n : ℕ) (R : Matrix) → UpperTriangular n R → (x : ℕ → ℤ) → Nonzero n x → Nonzero n (image n R x)
+unfolding image
+image-nonzero zero R up x z = absurd (omega (arith, z .inside))
+image-nonzero (suc n) R up x z =
+    go (ℤ-discrete (x n) (pos 0)) (image-nonzero n R (upper-prefix (omega arith) up) x)
   where
-    go : (x ≤ℤ pos 0) ⊎ (pos 0 <ℤ x) → (pos 0 ≤ℤ x) ⊎ (x <ℤ pos 0) → pos 1 ≤ℤ (x *ℤ x)
-    go (inr p) q = order (x ∷ []) (square-nonneg (x -ℤ pos 1) & p) (search solver depth 40 fits 20000) (omega arith)
-    go (inl p) (inr q) = order (x ∷ []) (square-nonneg (x +ℤ pos 1) & q) (search solver depth 40 fits 20000) (omega arith)
-    go (inl p) (inl q) = absurd (h (≤ℤ-antisym p q))
-
-norm-positive : (n : ℕ) (R : Matrix) → UpperTriangular n R → (x : ℕ → ℤ) → Nonzero n x → pos 1 ≤ℤ normSquared n (image n R x)
-unfolding normSquared image
-norm-positive zero R up x z = absurd (omega (arith, z .inside))
-norm-positive (suc n) R up x z =
-    go (ℤ-discrete (x n) (pos 0)) (norm-positive n R (upper-prefix (omega arith) up) x)
-  where
-    squares : ℕ → ℤ
-    squares k = image (suc n) R x k *ℤ image (suc n) R x k
-
-    go : Dec (x n ≡ pos 0) → (Nonzero n x → pos 1 ≤ℤ normSquared n (image n R x)) → pos 1 ≤ℤ sum (suc n) squares
+    go : Dec (x n ≡ pos 0) → (Nonzero n x → Nonzero n (image n R x)) → Nonzero (suc n) (image (suc n) R x)
     go (yes e) ih =
-        order (sum (suc n) squares ∷ sum n squares ∷ normSquared n (image n R x) ∷ image (suc n) R x n ∷ [])
-        (ih (record { index = z .index; inside = inside; differs = z .differs })
-        & sum-suc n squares & shorter & square-nonneg (image (suc n) R x n)) (search solver depth 40 fits 20000) (omega arith)
+        let w = ih (record { index = z .index; inside = inside; differs = z .differs }) in
+        record { index = w .index; inside = omega (arith, w .inside); differs = λ q. w .differs (sym (same (w .index)) ∙ q) }
       where
         inside : z .index < n
         inside = let d : z .index ≢ n = λ q. z .differs (ap x q ∙ e) in omega (arith, z .inside)
 
         same : (k : ℕ) → image (suc n) R x k ≡ image n R x k
         same k = sum-suc n _ ∙ rw (e, *ℤ-zero (R k n)) (+ℤ-idr _)
-
-        shorter : sum n squares ≡ normSquared n (image n R x)
-        shorter = sum-ext n _ _ (λ k h. ap (λ (u : ℤ). u *ℤ u) (same k))
-    go (no e) ih =
-        order (sum (suc n) squares ∷ sum n squares ∷ R n n ∷ x n ∷ [])
-        (rw last at (sum-suc n squares) & sum-nonneg n squares (λ k h. square-nonneg (image (suc n) R x k)) & positive)
-        (search solver depth 40 fits 20000) (omega arith)
+    go (no e) ih = record { index = n; inside = omega arith; differs = λ q. absurd (none q .le) }
       where
         last : image (suc n) R x n ≡ R n n *ℤ x n
         last =
             sum-single (suc n) n (λ i. R n i *ℤ x i) (omega arith)
             (λ i h d. rw (up .below n i (omega arith) (omega arith)) (zero-*ℤ (x i)))
 
-        positive : pos 1 ≤ℤ ((R n n *ℤ R n n) *ℤ (x n *ℤ x n))
-        positive =
+        none : image (suc n) R x n ≡ pos 0 → pos 1 ≤ℤ pos 0
+        none q =
             let p = pos-nonneg 1 in
             let r = up .diagonal n (omega arith) in
-            product-mono p p (product-mono p p r r) (square-positive e)
+            order (R n n ∷ x n ∷ []) (product-mono p p (product-mono p p r r) (square-positive e) & ap (λ (z : ℤ). z *ℤ z) (sym last ∙ q))
+            (search solver depth 40 fits 20000) (omega arith)
 
 -- ---- a member N over q: the diagonal of the residual F = 2^32 N - q P has q v over the rest of each row, where no row has less than v over
 module _ (n : ℕ) (R L U : Matrix) (v : ℤ) (least : (i : ℕ) → i < n → v ≤ℤ rowOver n (residual n R L) (residual n R U) i) where
@@ -143,7 +126,7 @@ unfolding accepts rowsPass
 accepted-definite n R L U t up = record {
   positive = λ N q m x z.
       order (form n N x ∷ q ∷ normSquared n x ∷ normSquared n (image n R x) ∷ [])
-      (none-lacking .bound N q m x & product-mono (pos-nonneg 1) (pos-nonneg 1) (m .whole) (norm-positive n R up x z))
+      (none-lacking .bound N q m x & product-mono (pos-nonneg 1) (pos-nonneg 1) (m .whole) (norm-positive (image-nonzero n R up x z)))
       (search solver depth 40 fits 20000) (omega arith);
 }
   where

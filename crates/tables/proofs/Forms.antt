@@ -1,13 +1,17 @@
--- Double sums, and the quadratic forms x'Mx, for any order n.
+-- Double sums, the quadratic forms x'Mx, and x'x, for any order n.
 use mathlib.Core.Path.{_≡_, refl, sym, ap, ap₂, _∙_}
 use mathlib.Core.List.{[], _∷_}
 use Prim.Native.Nat.{ℕ, suc, _≤_, _<_}
 use native.Mathlib.Omega.{arith}
 use lib.IntN.{ℤ, pos, _+ℤ_, _*ℤ_, *ℤ-zero, *ℤ-comm}
+use lib.Signed.{_≤ℤ_}
 use Rattle.integers.specs.Sum.{sum}
+use Rattle.integers.proofs.Parts.{≤ℤ-trans, square-nonneg}
 use Rattle.integers.proofs.Solver.{_&_, ring, order, solver}
-use Rattle.integers.proofs.Sums.{sum-suc, sum-ext, sum-none, sum-+, sum-*, sum-*ʳ, sum-swap, sum-product, sum-prefix}
+use Rattle.integers.proofs.Order.{square-positive}
+use Rattle.integers.proofs.Sums.{sum-suc, sum-ext, sum-none, sum-+, sum-*, sum-*ʳ, sum-swap, sum-product, sum-prefix, term-≤-sum}
 use Rattle.tables.specs.Matrix.{Matrix, form, image, normSquared, gram}
+use Rattle.tables.specs.Members.{Nonzero}
 
 -- ---- double sums
 module _ (n : ℕ) where
@@ -62,6 +66,12 @@ form-gram n R x =
     ∙ sum-ext n _ _ (λ i h. sum-swap n n (λ j k. (R k i *ℤ x i) *ℤ (R k j *ℤ x j)))
     ∙ sum-swap n n (λ i k. sum n (λ j. (R k i *ℤ x i) *ℤ (R k j *ℤ x j)))
     ∙ sum-ext n _ _ (λ k h. sym (sum-product n n (λ i. R k i *ℤ x i) (λ j. R k j *ℤ x j)))
+
+-- ---- x'x ≥ 1 for a nonzero x of whole numbers
+pub norm-positive : {n : ℕ} {x : ℕ → ℤ} → Nonzero n x → pos 1 ≤ℤ normSquared n x
+unfolding normSquared
+norm-positive {n} {x} z =
+    ≤ℤ-trans (square-positive (z .differs)) (term-≤-sum n (z .index) (λ i. x i *ℤ x i) (z .inside) (λ i h. square-nonneg (x i)))
 
 -- ---- a form at v + p c: v'Mv + 2 p (Mc)'v + p² c'Mc
 module _ (n : ℕ) (M : Matrix) (v c : ℕ → ℤ) (p : ℤ) (symmetric : (i j : ℕ) → i < n → j < n → M i j ≡ M j i) where

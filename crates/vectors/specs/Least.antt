@@ -1,10 +1,10 @@
--- R8 of docs/RULES.md: the least value of a vector, and which vectors show 'not definite'.
+-- R8 and R26.1 of docs/RULES.md: the least value of a vector, which vectors show 'not definite', and which are under a number.
 use mathlib.Core.Bool.{Bool, true, false, not, _&&_, _||_}
 use Prim.Native.Nat.{ℕ}
 use lib.Dec.{eqb}
 use lib.IntN.{ℤ, pos, _*ℤ_}
 use lib.Signed.{_≤ℤ_, leZ, ltZ}
-use Rattle.tables.specs.Matrix.{Matrix, form}
+use Rattle.tables.specs.Matrix.{Matrix, form, normSquared}
 use Rattle.tables.specs.Members.{Member, Nonzero}
 use Rattle.tables.specs.Checks.{all, same}
 
@@ -30,3 +30,15 @@ pub record Witness (n : ℕ) (L U : Matrix) (x : ℕ → ℤ) : Type 0 where
   pub denominator : ℤ
   pub member : Member n L U matrix denominator
   pub low : form n matrix x ≤ℤ pos 0
+
+-- R26.1: x is under w, being nonzero with a least value of at most w·x'x. Under 0 is what shows 'not definite'
+unfoldable pub under : ℕ → Matrix → Matrix → ℤ → (ℕ → ℤ) → Bool
+under n L U w x = nonzero n x && leZ (leastValue n L U x) (w *ℤ normSquared n x)
+
+-- a witness vector at w: x is nonzero, and some member M has x'Mx ≤ w·x'x. At 0 that is `Witness`
+pub record WitnessAt (n : ℕ) (L U : Matrix) (w : ℤ) (x : ℕ → ℤ) : Type 0 where
+  pub differs : Nonzero n x
+  pub matrix : Matrix
+  pub denominator : ℤ
+  pub member : Member n L U matrix denominator
+  pub low : form n matrix x ≤ℤ (denominator *ℤ w *ℤ normSquared n x)
