@@ -24,11 +24,11 @@ use Rattle.tables.specs.Checks.{all}
 use Rattle.tables.specs.declared.Refusal.the-variants.{Flat, Far}
 use Rattle.tables.proofs.Matrix.{nth-tabulate}
 use Rattle.steps.specs.Steps.{step, stepAt}
+use Rattle.steps.proofs.Strong.{step-strong, step-at-strong}
 use Rattle.centre.specs.Centre.{gradient, atCentre}
 use Rattle.sides.specs.Sides.{bound, secondBound, halfSide, sidesFrom, boxOf}
 use Rattle.enclosure.specs.Box.{Box, sides, empty, refused, boxed}
 use Rattle.enclosure.specs.Points.{Point, Contains}
-use Rattle.enclosure.proofs.Strong.{step-strong, step-at-strong}
 use Rattle.enclosure.proofs.AtCentre.{offset, from-offset, around}
 use Rattle.centre.proofs.Magnitudes.{gradient-nonneg}
 use Rattle.enclosure.proofs.Halves.{Near, one-of, bound-nonneg, second-bound-nonneg, half-side}

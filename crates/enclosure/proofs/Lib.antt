@@ -1,4 +1,3 @@
-pub mod Strong
 pub mod AtCentre
 pub mod EqualEnds
 pub mod Halves

@@ -1,5 +1,5 @@
 -- The bits of a step: each is added or left.
-use mathlib.Core.Path.{_≡_, refl, ap, ap₂, _∙_}
+use mathlib.Core.Path.{_≡_, refl, sym, ap, ap₂, _∙_, subst}
 use mathlib.Core.Bool.{Bool, true, false}
 use mathlib.Core.Logic.{_⊎_, inl, inr}
 use mathlib.Core.List.{[], _∷_}
@@ -9,7 +9,8 @@ use native.Mathlib.Nat.{pow-suc}
 use lib.Pow.{pow-pos}
 use lib.IntN.{ℤ, pos, _+ℤ_, _-ℤ_}
 use lib.Signed.{_≤ℤ_, _<ℤ_}
-use Rattle.integers.proofs.Parts.{≤-in, ≤ℤ-or-<ℤ, pos-nonneg}
+use borrow.Table.Steps.{cases}
+use Rattle.integers.proofs.Parts.{≤-in, ≤ℤ-or-<ℤ, +ℤ-mono, pos-nonneg}
 use Rattle.integers.proofs.Solver.{_&_, order, ring, solver}
 use Rattle.steps.specs.Steps.{bits}
 
@@ -48,6 +49,15 @@ bits-none p zero t h f = refl
 bits-none p (suc b) t h f =
     bits-left p b t (f (t +ℤ pos (2 ^ b)) (order (t ∷ pos (2 ^ b) ∷ []) (h & pos-nonneg (2 ^ b)) (search solver depth 40 fits 20000) (omega arith)))
     ∙ bits-none p b t h f
+
+-- what holds of t and of each number that passes holds of the number that the bits make
+pub bits-by : (p : ℤ → Bool) (P : ℤ → Type 0) → ((t : ℤ) → pos 0 ≤ℤ t → p t ≡ true → P t) → (b : ℕ) (t : ℤ) → pos 0 ≤ℤ t → P t → P (bits p b t)
+unfolding bits
+bits-by p P f zero t h s = s
+bits-by p P f (suc b) t h s =
+    let more : pos 0 ≤ℤ (t +ℤ pos (2 ^ b)) = +ℤ-mono h (pos-nonneg (2 ^ b)) in
+    cases (p (t +ℤ pos (2 ^ b))) (λ e. subst P (sym (bits-more p b t e)) (bits-by p P f b (t +ℤ pos (2 ^ b)) more (f _ more e)))
+    (λ e. subst P (sym (bits-left p b t e)) (bits-by p P f b t h s))
 
 -- where exactly the numbers up to m pass, the bits make m, or the greatest number that b bits make
 module _ (p : ℤ → Bool) (m : ℤ) (yes : (t : ℤ) → t ≤ℤ m → p t ≡ true) (no : (t : ℤ) → m <ℤ t → p t ≡ false) where

@@ -4,3 +4,4 @@ pub mod Diagonals
 pub mod Searches
 pub mod Trials
 pub mod Walked
+pub mod Strong
