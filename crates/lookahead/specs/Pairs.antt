@@ -27,9 +27,17 @@ more T d p k = p k +ℤ T d k
 abbrev pub pairRange : ℕ
 pairRange = 2 * entryRange
 
+-- the numbers that vectors are asked to be under (R26.1): no vector is under the least of them
+abbrev pub underRange : ℕ
+underRange = greatestOrder * entryRange + 1
+
+-- such a number is taken off each diagonal entry
+abbrev pub diagonalRange : ℕ
+diagonalRange = entryRange + underRange
+
 -- an open entry would add, after d entries, its diagonal entry, and what it adds with each of them
 abbrev pub openRange : ℕ → ℕ
-openRange d = entryRange + d * pairRange
+openRange d = diagonalRange + d * pairRange
 
 -- what an entry adds, and what all add, whatever is chosen
 abbrev pub shareRange : ℕ

@@ -1,5 +1,5 @@
--- The search finds the first tried vector that shows 'not definite': with the entries before d chosen, the sum is their least value, and each
--- open entry has the share that it would add.
+-- The search finds the first tried vector that is under w: with the entries before d chosen, the sum is their least value less w times their
+-- squares, and each open entry has the share that it would add.
 use mathlib.Core.Path.{_≡_, refl, sym, ap, ap₂, _∙_}
 use mathlib.Core.Bool.{Bool, true, false}
 use mathlib.Core.List.{List, [], _∷_, _++_, map, append-nil, append-assoc}
@@ -7,19 +7,20 @@ use mathlib.Core.Option.{Option, none, some}
 use Prim.Native.Nat.{ℕ, zero, suc, _+_, _≤_, _<_}
 use native.Mathlib.Omega.{arith}
 use native.Mathlib.Numerals.{add-one}
-use lib.IntN.{ℤ, pos, negsuc, negℤ, natAbs, _+ℤ_, _*ℤ_, +ℤ-idr, zero-*ℤ}
+use lib.IntN.{ℤ, pos, negsuc, negℤ, natAbs, _+ℤ_, _-ℤ_, _*ℤ_, +ℤ-idr, zero-*ℤ}
 use lib.Signed.{leZ}
 use lib.ListN.{length, length-append, List·getD-append, List·getD-map}
 use lib.Seq.{getD-append-seam}
 use Rattle.integers.specs.Sum.{sum}
+use Rattle.integers.proofs.Parts.{leZ-true}
 use Rattle.integers.proofs.Solver.{ring, order, solver}
-use Rattle.integers.proofs.Sums.{sum-zero, sum-suc, sum-ext, sum-none}
-use Rattle.tables.specs.Matrix.{Matrix, at, nth}
+use Rattle.integers.proofs.Sums.{sum-zero, sum-suc, sum-ext, sum-none, sum-+, sum-*}
+use Rattle.tables.specs.Matrix.{Matrix, at, nth, normSquared}
 use Rattle.tables.specs.Bounds.{Bounds}
 use Rattle.tables.specs.Checks.{same}
-use Rattle.tables.proofs.Checks.{all-of, same-true}
+use Rattle.tables.proofs.Checks.{all-of, same-true, bool-ext, le-of}
 use Rattle.tables.proofs.Matrix.{nth-padded}
-use Rattle.vectors.specs.Least.{leastValue, nonzero, shows}
+use Rattle.vectors.specs.Least.{leastValue, nonzero, under}
 use Rattle.vectors.specs.LeastShares.{leastTerm, leastPair, leastRow, leastShare}
 use Rattle.vectors.proofs.Values.{shares-add}
 use Rattle.vectors.proofs.Showing.{nonzero-true}
@@ -27,7 +28,7 @@ use Rattle.lookahead.specs.Pairs.{more}
 use Rattle.tried.specs.Tried.{tried, first}
 use Rattle.tried.specs.Search.{front, orElse, reached, seek, seekHalf}
 use Rattle.tried.proofs.TriedList.{first-ext, tried-zero, tried-suc, part, first-negated}
-use Rattle.tried.proofs.Negated.{shows-negated}
+use Rattle.tried.proofs.Negated.{under-negated}
 
 -- ---- a pair of entries that are 0, 1 or -1
 term-zero : (l u : ℤ) → leastTerm l u (pos 0) ≡ pos 0
@@ -68,13 +69,20 @@ opposite (a ∷ xs) z y (suc i) = opposite xs (λ j. z (suc j)) y i
 abbrev pub times : ℤ → Matrix → Matrix
 times c T i j = c *ℤ T i j
 
+-- a - w·b ≤ 0 is a ≤ w·b
+le-moved : (a w b : ℤ) → leZ (a +ℤ negℤ w *ℤ b) (pos 0) ≡ leZ a (w *ℤ b)
+le-moved a w b =
+    bool-ext (leZ (a +ℤ negℤ w *ℤ b) (pos 0)) (leZ a (w *ℤ b))
+    (λ e. leZ-true {x = a} {y = w *ℤ b} (order (a ∷ w ∷ b ∷ []) (le-of (a +ℤ negℤ w *ℤ b) (pos 0) e) (search solver depth 40 fits 20000) (omega arith)))
+    (λ e. leZ-true {x = a +ℤ negℤ w *ℤ b} {y = pos 0} (order (a ∷ w ∷ b ∷ []) (le-of a (w *ℤ b) e) (search solver depth 40 fits 20000) (omega arith)))
+
 one-not-zero : pos 1 ≡ pos 0 → ⊥
 one-not-zero e = let z : _≡_ {A = ℕ} 1 0 = ap natAbs e in absurd (omega arith)
 
-module _ (n : ℕ) (l u : List ℤ) where
+module _ (n : ℕ) (l u : List ℤ) (w : ℤ) where
   -- what entry i would add if it were e, to the entries xs before it
   unfoldable openShare : List ℤ → ℕ → ℤ → ℤ
-  openShare xs i e = pos 2 *ℤ sum (length xs) (λ j. leastTerm (at n l i j) (at n u i j) (e *ℤ nth xs j)) +ℤ at n l i i *ℤ (e *ℤ e)
+  openShare xs i e = pos 2 *ℤ sum (length xs) (λ j. leastTerm (at n l i j) (at n u i j) (e *ℤ nth xs j)) +ℤ (at n l i i -ℤ w) *ℤ (e *ℤ e)
 
   openShare-more : (xs : List ℤ) (a : ℤ) (i : ℕ) (e : ℤ) →
       openShare (xs ++ (a ∷ [])) i e ≡ openShare xs i e +ℤ pos 2 *ℤ leastTerm (at n l i (length xs)) (at n u i (length xs)) (e *ℤ a)
@@ -85,24 +93,35 @@ module _ (n : ℕ) (l u : List ℤ) where
       let s : sum (length (xs ++ (a ∷ []))) (λ j. t (nth (xs ++ (a ∷ [])) j) j) ≡ sum d (λ j. t (nth xs j) j) +ℤ t a d =
       rw (length-more xs a)
       (sum-suc d _ ∙ ap₂ (λ (x y : ℤ). x +ℤ y) (sum-ext d _ _ (λ j h. ap (λ (z : ℤ). t z j) (before xs a j h))) (ap (λ (z : ℤ). t z d) (last xs a))) in
-      rw s (ring (sum d (λ j. t (nth xs j) j) ∷ t a d ∷ at n l i i ∷ e ∷ []) (search solver depth 40 fits 20000) refl)
+      rw s (ring (sum d (λ j. t (nth xs j) j) ∷ t a d ∷ at n l i i ∷ w ∷ e ∷ []) (search solver depth 40 fits 20000) refl)
 
   zero-share : (xs : List ℤ) (i : ℕ) → openShare xs i (pos 0) ≡ pos 0
   unfolding openShare
   zero-share xs i =
       rw (sum-none (length xs) _ (λ j h. ap (leastTerm (at n l i j) (at n u i j)) (zero-*ℤ (nth xs j)) ∙ term-zero (at n l i j) (at n u i j)))
-      (ring (at n l i i ∷ []) (search solver depth 40 fits 20000) refl)
+      (ring (at n l i i ∷ w ∷ []) (search solver depth 40 fits 20000) refl)
 
-  -- a share, by the entries of the vector up to its own
+  -- what entry i adds to the least value of those before it, less w times its square
+  unfoldable loweredShare : List ℤ → ℕ → ℤ
+  loweredShare v i = leastShare n l u v i +ℤ negℤ w *ℤ (nth v i *ℤ nth v i)
+
+  -- by the entries of the vector up to its own
   share-by : (v : List ℤ) (i : ℕ) (e : ℤ) (f : ℕ → ℤ) → nth v i ≡ e → ((j : ℕ) → j < i → nth v j ≡ f j) →
-      leastShare n l u v i ≡ pos 2 *ℤ sum i (λ j. leastTerm (at n l i j) (at n u i j) (e *ℤ f j)) +ℤ at n l i i *ℤ (e *ℤ e)
-  unfolding leastShare leastRow leastPair
+      loweredShare v i ≡ pos 2 *ℤ sum i (λ j. leastTerm (at n l i j) (at n u i j) (e *ℤ f j)) +ℤ (at n l i i -ℤ w) *ℤ (e *ℤ e)
+  unfolding loweredShare leastShare leastRow leastPair
   share-by v i e f h g =
-      ap₂ (λ (x y : ℤ). pos 2 *ℤ x +ℤ at n l i i *ℤ y)
+      let s : ℤ = sum i (λ j. leastTerm (at n l i j) (at n u i j) (e *ℤ f j)) in
+      ap₂ (λ (x y : ℤ). pos 2 *ℤ x +ℤ at n l i i *ℤ y +ℤ negℤ w *ℤ y)
       (sum-ext i _ _ (λ j k. ap₂ (λ (x y : ℤ). leastTerm (at n l i j) (at n u i j) (x *ℤ y)) h (g j k))) (ap₂ (λ (x y : ℤ). x *ℤ y) h h)
+      ∙ ring (s ∷ at n l i i ∷ w ∷ e ∷ []) (search solver depth 40 fits 20000) refl
+
+  -- all of them add up to the least value, less w·x'x
+  shares-sum : (k : ℕ) (v : List ℤ) → sum k (loweredShare v) ≡ sum k (leastShare n l u v) +ℤ negℤ w *ℤ normSquared k (nth v)
+  unfolding loweredShare normSquared
+  shares-sum k v = sum-+ k _ _ ∙ ap (λ (z : ℤ). sum k (leastShare n l u v) +ℤ z) (sum-* k (negℤ w) (λ i. nth v i *ℤ nth v i))
 
   -- the entry after xs adds its share, and those before keep theirs
-  sum-more : (xs : List ℤ) (a : ℤ) → sum (length (xs ++ (a ∷ []))) (leastShare n l u (xs ++ (a ∷ []))) ≡ sum (length xs) (leastShare n l u xs) +ℤ openShare xs (length xs) a
+  sum-more : (xs : List ℤ) (a : ℤ) → sum (length (xs ++ (a ∷ []))) (loweredShare (xs ++ (a ∷ []))) ≡ sum (length xs) (loweredShare xs) +ℤ openShare xs (length xs) a
   unfolding openShare
   sum-more xs a =
       rw (length-more xs a)
@@ -113,7 +132,7 @@ module _ (n : ℕ) (l u : List ℤ) where
 
   -- the entries xs are chosen: s is the sum so far, and p and q what the open entries would add if they were 1, and -1
   record Prefix (xs : List ℤ) (s : ℤ) (p q : ℕ → ℤ) : Type 0 where
-    sum-is : s ≡ sum (length xs) (leastShare n l u xs)
+    sum-is : s ≡ sum (length xs) (loweredShare xs)
     plus : (i : ℕ) → length xs ≤ i → i < n → p i ≡ openShare xs i (pos 1)
     minus : (i : ℕ) → length xs ≤ i → i < n → q i ≡ openShare xs i (negsuc 0)
 
@@ -155,17 +174,21 @@ module _ (n : ℕ) (l u : List ℤ) where
         minus = λ i k g. next (negsuc 0) (negsuc 0) _ i k (λ m. c .minus i m g) (low-twice i g);
       }
 
+    -- the least value is at most w·x'x
+    abbrev lowAs : List ℤ → Bool
+    lowAs v = leZ (leastValue n (at n l) (at n u) (nth v)) (w *ℤ normSquared n (nth v))
+
     -- the vectors xs with all choices of k entries after them
     abbrev low : List ℤ → List ℤ → Bool
-    low xs y = leZ (leastValue n (at n l) (at n u) (nth (xs ++ y))) (pos 0)
+    low xs y = lowAs (xs ++ y)
 
     -- the same of the shares' sum
-    low-sum : (xs : List ℤ) → length xs ≡ n → leZ (sum (length xs) (leastShare n l u xs)) (pos 0) ≡ low xs []
-    low-sum xs e = rw (e, append-nil xs, shares-add n l u xs b) refl
+    low-sum : (xs : List ℤ) → length xs ≡ n → leZ (sum (length xs) (loweredShare xs)) (pos 0) ≡ low xs []
+    low-sum xs e = rw (e, append-nil xs, shares-sum n xs, shares-add n l u xs b) (le-moved (leastValue n (at n l) (at n u) (nth xs)) w (normSquared n (nth xs)))
 
     -- one entry more is chosen
     deeper : (k : ℕ) (xs : List ℤ) (a : ℤ) → first (λ y. low xs (a ∷ y)) (tried k) ≡ first (low (xs ++ (a ∷ []))) (tried k)
-    deeper k xs a = first-ext _ _ (λ y. ap (λ (v : List ℤ). leZ (leastValue n (at n l) (at n u) (nth v)) (pos 0)) (sym (append-assoc xs (a ∷ []) y))) (tried k)
+    deeper k xs a = first-ext _ _ (λ y. ap lowAs (sym (append-assoc xs (a ∷ []) y))) (tried k)
 
     agrees : (k d : ℕ) (xs : List ℤ) (s : ℤ) (p q : ℕ → ℤ) → length xs ≡ d → d + k ≡ n → Prefix xs s p q → first (low xs) (tried k) ≡ seek (times (pos 2) (at n l)) (times (negsuc 1) (at n u)) d k p q s
     unfolding seek reached
@@ -180,17 +203,17 @@ module _ (n : ℕ) (l u : List ℤ) where
         (ap (front (pos 1)) (deeper k xs (pos 1) ∙ agrees k (suc d) (xs ++ (pos 1 ∷ [])) _ _ _ (longer xs (pos 1) e) (omega arith) (rw e at (choose-one c h))))
         (ap (front (negsuc 0)) (deeper k xs (negsuc 0) ∙ agrees k (suc d) (xs ++ (negsuc 0 ∷ [])) _ _ _ (longer xs (negsuc 0) e) (omega arith) (rw e at (choose-minus-one c h))))))
 
-    -- ---- the entries xs are all 0: the zero vector shows nothing, and what x shows -x showed before
+    -- ---- the entries xs are all 0: the zero vector is under no number, and what x is under -x was under before
     abbrev shown : List ℤ → List ℤ → Bool
-    shown xs y = shows n (at n l) (at n u) (nth (xs ++ y))
+    shown xs y = under n (at n l) (at n u) w (nth (xs ++ y))
 
     shown-none : (xs : List ℤ) → ((i : ℕ) → nth xs i ≡ pos 0) → shown xs [] ≡ false
-    unfolding shows nonzero
+    unfolding under nonzero
     shown-none xs z =
         rw (append-nil xs, all-of (λ i. same (nth xs i) (pos 0)) n (λ i h. same-true (z i))) refl
 
     shown-one : (xs : List ℤ) → length xs < n → (y : List ℤ) → shown xs (pos 1 ∷ y) ≡ low xs (pos 1 ∷ y)
-    unfolding shows
+    unfolding under
     shown-one xs h y =
         rw (nonzero-true {n = n} {x = nth (xs ++ (pos 1 ∷ y))} (record { index = length xs; inside = h; differs = λ e. one-not-zero (sym (getD-append-seam xs (pos 1) y (pos 0)) ∙ e) })) refl
 
@@ -198,7 +221,7 @@ module _ (n : ℕ) (l u : List ℤ) where
     with-one k xs h = first-ext _ _ (shown-one xs h) (tried k) ∙ deeper k xs (pos 1)
 
     with-minus-one : (k : ℕ) (xs : List ℤ) → ((i : ℕ) → nth xs i ≡ pos 0) → first (λ y. shown xs (pos 1 ∷ y)) (tried k) ≡ none → first (λ y. shown xs (negsuc 0 ∷ y)) (tried k) ≡ none
-    with-minus-one k xs z e = first-negated k _ _ (λ y. shows-negated _ _ (opposite xs z y) n (at n l) (at n u)) e
+    with-minus-one k xs z e = first-negated k _ _ (λ y. under-negated _ _ (opposite xs z y) n (at n l) (at n u) w) e
 
     -- so the vectors with -1 in front bring nothing new
     half-choices : (k : ℕ) (xs : List ℤ) → ((i : ℕ) → nth xs i ≡ pos 0) → orElse (part k (shown xs) (pos 1)) (part k (shown xs) (negsuc 0)) ≡ part k (shown xs) (pos 1)
@@ -217,20 +240,20 @@ module _ (n : ℕ) (l u : List ℤ) where
         tried-suc k (shown xs)
         ∙ (let h : length xs < n = omega arith in
         ap₂ orElse
-        (ap (front (pos 0)) (first-ext _ _ (λ y. ap (λ (v : List ℤ). shows n (at n l) (at n u) (nth v)) (sym (append-assoc xs (pos 0 ∷ []) y))) (tried k)
+        (ap (front (pos 0)) (first-ext _ _ (λ y. ap (λ (v : List ℤ). under n (at n l) (at n u) w (nth v)) (sym (append-assoc xs (pos 0 ∷ []) y))) (tried k)
         ∙ half-agrees k (suc d) (xs ++ (pos 0 ∷ [])) p (longer xs (pos 0) e) (omega arith) (λ i. ap (λ (g : ℕ → ℤ). g i) (nth-padded xs 1) ∙ z i) (choose-zero c h)))
         (half-choices k xs z
         ∙ ap (front (pos 1)) (with-one k xs h ∙ agrees k (suc d) (xs ++ (pos 1 ∷ [])) _ _ _ (longer xs (pos 1) e) (omega arith) (rw e at (choose-one c h)))))
 
-    module _ (p : ℕ → ℤ) (g : (i : ℕ) → i < n → p i ≡ at n l i i) where
+    module _ (p : ℕ → ℤ) (g : (i : ℕ) → i < n → p i ≡ at n l i i -ℤ w) where
       start : Prefix [] (pos 0) p p
       unfolding openShare
       start = record {
         sum-is = sym (sum-zero _);
-        plus = λ i k h. g i h ∙ rw (sum-zero (λ j. leastTerm (at n l i j) (at n u i j) (pos 1 *ℤ nth [] j))) (ring (at n l i i ∷ []) (search solver depth 40 fits 20000) refl);
-        minus = λ i k h. g i h ∙ rw (sum-zero (λ j. leastTerm (at n l i j) (at n u i j) (negsuc 0 *ℤ nth [] j))) (ring (at n l i i ∷ []) (search solver depth 40 fits 20000) refl);
+        plus = λ i k h. g i h ∙ rw (sum-zero (λ j. leastTerm (at n l i j) (at n u i j) (pos 1 *ℤ nth [] j))) (ring (at n l i i ∷ w ∷ []) (search solver depth 40 fits 20000) refl);
+        minus = λ i k h. g i h ∙ rw (sum-zero (λ j. leastTerm (at n l i j) (at n u i j) (negsuc 0 *ℤ nth [] j))) (ring (at n l i i ∷ w ∷ []) (search solver depth 40 fits 20000) refl);
       }
 
-      -- the first tried vector that shows 'not definite' is the one that the search over half of them finds
-      pub tried-half : first (λ v. shows n (at n l) (at n u) (nth v)) (tried n) ≡ seekHalf (times (pos 2) (at n l)) (times (negsuc 1) (at n u)) 0 n p
+      -- the first tried vector that is under w is the one that the search over half of them finds
+      pub tried-half : first (λ v. under n (at n l) (at n u) w (nth v)) (tried n) ≡ seekHalf (times (pos 2) (at n l)) (times (negsuc 1) (at n u)) 0 n p
       tried-half = half-agrees n 0 [] p refl (omega arith) (λ i. refl) start

@@ -6,3 +6,4 @@ pub mod Passed
 pub mod TriedList
 pub mod Negated
 pub mod Agreement
+pub mod TriedVectors

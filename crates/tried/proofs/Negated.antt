@@ -1,4 +1,4 @@
--- x and -x show the same, so that x may be passed over where -x stood earlier.
+-- x and -x are under the same numbers, so that x may be passed over where -x stood earlier.
 use mathlib.Core.Path.{_≡_, refl, sym, ap, ap₂, _∙_}
 use mathlib.Core.Bool.{Bool, true, false, not, _&&_, _||_}
 use mathlib.Core.Logic.{by-cases}
@@ -10,10 +10,10 @@ use lib.IntN.{ℤ, pos, negℤ, _*ℤ_, ℤ-discrete}
 use lib.Signed.{leZ, ltZ}
 use Rattle.integers.proofs.Solver.{ring, order, solver}
 use Rattle.integers.proofs.Sums.{sum-ext}
-use Rattle.tables.specs.Matrix.{Matrix, form}
+use Rattle.tables.specs.Matrix.{Matrix, form, normSquared}
 use Rattle.tables.specs.Checks.{all, same}
 use Rattle.tables.proofs.Checks.{same-false}
-use Rattle.vectors.specs.Least.{leastMember, leastValue, nonzero, shows}
+use Rattle.vectors.specs.Least.{leastMember, leastValue, nonzero, under}
 
 -- -a is 0 where a is
 zero-entry : (a : ℤ) → same (negℤ a) (pos 0) ≡ same a (pos 0)
@@ -40,6 +40,11 @@ module _ (x y : ℕ → ℤ) (h : (i : ℕ) → y i ≡ negℤ (x i)) where
   all-zero zero = refl
   all-zero (suc n) = ap₂ (λ (a b : Bool). a && b) (all-zero n) (ap (λ (z : ℤ). same z (pos 0)) (h n) ∙ zero-entry (x n))
 
-  pub shows-negated : (n : ℕ) (L U : Matrix) → shows n L U y ≡ shows n L U x
-  unfolding shows nonzero
-  shows-negated n L U = ap₂ (λ (a : Bool) (v : ℤ). not a && leZ v (pos 0)) (all-zero n) (least-value n L U)
+  norm : (n : ℕ) → normSquared n y ≡ normSquared n x
+  unfolding normSquared
+  norm n = sum-ext n _ _ (λ i k. product i i)
+
+  pub under-negated : (n : ℕ) (L U : Matrix) (w : ℤ) → under n L U w y ≡ under n L U w x
+  unfolding under nonzero
+  under-negated n L U w =
+      ap₂ (λ (a b : Bool). not a && b) (all-zero n) (ap₂ (λ (v m : ℤ). leZ v (w *ℤ m)) (least-value n L U) (norm n))

@@ -6,20 +6,20 @@ use mathlib.Core.List.{List}
 use Prim.Native.Nat.{ℕ, suc, _+_, _*_, _-_, _/_, _%_, _≤_, _<_}
 use native.Mathlib.Omega.{arith}
 use native.Mathlib.Decide.{ℕ-discrete}
-use lib.IntN.{ℤ, pos, negsuc, natAbs, _+ℤ_, _*ℤ_}
+use lib.IntN.{ℤ, pos, negsuc, natAbs, _+ℤ_, _-ℤ_, _*ℤ_}
 use lib.Signed.{ltZ}
 use lib.ListN.{length, drop, set, replicate, length-drop, length-set, length-replicate, getD-replicate}
 use lib.Seq.{getD-set-same, getD-set-other, drop-set-add, drop-set-lt}
 use mir.Syntax.{w64}
 use mir.Val.{SFits}
 use Rattle.integers.specs.Numbers.{Within}
-use Rattle.integers.proofs.Machine.{within-more, within-+, within-*, fits-within}
+use Rattle.integers.proofs.Machine.{within-more, within-+, within--, within-*, fits-within}
 use Rattle.tables.specs.Bounds.{CheckedTables}
 use Rattle.tables.specs.Matrix.{at, nth}
 use Rattle.tables.specs.Ranges.{greatestOrder, tableRoom, entryRange}
 use Rattle.tables.proofs.Buffers.{entry-more}
 use Rattle.tables.proofs.Matrix.{inside, table-fits, row-inside, column-inside, nth-at}
-use Rattle.lookahead.specs.Pairs.{sameSign, otherSign, pairsRoom, pairRange, openRange, shareRange, PairTables, Open, OpenShares, Searching}
+use Rattle.lookahead.specs.Pairs.{sameSign, otherSign, pairsRoom, pairRange, underRange, openRange, shareRange, PairTables, Open, OpenShares, Searching}
 use Rattle.lookahead.proofs.Sizes.{row-small, open-within}
 use Rattle.tried.specs.Search.{bySign, after, FilledPairs, Added, Chosen, Diagonal}
 use Rattle.tried.proofs.Signs.{by-sign, sign-above, sign-below}
@@ -128,19 +128,24 @@ module _ {n : ℕ} {t : List ℤ} {d : ℕ} {p q : List ℤ} (g : OpenShares n t
 pub open-zeros : Open 0 (replicate greatestOrder (pos 0))
 open-zeros = record { size = length-replicate greatestOrder (pos 0); small = λ k h. rw (getD-replicate greatestOrder k (pos 0) (pos 0) h) zero-within }
 
-module _ {n : ℕ} {t : List ℤ} where
-  pub diagonal-start : {p : List ℤ} → Open 0 p → Diagonal n t p 0
+module _ (n : ℕ) (t : List ℤ) (w : ℤ) where
+  pub diagonal-start : {p : List ℤ} → Open 0 p → Diagonal n t w p 0
   diagonal-start h = record { start = h; entries = λ k l. absurd (omega arith) }
 
-  pub diagonal-more : n ≤ greatestOrder → ((i j : ℕ) → i < n → j < n → natAbs (at n t i j) ≤ entryRange) →
-      {p : List ℤ} {m : ℕ} → m < n → Diagonal n t p m → Diagonal n t (set p m (at n t m m)) (suc m)
-  diagonal-more o g {p} {m} h a =
-      let i : m < length p = omega (arith, a .start .size) in
-      let w : Within (openRange 0) (at n t m m) = within-more (omega arith) (record { size = g m m h h }) in
-      record {
-        start = record { size = length-set p m _ ∙ a .start .size; small = λ k l. small-more p m _ k i w (a .start .small k l) };
-        entries = λ k q. entry-more p m _ (λ i. at n t i i) i refl k q (a .entries k);
-      }
+  module _ (o : n ≤ greatestOrder) (g : (i j : ℕ) → i < n → j < n → natAbs (at n t i j) ≤ entryRange) (s : Within underRange w) {m : ℕ} (h : m < n) where
+    difference-within : Within (openRange 0) (at n t m m -ℤ w)
+    difference-within = within-more (omega arith) (within-- {x = at n t m m} (record { size = g m m h h }) s)
+
+    pub difference-fits : SFits w64 (at n t m m -ℤ w)
+    difference-fits = fits-within difference-within (omega arith)
+
+    pub diagonal-more : {p : List ℤ} → Diagonal n t w p m → Diagonal n t w (set p m (at n t m m -ℤ w)) (suc m)
+    diagonal-more {p} a =
+        let i : m < length p = omega (arith, a .start .size) in
+        record {
+          start = record { size = length-set p m _ ∙ a .start .size; small = λ k l. small-more p m _ k i difference-within (a .start .small k l) };
+          entries = λ k q. entry-more p m _ (λ i. at n t i i -ℤ w) i refl k q (a .entries k);
+        }
 
 -- ---- one entry fewer is left
 pub open-more : {d : ℕ} {p : List ℤ} → Open d p → Open (suc d) p

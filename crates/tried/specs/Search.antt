@@ -5,7 +5,7 @@ use mathlib.Core.List.{List, [], _∷_}
 use mathlib.Core.Option.{Option, none, some}
 use mathlib.Core.Path.{_≡_}
 use Prim.Native.Nat.{ℕ, zero, suc, _+_, _<_}
-use lib.IntN.{ℤ, pos, negsuc, _+ℤ_, _*ℤ_}
+use lib.IntN.{ℤ, pos, negsuc, _+ℤ_, _-ℤ_, _*ℤ_}
 use lib.Signed.{ltZ, leZ}
 use lib.ListN.{length, drop}
 use Rattle.tables.specs.Ranges.{greatestOrder, tableRoom}
@@ -85,7 +85,7 @@ pub record Chosen (n : ℕ) (t : List ℤ) (d : ℕ) (e : ℤ) (p q p′ q′ : 
   pub plus-is : (k : ℕ) → k < n → nth p′ k ≡ after (sameSign n t) (otherSign n t) d e (nth p) k
   pub minus-is : (k : ℕ) → k < n → nth q′ k ≡ after (otherSign n t) (sameSign n t) d e (nth q) k
 
--- the first entries, to m, of what an entry adds by itself
-pub record Diagonal (n : ℕ) (t p : List ℤ) (m : ℕ) : Type 0 where
+-- the first entries, to m, of what an entry adds by itself, with w taken off
+pub record Diagonal (n : ℕ) (t : List ℤ) (w : ℤ) (p : List ℤ) (m : ℕ) : Type 0 where
   pub start : Open 0 p
-  pub entries : (k : ℕ) → k < m → nth p k ≡ at n t k k
+  pub entries : (k : ℕ) → k < m → nth p k ≡ at n t k k -ℤ w

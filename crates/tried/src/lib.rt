@@ -1,7 +1,8 @@
-// The tried vectors, R9 and R20.1 of docs/RULES.md, and the first of them that shows 'not definite'. Entries are chosen from the first
-// on. The entries chosen have a least value, the sum so far, and each open entry has what it would add to that. How many entries are left
-// is the parameter of the recursion, which falls to zero: of `left` entries the first is entry n - left. What two entries add stands in
-// one array: 2 L, for two of the same sign, and from entry OTHER_SIGN_START on -2 U, for two of different signs.
+// The tried vectors, R9 and R20.1 of docs/RULES.md, and the first of them that is under a number w (R26.1), which w = 0 makes the first
+// that shows 'not definite'. Entries are chosen from the first on. The entries chosen have a least value, less w times their squares: the
+// sum so far, and each open entry has what it would add to that. How many entries are left is the parameter of the recursion, which falls
+// to zero: of `left` entries the first is entry n - left. What two entries add stands in one array: 2 L, for two of the same sign, and from
+// entry OTHER_SIGN_START on -2 U, for two of different signs.
 ghost use mathlib.Core.Path.{_≡_};
 ghost use Prim.Native.Nat.{ℕ, suc, _-_, _*_, _≤_, _<_};
 ghost use lib.IntN.{pos, natAbs, _+ℤ_};
@@ -10,8 +11,9 @@ ghost use Rattle.integers.specs.Numbers.{Within};
 ghost use Rattle.tables.specs.Ranges.{greatestOrder, tableRoom, entryRange};
 ghost use Rattle.tables.specs.Bounds.{CheckedTables};
 ghost use Rattle.tables.specs.Matrix.{at, nth};
-ghost use Rattle.vectors.specs.Least.{shows};
-ghost use Rattle.lookahead.specs.Pairs.{sameSign, otherSign, shareRange, sumRange, PairTables, Open, OpenShares, Searching};
+ghost use Rattle.vectors.specs.Least.{shows, under};
+ghost use Rattle.lookahead.specs.Pairs.{sameSign, otherSign, underRange, shareRange, sumRange};
+ghost use Rattle.lookahead.specs.Pairs.{PairTables, Open, OpenShares, Searching};
 ghost use Rattle.tried.specs.Tried.{tried, first};
 ghost use Rattle.tried.specs.Search.{seek, bySign, seekAfter, inFront, seekHalf, Searched, FilledPairs, Added, Chosen, Diagonal};
 use lookahead::ahead::OTHER_SIGN_START;
@@ -190,18 +192,31 @@ fn fill_pairs(n: usize, low: &[i64], high: &[i64], pairs: &mut Pairs)
     }
 }
 
-// What each entry adds by itself.
-fn diagonal(n: usize, low: &[i64], p: &mut Vector)
+// What each entry adds by itself, with w taken off.
+fn diagonal(n: usize, low: &[i64], w: i64, p: &mut Vector)
     requires { ⌜ (n ≤ greatestOrder) × (n * n ≤ length (now low)) × ((i j : ℕ) → i < n → j < n → natAbs (at n (now low) i
         j) ≤ entryRange)
-        × Open 0 (now p) ⌝ }
-    ensures { λ r. ⌜ Diagonal n (now (low .entry)) (now (p .exit)) n ⌝ }
+        × Open 0 (now p) × Within underRange w ⌝ }
+    ensures { λ r. ⌜ Diagonal n (now (low .entry)) w (now (p .exit)) n ⌝ }
 {
     let mut k = 0;
     while k < n {
-        p[k] = tables::entry(n, low, k, k);
+        p[k] = tables::entry(n, low, k, k) - w;
         k += 1;
     }
+}
+
+// The first tried vector of order n that is under w, into the first n entries of x.
+pub fn first_under(n: usize, low: &[i64], high: &[i64], w: i64, x: &mut Vector) -> bool
+    requires { ⌜ CheckedTables n (now low) (now high) × Within underRange w × (length (now x) ≡ greatestOrder) ⌝ }
+    ensures { λ r. ⌜ Searched (first (λ v. under n (at n (now (low .entry))) (at n (now (high .entry))) w (nth v)) (tried n))
+        r 0 n (now (x .exit)) ⌝ }
+{
+    let mut pairs = [0i64; PAIRS_ROOM];
+    let mut p = [0i64; GREATEST_ORDER];
+    fill_pairs(n, low, high, &mut pairs);
+    diagonal(n, low, w, &mut p);
+    search_half(n, &pairs, n, &p, x)
 }
 
 // The first tried vector of order n that shows 'not definite', into the first n entries of x.
@@ -210,9 +225,5 @@ pub fn first_tried(n: usize, low: &[i64], high: &[i64], x: &mut Vector) -> bool
     ensures { λ r. ⌜ Searched (first (λ v. shows n (at n (now (low .entry))) (at n (now (high .entry))) (nth v)) (tried n))
         r 0 n (now (x .exit)) ⌝ }
 {
-    let mut pairs = [0i64; PAIRS_ROOM];
-    let mut p = [0i64; GREATEST_ORDER];
-    fill_pairs(n, low, high, &mut pairs);
-    diagonal(n, low, &mut p);
-    search_half(n, &pairs, n, &p, x)
+    first_under(n, low, high, 0, x)
 }

@@ -33,6 +33,7 @@ use Rattle.residual.proofs.Meaning.{entry-by}
 use Rattle.theorems.proofs.Theorems.{ends-shape-takeOff}
 use Rattle.vectors.specs.Least.{shows}
 use Rattle.tried.specs.Tried.{tried, first}
+use Rattle.tried.proofs.TriedVectors.{Every, every-append, tried-sized}
 use Rattle.solved.specs.Solved.{stoppedFactor, solvedEntry, solvedRows, solved}
 use Rattle.solved.specs.Stopped.{startRange}
 use Rattle.solved.proofs.Solving.{rows-on, rows-none}
@@ -68,15 +69,7 @@ module _ (n : ℕ) (R : Matrix) (t : T (factorShape n R)) where
       (λ k h. let p = row-inside n k h in let q = column-inside n k h in rw (nth-at n k (table n R), at-table n R (k / n) (k % n) p q) (factor-small (k / n) (k % n) p q))
 
 -- ---- lists of vectors
-abbrev Every : (List ℤ → Type 0) → List (List ℤ) → Type 0
-Every P [] = Unit {0}
-Every P (x ∷ l) = P x × Every P l
-
 module _ (P : List ℤ → Type 0) where
-  every-append : (l m : List (List ℤ)) → Every P l → Every P m → Every P (l ++ m)
-  every-append [] m h k = k
-  every-append (x ∷ l) m h k = (h .0, every-append l m (h .1) k)
-
   -- the solved vectors are one or none
   every-solved-row : (R : Matrix) (i : ℕ) (xs : List ℤ) → ((v : List ℤ) → solvedRows R i xs ≡ v ∷ [] → P v) → Every P (solvedRows R i xs)
   unfolding solvedRows
@@ -91,27 +84,6 @@ module _ (P : List ℤ → Type 0) where
   every-solved n f s h = every-solved-row (stoppedFactor f) _ _ h
 
 -- ---- the listed vectors
-front-sized : (n : ℕ) (a : ℤ) → Within vectorRange a → (l : List (List ℤ)) → Every (Small n vectorRange) l → Every (Small (suc n) vectorRange) (map (λ x. a ∷ x) l)
-front-sized n a w [] h = tt
-front-sized n a w (x ∷ l) h = (more, front-sized n a w l (h .1))
-  where
-    number : (i : ℕ) → Within vectorRange (nth (a ∷ x) i)
-    number zero = w
-    number (suc i) = h .0 .small i
-
-    more : Small (suc n) vectorRange (a ∷ x)
-    more = record { size = ap suc (h .0 .size); small = number }
-
-tried-sized : (n : ℕ) → Every (Small n vectorRange) (tried n)
-unfolding tried
-tried-sized zero = (record { size = refl; small = λ i. record { size = omega arith } }, tt)
-tried-sized (suc n) =
-    let P = Small (suc n) vectorRange in
-    let one : ℤ → List (List ℤ) = λ a. map (λ x. a ∷ x) (tried n) in
-    let put : (a : ℤ) → Within vectorRange a → Every P (one a) = λ a w. front-sized n a w (tried n) (tried-sized n) in
-    every-append P (one (pos 0)) _ (put (pos 0) (record { size = omega arith }))
-    (every-append P (one (pos 1)) (one (negsuc 0)) (put (pos 1) (record { size = omega arith })) (put (negsuc 0) (record { size = omega arith })))
-
 module _ (n : ℕ) (o : n ≤ greatestOrder) (L U : Matrix) (b : Bounds n L U) where
   module _ (e : factored n L U .ends ≡ false) where
     solved-sized : (s : ℤ) → Within startRange s → Every (Small n vectorRange) (solved n (factored n L U) s)
@@ -123,7 +95,7 @@ module _ (n : ℕ) (o : n ≤ greatestOrder) (L U : Matrix) (b : Bounds n L U) w
     listed-sized : Every (Small n vectorRange) (listed n L U)
     unfolding listed
     listed-sized =
-        every-append _ (tried n) _ (tried-sized n)
+        every-append _ (tried n) _ (tried-sized vectorRange (omega arith) n)
         (every-append _ (solved n (factored n L U) (pos 1)) _ (solved-sized (pos 1) (record { size = omega arith })) (solved-sized (pos 64) (record { size = omega arith })))
 
   -- ---- the verdict

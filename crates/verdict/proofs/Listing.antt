@@ -1,21 +1,20 @@
 -- The first listed vector that shows 'not definite', from what the code finds in the tried and in the solved ones.
 use mathlib.Core.Path.{_≡_, refl, ap, ap₂, _∙_}
-use mathlib.Core.Bool.{Bool, true, false, not, _&&_, _||_}
+use mathlib.Core.Bool.{Bool, true, false, not, _&&_}
 use mathlib.Core.List.{List, _++_}
 use mathlib.Core.Option.{Option, none, some}
 use Prim.Native.Nat.{ℕ, zero, suc, _+_, _≤_, _<_}
 use native.Mathlib.Omega.{arith}
-use lib.Dec.{eqb}
-use lib.IntN.{ℤ, pos, _*ℤ_}
-use lib.Signed.{leZ, ltZ}
+use lib.IntN.{ℤ, pos}
+use lib.Signed.{leZ}
 use Rattle.integers.specs.Numbers.{Within}
-use Rattle.integers.proofs.Sums.{sum-ext}
-use Rattle.tables.specs.Matrix.{Matrix, nth, form, tabulate}
+use Rattle.tables.specs.Matrix.{Matrix, nth, tabulate}
 use Rattle.tables.specs.Checks.{all, same}
 use Rattle.tables.proofs.Matrix.{nth-tabulate, tabulate-ext}
 use Rattle.tables.specs.Bounds.{CheckedTables}
-use Rattle.vectors.specs.Least.{leastMember, leastValue, nonzero, shows}
+use Rattle.vectors.specs.Least.{leastValue, nonzero, shows}
 use Rattle.vectors.specs.LeastShares.{Asked}
+use Rattle.vectors.proofs.Showing.{least-ext}
 use Rattle.tried.specs.Tried.{first}
 use Rattle.tried.specs.Search.{orElse, found, Searched}
 use Rattle.tried.proofs.TriedList.{first-append}
@@ -35,12 +34,6 @@ module _ (n : ℕ) (L U : Matrix) (x : ℕ → ℤ) where
 
 -- it rests on the first n entries
 module _ (n : ℕ) (L U : Matrix) (x y : ℕ → ℤ) (h : (i : ℕ) → i < n → x i ≡ y i) where
-  least-ext : leastValue n L U x ≡ leastValue n L U y
-  unfolding leastValue form leastMember
-  least-ext =
-      sum-ext n _ _ (λ i k. sum-ext n _ _ (λ j l.
-      ap₂ (λ (a b : ℤ). a *ℤ (elim (eqb i j || ltZ (pos 0) (a *ℤ b)) as (λ z. ℤ) [ true ↦ L i j | false ↦ U i j ]) *ℤ b) (h i k) (h j l)))
-
   zero-ext : (m : ℕ) → m ≤ n → all m (λ i. same (x i) (pos 0)) ≡ all m (λ i. same (y i) (pos 0))
   unfolding all
   zero-ext zero k = refl
@@ -48,7 +41,7 @@ module _ (n : ℕ) (L U : Matrix) (x y : ℕ → ℤ) (h : (i : ℕ) → i < n �
 
   pub shows-ext : shows n L U x ≡ shows n L U y
   unfolding shows nonzero
-  shows-ext = ap₂ (λ (a : Bool) (v : ℤ). not a && leZ v (pos 0)) (zero-ext n (omega arith)) least-ext
+  shows-ext = ap₂ (λ (a : Bool) (v : ℤ). not a && leZ v (pos 0)) (zero-ext n (omega arith)) (least-ext n L U x y h)
 
 -- ---- a list and another one after it
 module _ (p : List ℤ → Bool) (l m : List (List ℤ)) where

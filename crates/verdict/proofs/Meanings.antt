@@ -32,32 +32,13 @@ use Rattle.vectors.specs.Least.{nonzero, shows}
 use Rattle.vectors.specs.VectorTest.{vectorShape, vectorAnswer, vectorTested}
 use Rattle.vectors.proofs.Showing.{shows-witness, shows-not-definite, witness-handed}
 use Rattle.tried.specs.Tried.{first}
+use Rattle.tried.proofs.TriedVectors.{Picks, first-picks}
 use Rattle.verdict.specs.Judge.{Judgement, refused, listed, shownBy, definiteBy, judged, judging, written, Meaning}
 use Rattle.verdict.specs.declared.judge.Verdict.{Verdict}
 use Rattle.verdict.specs.declared.judge.Verdict.the-variants as Verdict
 use Rattle.verdict.proofs.Decisions.{judged-ends, judged-stops}
 use Rattle.tables.proofs.Buffers.{Small}
 use Rattle.verdict.proofs.Fitting.{Fitting, stops-fitting}
-
--- ---- the first that passes: it stands in the list and passes, or none does
-module _ (p : List ℤ → Bool) where
-  Picks : List (List ℤ) → Option (List ℤ) → Type 0
-  Picks l (some x) = List·Memᴰ x l × (p x ≡ true)
-  Picks l none = (x : List ℤ) → List·Memᴰ x l → p x ≡ true → ⊥
-
-  first-picks : (l : List (List ℤ)) → Picks l (first p l)
-  unfolding first Picks
-  first-picks [] = λ x m e. List·Memᴰ·not-nil m
-  first-picks (y ∷ l) = go (p y) refl (first p l) (first-picks l)
-    where
-      go : (b : Bool) → p y ≡ b → (o : Option (List ℤ)) → Picks l o → Picks (y ∷ l) (elim b as (λ z. Option (List ℤ)) [ true ↦ some y | false ↦ o ])
-      go true e o h = (List·Memᴰ·head refl, e)
-      go false e none h = λ x m t. not-here x t (List·Memᴰ·cases-cons m)
-        where
-          not-here : (x : List ℤ) → p x ≡ true → (x ≡ y) ⊎ List·Memᴰ x l → ⊥
-          not-here x t (inl q) = false≢true (sym e ∙ ap p (sym q) ∙ t)
-          not-here x t (inr m) = h x m t
-      go false e (some x) h = (List·Memᴰ·tail (h .0), h .1)
 
 -- the number that goes with a verdict; 0 with others than 'definite'
 unfoldable pub carried : Verdict → ℤ
@@ -132,7 +113,6 @@ module _ (n : ℤ) (sized : Bool) (l u : List ℤ) (b : Behind n sized true l u)
         }
 
     stops-means : factored k L U .ends ≡ false → (q : Option (List ℤ)) → Picks (λ x. shows k L U (nth x)) (listed k L U) q → Fitting k (shownBy q) → Means (shownBy q) f v
-    unfolding Picks
     stops-means s (some x) h z = record {
       definite = λ w e. absurd (false≢true cc);
       accepted = λ w e. absurd (false≢true cc);
@@ -161,7 +141,7 @@ module _ (n : ℤ) (sized : Bool) (l u : List ℤ) (b : Behind n sized true l u)
         cases (factored k L U .ends)
         (λ e. subst (λ (g : Judgement). Means g f v) (sym (judged-ends k L U e)) (ends-means (of-true e)))
         (λ e. subst (λ (g : Judgement). Means g f v) (sym (judged-stops k L U e))
-        (stops-means e _ (first-picks (λ x. shows k L U (nth x)) (listed k L U)) (stops-fitting k (order-small n) L U bounds e)))
+        (stops-means e (first (λ x. shows k L U (nth x)) (listed k L U)) (first-picks (λ x. shows k L U (nth x)) (listed k L U)) (stops-fitting k (order-small n) L U bounds e)))
 
 -- ---- of any call at all
 refused-means : (n : ℤ) (l u f v : List ℤ) (r : Refusal) → Meaning n l u (Verdict.Refused r) f v
