@@ -10,6 +10,7 @@ use libc::STDOUT_FILENO;
 use residual::factor_test::FactorAnswer;
 use rides::reading::Reading as SumsReading;
 use samples::sample::Sample;
+use stiffness::bracket::Stiffness;
 use summary::problem::Reading;
 use tables::Checked;
 use verdict::judge::Verdict;
@@ -254,6 +255,35 @@ fn refused() {
     print_two(b"vector", &vector);
 }
 
+// The number of the bracket's answer, with the step and the bound that it gives.
+fn print_stiffness(stiffness: Stiffness) {
+    print_number(b"bracket", stiffness::bracket::bracket_code(stiffness));
+    match stiffness {
+        Stiffness::Between(step, bound) => {
+            let both = [step, bound];
+            print_two(b"between", &both);
+        }
+        Stiffness::AtMost(bound) => print_number(b"at most", bound),
+        Stiffness::Refused(_) => (),
+    }
+}
+
+// How stiff: of [5 2; 2 5] more than 2 and at most 3; of [1 2; 2 1] at most -1, with nothing given from below. Of [1 2; 3 1] the halves
+// leave no number: 5, and the vector is kept.
+fn bracketed() {
+    let stiff = [5i64, 2, 2, 5];
+    let mut vector = [5i64; 2];
+    print_stiffness(stiffness::bracket::bracket(2, &stiff, &stiff, &mut vector));
+    print_two(b"vector", &vector);
+    let soft = [1i64, 2, 2, 1];
+    print_stiffness(stiffness::bracket::bracket(2, &soft, &soft, &mut vector));
+    print_two(b"vector", &vector);
+    let apart = [1i64, 2, 3, 1];
+    let mut kept = [5i64; 2];
+    print_stiffness(stiffness::bracket::bracket(2, &apart, &apart, &mut kept));
+    print_two(b"vector", &kept);
+}
+
 // 4x² + 2ax ≤ 0 for some a from -8 to -6, around 2.
 fn boxed() {
     let matrix = [4i64; 1];
@@ -428,6 +458,7 @@ fn main() {
     residual_widest();
     not_definite();
     refused();
+    bracketed();
     boxed();
     gathered();
     promised();

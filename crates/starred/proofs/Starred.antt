@@ -1,4 +1,4 @@
--- The starred cases of docs/RULES.md, W1 to W12, W24 to W33, W39 to W44 and W47 to W51: what the definitions give, beside what is expected.
+-- The starred cases of docs/RULES.md, W1 to W12, W24 to W33, W39 to W44 and W47 to W60: what the definitions give, beside what is expected.
 -- One list with one proof.
 use mathlib.Core.Path.{_≡_, refl}
 use mathlib.Core.Bool.{true}
@@ -9,7 +9,7 @@ use Rattle.integers.specs.Numbers.{absℤ, minℤ, maxℤ, leastOf}
 use Rattle.integers.specs.Sum.{sum, only, except}
 use Rattle.integers.specs.Division.{floorDiv, ceilDiv}
 use Rattle.integers.specs.Root.{wholeRoot, rootWithin, rootAbove, leastRoot}
-use Rattle.tables.specs.Matrix.{at, nth, table, tabulate, form, gram, rowWidth}
+use Rattle.tables.specs.Matrix.{at, nth, table, tabulate, form, normSquared, gram, rowWidth}
 use Rattle.tables.specs.Checks.{all, firstRefusal, orderOk, orderOf, entryChecks, within, allWithin, tablesWithin, linearWithin, termsWithin, nowhereCrossed, same, boundsChecks, endsChecks}
 use Rattle.tables.specs.Mending.{mendedBy}
 use Rattle.tables.specs.Entering.{entered}
@@ -30,7 +30,7 @@ use Rattle.residual.specs.declared.factor_test.FactorAnswer.{FactorAnswer}
 use Rattle.residual.specs.declared.factor_test.FactorAnswer.the-variants.{Accepted, NotAccepted}
 use Rattle.residual.proofs.Meaning.{tested-means}
 use Rattle.vectors.specs.VectorTest.{vectorShape, vectorAnswer, vectorTested}
-use Rattle.vectors.specs.Least.{leastMember, leastValue, nonzero, shows}
+use Rattle.vectors.specs.Least.{leastMember, leastValue, nonzero, shows, under}
 use Rattle.tried.specs.Tried.{tried, first}
 use Rattle.solved.specs.Solved.{stoppedFactor, solvedEntry, solvedRows, solved}
 use Rattle.verdict.specs.Judge as Judge
@@ -39,6 +39,7 @@ use Rattle.steps.specs.Steps.{lowered, trial, bits, step, stepAt}
 use Rattle.centre.specs.Centre.{lowGradient, highGradient, gradient, atCentre}
 use Rattle.sides.specs.Sides.{bound, firstHalf, secondBound, smallerHalf, halfSide, sidesFrom, boxOf}
 use Rattle.enclosure.specs.Box.{Box, sides, empty, refused, boxed, problemBox, boxing}
+use Rattle.stiffness.specs.Bracket.{Bracketing, between, atMost, quotient, leastQuotient, leastBound, firstUnder, bracketed, bracketing}
 use Rattle.words.specs.Numbers.{fromLeBytes, unsignedAt}
 use Rattle.fields.specs.Fields.{kindIn, kindOf, tagged, fieldAt}
 use Rattle.fields.specs.Layouts.{startOf, seen, unseen, placed, walkOn, walkFields, walk, walked}
@@ -50,6 +51,7 @@ data Answer : Type 0 where
   vector : VectorAnswer → Answer
   value : ℤ → Answer
   box : Box → Answer
+  bracket : Bracketing → Answer
   file : Checked → Answer
 
 record Line : Type 0 where
@@ -90,6 +92,13 @@ boxed-between m a b α c x = boxed-thin 1 (m ∷ []) (a ∷ []) (b ∷ []) α (c
 
 abbrev boxed-one : ℤ → ℤ → ℤ → ℤ → Box → Line
 boxed-one m a α c x = boxed-between m a a α c x
+
+-- the bracket of the stiffness, of a thin table and of others
+abbrev bracketed-for : ℕ → List ℤ → List ℤ → Bracketing → Line
+bracketed-for n l u g = record { rules = bracket (bracketing (pos n) true l u); expected = bracket g }
+
+abbrev bracketed-thin : ℕ → List ℤ → Bracketing → Line
+bracketed-thin n t g = bracketed-for n t t g
 
 -- a file of fields with no content, and of bytes behind them
 abbrev fieldsOf : List ℕ → List ℕ → List ℕ
@@ -166,10 +175,22 @@ lines =
     ∷ offered 2 narrow (pos 65536 ∷ pos 196607 ∷ pos 0 ∷ pos 65536 ∷ []) (NotAccepted (negsuc 65535))
     -- halves rounded apart, W39 and W51
     ∷ offered-for 2 apartLow apartHigh judgedFactor (Accepted (pos 536914293))
+    -- the bracket: t and v, and v alone where factoring stops, W52 to W56
+    ∷ bracketed-thin 1 (pos 1 ∷ []) (between (pos 0) (pos 1) (pos 1 ∷ []))
+    ∷ bracketed-thin 1 (pos 4 ∷ []) (between (pos 3) (pos 4) (pos 1 ∷ []))
+    ∷ bracketed-thin 1 (pos 0 ∷ []) (atMost (pos 0) (pos 1 ∷ []))
+    ∷ bracketed-thin 2 (pos 5 ∷ pos 2 ∷ pos 2 ∷ pos 5 ∷ []) (between (pos 2) (pos 3) (pos 1 ∷ negsuc 0 ∷ []))
+    ∷ bracketed-thin 2 (pos 1 ∷ pos 2 ∷ pos 2 ∷ pos 1 ∷ []) (atMost (negsuc 0) (pos 1 ∷ negsuc 0 ∷ []))
+    -- the first vector that is under v, a quotient below 0 rounded up, and W10, which is undecided: W57 to W59
+    ∷ bracketed-thin 2 (pos 4 ∷ pos 1 ∷ pos 1 ∷ pos 3 ∷ []) (between (pos 2) (pos 3) (pos 0 ∷ pos 1 ∷ []))
+    ∷ bracketed-thin 2 (pos 0 ∷ pos 1 ∷ pos 1 ∷ pos 1 ∷ []) (atMost (pos 0) (pos 1 ∷ pos 0 ∷ []))
+    ∷ bracketed-thin 2 narrow (atMost (pos 1) (pos 1 ∷ pos 0 ∷ []))
+    -- halves rounded apart, W60
+    ∷ bracketed-for 2 (pos 3 ∷ negsuc 0 ∷ pos 1 ∷ pos 3 ∷ []) (pos 4 ∷ pos 2 ∷ pos 3 ∷ pos 4 ∷ []) (between (pos 0) (pos 1) (pos 1 ∷ negsuc 0 ∷ []))
     ∷ []
 
 as-printed : map (λ (l : Line). l .rules) lines ≡ map (λ (l : Line). l .expected) lines
-unfolding judging judged listed vectorTested vectorAnswer vectorShape factorTested factorAnswer factorShape factorEntry tested accepts rowsPass rowPasses over leastOver leastOf rowOver radius residual gram except after entered firstRefusal entryChecks orderOk orderOf boundsChecks endsChecks constraintEntered tablesWithin allWithin nowhereCrossed mendedBy same all within factoring columnsFrom nextColumn rows goesOn nextEntry entries takeOff scaledBy at table tabulate form rowWidth leastMember leastValue nonzero shows tried first stoppedFactor solvedEntry solvedRows solved sum only floorDiv wholeRoot rootWithin boxing problemBox linearWithin termsWithin boxed boxOf sidesFrom halfSide smallerHalf secondBound firstHalf bound atCentre gradient highGradient lowGradient step stepAt bits trial lowered absℤ minℤ maxℤ ceilDiv rootAbove leastRoot reading readWalked readAs walked walk walkFields walkOn seen startOf unseen placed fieldAt tagged kindOf kindIn unsignedAt fromLeBytes
+unfolding bracketing bracketed leastBound leastQuotient quotient firstUnder under normSquared judging judged listed vectorTested vectorAnswer vectorShape factorTested factorAnswer factorShape factorEntry tested accepts rowsPass rowPasses over leastOver leastOf rowOver radius residual gram except after entered firstRefusal entryChecks orderOk orderOf boundsChecks endsChecks constraintEntered tablesWithin allWithin nowhereCrossed mendedBy same all within factoring columnsFrom nextColumn rows goesOn nextEntry entries takeOff scaledBy at table tabulate form rowWidth leastMember leastValue nonzero shows tried first stoppedFactor solvedEntry solvedRows solved sum only floorDiv wholeRoot rootWithin boxing problemBox linearWithin termsWithin boxed boxOf sidesFrom halfSide smallerHalf secondBound firstHalf bound atCentre gradient highGradient lowGradient step stepAt bits trial lowered absℤ minℤ maxℤ ceilDiv rootAbove leastRoot reading readWalked readAs walked walk walkFields walkOn seen startOf unseen placed fieldAt tagged kindOf kindIn unsignedAt fromLeBytes
 as-printed = refl
 
 -- so every member of [1 3; 3 10], on which the judge is undecided, is positive definite

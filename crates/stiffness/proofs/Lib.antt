@@ -1,0 +1,5 @@
+pub mod Examples
+pub mod Quotients
+pub mod Descending
+pub mod Meanings
+pub mod Stating
