@@ -15,7 +15,7 @@ use Rattle.integers.proofs.Parts.{≤ℤ-trans}
 use Rattle.integers.proofs.Order.{abs-nonneg, ≤-maxˡ}
 use Rattle.integers.proofs.Machine.{within-more, within-+, within--, within-*, within-sum, fits-within}
 use Rattle.tables.specs.Ranges.{greatestOrder, entryRange, centreRange, linearRange, limitRange, gradientRange}
-use Rattle.tables.specs.Matrix.{at, nth, form}
+use Rattle.tables.specs.Matrix.{at, nth}
 use Rattle.tables.specs.Members.{Ends}
 use Rattle.tables.specs.Problem.{endsOf}
 use Rattle.tables.specs.Checks.{all}

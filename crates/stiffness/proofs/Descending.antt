@@ -1,8 +1,8 @@
 -- The descent from one tried vector to the next: where it starts, what one search does, and that it ends at the least bound.
 use mathlib.Core.Path.{_≡_, refl, sym, ap, ap₂, _∙_}
-use mathlib.Core.Bool.{Bool, true, false, false≢true}
+use mathlib.Core.Bool.{true, false}
 use mathlib.Core.List.{List, [], _∷_}
-use mathlib.Core.Option.{Option, none, some}
+use mathlib.Core.Option.{Option, none, some, Option·some-injective, Option·none-ne-some}
 use Prim.Native.Nat.{ℕ, _+_, _*_, _≤_, _<_}
 use native.Mathlib.Nat.{mul-le-mul-right}
 use native.Mathlib.Omega.{arith}
@@ -32,13 +32,6 @@ use Rattle.tried.proofs.TriedVectors.{every-at, tried-sized}
 use Rattle.stiffness.specs.Bracket.{quotient, firstUnder}
 use Rattle.stiffness.specs.Descent.{TriedEntries, Reached, Next, Descended, Least}
 use Rattle.stiffness.proofs.Quotients.{under-parts, quotient-low, first-found, first-again, some-under, bound-is}
-
--- ---- what an option is
-none-some : {x : List ℤ} → _≡_ {A = Option (List ℤ)} none (some x) → ⊥
-none-some e = absurd (false≢true cc)
-
-some-is : {x y : List ℤ} → _≡_ {A = Option (List ℤ)} (some x) (some y) → x ≡ y
-some-is e = ap (λ (o : Option (List ℤ)). elim o as (λ z. List ℤ) [ some z ↦ z | none ↦ [] ]) e
 
 -- ---- numbers
 -- a measure falls
@@ -119,14 +112,14 @@ module _ (n : ℕ) (L U : Matrix) where
     pub was-missed : {y : List ℤ} → Searched (firstUnder n L U (v -ℤ pos 1)) false 0 n y → length x ≡ greatestOrder → Next n L U v x v x
     was-missed {y} s k = record {
       missed = λ e. (refl, refl);
-      hit = λ z e. absurd (none-some (sym (searched-none (v -ℤ pos 1) y s) ∙ e));
+      hit = λ z e. absurd (Option·none-ne-some z (sym (searched-none (v -ℤ pos 1) y s) ∙ e));
       size = k;
     }
 
     pub was-hit : {y : List ℤ} {w : ℤ} → Searched (firstUnder n L U (v -ℤ pos 1)) true 0 n y → w ≡ quotient n L U (nth y) → Next n L U v x w y
     was-hit {y} s q =
         let f = searched-some (v -ℤ pos 1) y s in
-        record { missed = λ e. absurd (none-some (sym e ∙ f)); hit = λ z e. (some-is (sym e ∙ f), q); size = s .size }
+        record { missed = λ e. absurd (Option·none-ne-some _ (sym e ∙ f)); hit = λ z e. (Option·some-injective _ _ (sym e ∙ f), q); size = s .size }
 
   -- ---- one search further
   module _ (b : Bounds n L U) (o : n ≤ greatestOrder) {v : ℤ} {x₀ : List ℤ} {w : ℤ} {x : List ℤ} (r : Reached v) (g : Next n L U v x₀ w x) where

@@ -18,8 +18,8 @@ use tables::Vector;
 use tables::entering::enter;
 use tables::entering::order_of;
 
-// What the act answers: the step t and the bound v, where factoring ends, and else the bound alone. Every member M has x'Mx > t x'x for every
-// nonzero x, and one of them has x'Mx <= v x'x for the vector that is written.
+// What the act answers: the step t and the bound v, where factoring ends, and else the bound alone. Every member M has x'Mx > t x'x for
+// every nonzero x, and one of them has x'Mx <= v x'x for the vector that is written.
 pub enum Stiffness {
     Between(i64, i64),
     AtMost(i64),

@@ -3,7 +3,7 @@ use mathlib.Core.Path.{_≡_, refl, sym, ap, _∙_}
 use mathlib.Core.Logic.{_⊎_, inl, inr}
 use mathlib.Core.Bool.{Bool, true, false, false≢true}
 use mathlib.Core.List.{List, [], _∷_, _++_, map, List·Memᴰ, List·Memᴰ·head, List·Memᴰ·tail, List·Memᴰ·cases-cons, List·Memᴰ·not-nil}
-use mathlib.Core.Option.{Option, none, some}
+use mathlib.Core.Option.{Option, none, some, Option·some-injective, Option·none-ne-some}
 use Prim.Native.Nat.{ℕ, zero, suc, _≤_}
 use native.Mathlib.Omega.{arith}
 use lib.IntN.{ℤ, pos, negsuc}
@@ -77,18 +77,12 @@ module _ (p : List ℤ → Bool) where
 pub first-narrower : (p q : List ℤ → Bool) → ((x : List ℤ) → q x ≡ true → p x ≡ true) → (l : List (List ℤ)) (y : List ℤ) →
     first p l ≡ some y → q y ≡ true → first q l ≡ some y
 unfolding first
-first-narrower p q h [] y e t = absurd (none-some e)
-  where
-    none-some : {x : List ℤ} → _≡_ {A = Option (List ℤ)} none (some x) → ⊥
-    none-some e = absurd (false≢true cc)
+first-narrower p q h [] y e t = absurd (Option·none-ne-some y e)
 first-narrower p q h (x ∷ l) y e t = go (p x) refl (q x) refl (λ f. first-narrower p q h l y f t) e
   where
-    same : {a b : List ℤ} → _≡_ {A = Option (List ℤ)} (some a) (some b) → a ≡ b
-    same e = ap (λ (o : Option (List ℤ)). elim o as (λ z. List ℤ) [ some z ↦ z | none ↦ [] ]) e
-
     go : (b : Bool) → p x ≡ b → (c : Bool) → q x ≡ c → (first p l ≡ some y → first q l ≡ some y) → (elim b as (λ z. Option (List ℤ)) [ true ↦ some x | false ↦ first p l ]) ≡ some y →
         (elim c as (λ z. Option (List ℤ)) [ true ↦ some x | false ↦ first q l ]) ≡ some y
     go true u true v later e = e
-    go true u false v later e = absurd (false≢true (sym v ∙ ap q (same e) ∙ t))
+    go true u false v later e = absurd (false≢true (sym v ∙ ap q (Option·some-injective x y e) ∙ t))
     go false u true v later e = absurd (false≢true (sym u ∙ h x v))
     go false u false v later e = later e

@@ -2,7 +2,7 @@ use mathlib.Core.Path.{_∙_}
 use native.Mathlib.Omega.{arith}
 use Rattle.integers.proofs.Machine.{clean-result, within-more, within-*}
 use Rattle.tables.proofs.Forms.{norm-positive}
-use Rattle.tables.specs.Matrix.{nth, normSquared}
+use Rattle.tables.specs.Matrix.{normSquared}
 use Rattle.stiffness.specs.Bracket.{quotient}
 use Rattle.stiffness.proofs.Descending.{least-small}
 use Rattle.stiffness.proofs.least_bound.quotient.Statement.{statement}
