@@ -37,10 +37,10 @@ read-numbers {m} x e z h =
     ∙ numbersOf-bytesOf (narrow-of 8) x [] m (record { each = λ i. fits-within (z i) h }) (omega (arith, e)) ∙ take-all m x (omega (arith, e))
 
 -- ---- one number
--- a buffer of exactly its size is written whole
-pub number-stored : (s : List ℕ) (v : ℤ) → length s ≡ bytes w64 → withSigned w64 s 0 v ≡ bytesOfNumber v
+-- a buffer of exactly its size is written whole, with z, which is v
+pub number-stored : (s : List ℕ) {z v : ℤ} {o : List ℕ} → length s ≡ bytes w64 → z ≡ v → o ≡ withSigned w64 s 0 z → o ≡ bytesOfNumber v
 unfolding withSigned withUnsigned
-number-stored s v e = append-drop-end (bytesOfNumber v) s (bytes w64) (omega (arith, e))
+number-stored s {v = v} h e q = q ∙ ap (withSigned w64 s 0) e ∙ append-drop-end (bytesOfNumber v) s (bytes w64) (omega (arith, h))
 
 -- and read back
 pub read-number : (v : ℤ) → SFits w64 v → numberOf (bytesOfNumber v) ≡ v

@@ -6,3 +6,4 @@ pub mod Calls
 pub mod SumsRead
 pub mod SummaryRead
 pub mod SummaryWritten
+pub mod StiffnessBracketed

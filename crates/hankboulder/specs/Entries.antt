@@ -12,6 +12,7 @@ use Rattle.vectors.specs.VectorTest.{vectorTested}
 use Rattle.verdict.specs.Judge.{judging, verdictCode}
 use Rattle.enclosure.specs.Box.{boxing}
 use Rattle.enclosure.specs.Act.{Enclosed, boxCode}
+use Rattle.stiffness.specs.Bracket.{bracketing, bracketCode}
 use Rattle.samples.specs.declared.sample.Sample.{Sample}
 use Rattle.samples.specs.Gathering.{gathering}
 use Rattle.rides.specs.Act.{Lent, Left, gatheredCode}
@@ -22,6 +23,7 @@ use Rattle.sums_buffers.specs.SumsBuffers.{spelledSums, sumsBuffers, storedSums
 use Rattle.writer.specs.Writing.{Written}
 use Rattle.file_buffers.specs.Parts.{Parts, Handed, readSummary, checkedCode}
 use Rattle.file_buffers.specs.Filing.{writeSummary}
+use Rattle.stiffness_buffers.specs.StiffnessBuffers.{stiffnessBuffers, StoredStiffness, storedStiffness}
 
 -- ---- hb_test_factor: the factor test of the numbers that the buffers spell
 unfoldable pub testStored : ℤ → List ℕ → List ℕ → List ℕ → List ℕ → StoredAnswer
@@ -81,6 +83,25 @@ unfoldable pub boxEntry : ℤ → List ℕ → List ℕ → List ℕ → List �
 boxEntry n l u a b α c s =
     let j : Enclosed (List ℕ) = boxStored n l u a b α c s in
     record { number = boxCode (j .answer); sides = j .sides }
+
+-- ---- hb_stiffness: the bracket of the numbers that the buffers spell, with s for step, b for bound and x for vector
+unfoldable pub stiffnessStored : ℤ → List ℕ → List ℕ → List ℕ → List ℕ → List ℕ → StoredStiffness
+stiffnessStored n l u s b x =
+    let k : ℕ = orderOf n in
+    storedStiffness k
+    (bracketing n (stiffnessBuffers k (length l) (length u) (length s) (length b) (length x)) (tableOf k l) (tableOf k u)) s b x
+
+-- the number of the answer, and the buffers as they are left
+pub record StiffnessResult : Type 0 where
+  pub number : ℤ
+  pub step : List ℕ
+  pub bound : List ℕ
+  pub vector : List ℕ
+
+unfoldable pub stiffnessEntry : ℤ → List ℕ → List ℕ → List ℕ → List ℕ → List ℕ → StiffnessResult
+stiffnessEntry n l u s b x =
+    let j : StoredStiffness = stiffnessStored n l u s b x in
+    record { number = bracketCode (j .stiffness); step = j .step; bound = j .bound; vector = j .vector }
 
 -- ---- hb_gather: a sample gathered into the sums that five buffers spell
 unfoldable pub gatherStored : Sample → ℤ → Lent (List ℕ) → Left (List ℕ)

@@ -3,7 +3,7 @@ use mathlib.Core.Path.{_≡_}
 use mathlib.Core.Bool.{true}
 use mathlib.Core.List.{List, List·Memᴰ}
 use Prim.Native.Nat.{ℕ, _*_, _<_}
-use lib.IntN.{ℤ, pos, negsuc, _*ℤ_, natAbs}
+use lib.IntN.{ℤ, pos, negsuc, _-ℤ_, _*ℤ_, natAbs}
 use lib.Signed.{_≤ℤ_, _<ℤ_}
 use lib.ListN.{length}
 use mir.Syntax.{w64}
@@ -14,9 +14,11 @@ use Rattle.tables.specs.Entering.{lowBounds, highBounds}
 use Rattle.tables.specs.Problem.{constraintOf, mendedProblem}
 use Rattle.tables.specs.Members.{PositiveDefinite, Margin}
 use Rattle.residual.specs.Residual.{overLimit, FormBound}
-use Rattle.vectors.specs.Least.{shows, Witness}
+use Rattle.vectors.specs.Least.{shows, Witness, WitnessAt}
+use Rattle.tried.specs.Tried.{tried}
 use Rattle.verdict.specs.Judge.{listed}
 use Rattle.enclosure.specs.Points.{Allowed, Contains}
+use Rattle.stiffness.specs.Bracket.{Stiffer}
 use Rattle.samples.specs.declared.sample.Sample.{Sample}
 use Rattle.samples.specs.Explaining.{Explained}
 use Rattle.rides.specs.Act.{Lent, Explaining}
@@ -91,6 +93,19 @@ module _ (n : ℤ) (l u : List ℕ) where
     -- -1, empty: there is no point (D3.4)
     pub none : r ≡ negsuc 0 → (X : ℕ → ℤ) (p : ℤ) →
         Allowed (constraintOf k (tableOf k l) (tableOf k u) (vectorOf k a) (vectorOf k b) α) X p → ⊥
+
+  -- s, b and x: step, bound and vector as they are left
+  pub record StiffnessMeaning (r : ℤ) (s b x : List ℕ) : Type 0 where
+    -- 0, the step is given (D3.9): the number in step, t, is 0 or more, and x'Mx > t·x'x for every member M and every nonzero x
+    pub nonneg : r ≡ pos 0 → pos 0 ≤ℤ numberOf s
+    pub stiffer : r ≡ pos 0 → Stiffer k L U (numberOf s)
+    -- it is less than the number in bound
+    pub ordered : r ≡ pos 0 → numberOf s <ℤ numberOf b
+    -- no refusal: the vector that is written is a tried one, and with v in bound some member M has x'Mx ≤ v·x'x for it
+    pub from-list : r ≤ℤ pos 0 → List·Memᴰ (vectorOf k x) (tried k)
+    pub witness : r ≤ℤ pos 0 → WitnessAt k L U (numberOf b) (nth (vectorOf k x))
+    -- of no tried vector does a member do that at v - 1
+    pub least : r ≤ℤ pos 0 → (y : List ℤ) → List·Memᴰ y (tried k) → WitnessAt k L U (numberOf b -ℤ pos 1) (nth y) → ⊥
 
 -- of a sample gathered into the sums that b spells; d: the buffers as they are left
 pub record GatherMeaning (s : Sample) (n : ℤ) (b d : Lent (List ℕ)) (r : ℤ) : Type 0 where

@@ -4,6 +4,7 @@ ghost use Rattle.hankboulder.specs.Entries.{TestFactorResult, testFactor
 ghost use Rattle.hankboulder.specs.Entries.{JudgeResult, judgeEntry, BoxResult, boxEntry};
 ghost use Rattle.hankboulder.specs.Meanings.{FactorMeaning, VectorMeaning, JudgeMeaning, BoxMeaning};
 
+pub mod bracketing;
 pub mod file_reading;
 pub mod file_writing;
 pub mod gathering;

@@ -3,3 +3,4 @@ pub mod Quotients
 pub mod Descending
 pub mod Meanings
 pub mod Stating
+pub mod Fitting

@@ -1,10 +1,8 @@
 -- By the verdict.
-use mathlib.Core.Path.{refl, sym, ap, _∙_}
+use mathlib.Core.Path.{refl, sym, _∙_}
 use native.Mathlib.Omega.{arith}
 use borrow.Author.Needs.{needs}
-use mir.Syntax.{w64}
 use Rattle.integers.proofs.Machine.{clean-element}
-use Rattle.words.specs.Numbers.{withSigned}
 use Rattle.tables.specs.Matrix.{at}
 use Rattle.tables.proofs.Matrix.{table-fits}
 use Rattle.verdict.specs.Judge.{Judgement, judged}
@@ -61,11 +59,9 @@ judge-bounds-spec =
     let v = k .before in
     let f = v .before .before in
     let s = start f in
-    let a = s .args in
     let w = v .verdict .given .0 .0 in
     let e = clean-element w (k .known-told .given .0 .1) in
-    let t = ap (withSigned w64 (a .over .now) 0) e ∙ number-stored (a .over .now) w (s .pre .5) in
-    rw (e, n .store-numbers .ensures ∙ numbers-stored _ _ _ (s .pre .3), o .store-signed .ensures ∙ t)
+    rw (e, n .store-numbers .ensures ∙ numbers-stored _ _ _ (s .pre .3), number-stored (s .args .over .now) (s .pre .5) e (o .store-signed .ensures))
     (made-of (given s) {g = of s} (f .before .decide .ensures) (Verdict.Definite w) (v .verdict .given .1)))
     (λ c. search needs)
     (λ c.

@@ -25,7 +25,7 @@ carried : (s : tie.Start) (P : ℤ → FactorAnswer) (v : ℤ) {o : List ℕ} �
 carried s P v h e =
     let f = clean-element v h in
     ap₂ (λ (z : ℤ) (o : List ℕ). record { answer = P z; over = o }) f
-    (e ∙ ap (withSigned w64 (s .args .over .now) 0) f ∙ number-stored (s .args .over .now) v (s .pre))
+    (number-stored (s .args .over .now) (s .pre) f e)
 
 pub store-over-spec : {M : Type 1} → statement M
 store-over-spec =

@@ -1,9 +1,7 @@
-use mathlib.Core.Path.{ap, _∙_}
+use mathlib.Core.Path.{_∙_}
 use native.Mathlib.Omega.{arith}
 use borrow.Author.Needs.{needs}
-use mir.Syntax.{w64}
 use Rattle.integers.proofs.Machine.{read-i64, clean-element}
-use Rattle.words.specs.Numbers.{withSigned}
 use Rattle.buffers.proofs.Stores.{number-stored}
 use Rattle.file_buffers.proofs.Fronts.{numbers-stored}
 use Rattle.file_buffers.proofs.storing.store_others.Statement.{statement}
@@ -28,7 +26,7 @@ store-others-spec =
     let s = one .before .before .before .before .before .before .before .before in
     let a = s .args in
     let p = s .pre in (
-      one .store-signed .ensures ∙ ap (withSigned w64 (a .order .now) 0) (read-i64 _ (omega (arith, p .0))) ∙ number-stored (a .order .now) _ (p .1),
-      two .store-signed2 .ensures ∙ ap (withSigned w64 (a .limit .now) 0) (clean-element (a .problem .constraint .limit) (two .before .struct-told .given .1 .1 .1 .1 .0 .1)) ∙ number-stored (a .limit .now) _ (p .2),
+      number-stored (a .order .now) (p .1) (read-i64 _ (omega (arith, p .0))) (one .store-signed .ensures),
+      number-stored (a .limit .now) (p .2) (clean-element (a .problem .constraint .limit) (two .before .struct-told .given .1 .1 .1 .1 .0 .1)) (two .store-signed2 .ensures),
       three .store-numbers .ensures ∙ numbers-stored (p .3),
     )))

@@ -8,7 +8,7 @@ use lib.ListN.{length}
 use mir.Syntax.{w64}
 use mir.Val.{bytes}
 use Rattle.integers.proofs.Machine.{clean, clean-element, clean-result}
-use Rattle.words.specs.Numbers.{bytesOf, withSigned}
+use Rattle.words.specs.Numbers.{bytesOf}
 use Rattle.words.proofs.Laws.{length-numbersOf}
 use Rattle.tables.specs.Ranges.{limitRange}
 use Rattle.tables.specs.Checks.{orderOf, within, firstRefusal}
@@ -160,8 +160,8 @@ gather-measured-spec =
     let k = t .before .before .before .before .before .before .before .before .before .before in
     laid-taken (λ t. bytesOf w64 t (factorCount * factorCount)) (λ x. bytesOf w64 x factorCount) bytesOfNumber (states d) (lent s) (k .summed .given .0 .0) (k .summed .given .1)
     (q .0) (q .1) (q .2) (q .3)
-    (g .store-signed .ensures ∙ ap (withSigned w64 (lent s .limit) 0) (clean-element (k .summed .given .0 .0) (t .before .before .before .before .before .before .before .before .before .known-told .given .0 .1))
-    ∙ number-stored (lent s .limit) _ (lengths (behind d) .limit)))
+    (number-stored (lent s .limit) (lengths (behind d) .limit)
+    (clean-element (k .summed .given .0 .0) (t .before .before .before .before .before .before .before .before .before .known-told .given .0 .1)) (g .store-signed .ensures)))
     (λ c. search needs)
     (λ c. search needs)
     (λ c. search needs)

@@ -8,7 +8,6 @@ use lib.IntN.{ℤ}
 use lib.ListN.{length}
 use mir.Syntax.{w64}
 use mir.Val.{bytes}
-use Rattle.words.specs.Numbers.{withSigned}
 use Rattle.integers.proofs.Machine.{clean, clean-element}
 use Rattle.tables.specs.Ranges.{greatestOrder}
 use Rattle.tables.specs.Checks.{orderOf, firstRefusal}
@@ -168,7 +167,7 @@ read-sums-spec =
     let s = start d in
     let v = g .reading .given .0 .0 in
     let f = clean-element v (c .before .before .before .before .known-told .given .0 .1) in
-    let t = ap (withSigned w64 (s .args .limit .now) 0) f ∙ number-stored (s .args .limit .now) v (lent (sizing d) (passed d) .4) in
-    ap₂ (λ (w : ℤ) (o : List ℕ). record { answer = Reading.Limit w; limit = o }) f (c .before .before .store-signed .ensures ∙ t)
+    ap₂ (λ (w : ℤ) (o : List ℕ). record { answer = Reading.Limit w; limit = o }) f
+    (number-stored (s .args .limit .now) (lent (sizing d) (passed d) .4) f (c .before .before .store-signed .ensures))
     ∙ ap (given s) (sym (g .reading .given .1) ∙ read e))
     (λ c. let e = c .before .before .before in ap (given (start (loads e))) (sym (c .before .reading2 .given .1) ∙ read e)))
