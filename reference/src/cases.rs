@@ -1,4 +1,4 @@
-//! The worked cases W1 to W51, and cases for the mistakes that docs/RULES.md remarks
+//! The worked cases W1 to W60, and cases for the mistakes that docs/RULES.md remarks
 //! on. Expected answers are literals.
 
 use std::fmt;
@@ -9,7 +9,7 @@ use crate::problem::{square, Bounds, Problem};
 use crate::program::{box_lines, output, verdict_lines};
 use crate::refusal::Refusal;
 use crate::residual::rows_over;
-use crate::summary::{encode, read_problem, NUMBER_WIDTH};
+use crate::summary::{decode, encode, read_problem, NUMBER_WIDTH};
 use crate::vectors::least_value;
 use crate::writer::file_of;
 
@@ -47,7 +47,7 @@ impl fmt::Display for Case {
     }
 }
 
-/// Every case: W1 to W20, W21 (case P), W24 to W51, then those for the mistakes, W22
+/// Every case: W1 to W20, W21 (case P), W24 to W60, then those for the mistakes, W22
 /// and W23 among them.
 pub fn listed_cases() -> Vec<Case> {
     [
@@ -61,6 +61,7 @@ pub fn listed_cases() -> Vec<Case> {
         lopsided_tables(),
         lopsided_files(),
         offered_factors(),
+        brackets(),
         wrong_turns(),
     ]
     .concat()
@@ -273,6 +274,22 @@ fn offered_factors() -> Vec<Case> {
     ]
 }
 
+/// Brackets of the stiffness.
+fn brackets() -> Vec<Case> {
+    let thin = |matrix: &str, expected: &str| bracketed(matrix, matrix, expected);
+    vec![
+        thin("[1]", "step 0; bound 1; vector 1"),
+        thin("[4]", "step 3; bound 4; vector 1"),
+        thin("[0]", "bound 0; vector 1"),
+        thin("[5 2; 2 5]", "step 2; bound 3; vector 1 -1"),
+        thin("[1 2; 2 1]", "bound -1; vector 1 -1"),
+        thin("[4 1; 1 3]", "step 2; bound 3; vector 0 1"),
+        thin("[0 1; 1 1]", "bound 0; vector 1 0"),
+        thin("[1 3; 3 10]", "bound 1; vector 1 0"),
+        bracketed("[3 -1; 1 3]", "[4 2; 3 4]", "step 0; bound 1; vector 1 -1"),
+    ]
+}
+
 fn wrong_turns() -> Vec<Case> {
     vec![
         factor_entry("[2 -1; -1 2]", (0, 1), "-47862"),
@@ -319,6 +336,29 @@ fn offered(low: &str, high: &str, factor: &str, expected: &str) -> Case {
         0 => format!("accepted; over {}", i64::from_le_bytes(over)),
         -1 => format!("not accepted; over {}", i64::from_le_bytes(over)),
         refusal => format!("refused {refusal}"),
+    };
+    Case::new(&subject, expected, got)
+}
+
+/// The bracket of the stiffness, over bytes.
+fn bracketed(low: &str, high: &str, expected: &str) -> Case {
+    let subject = format!("bracket of L {low}, U {high}");
+    let order = low.split(';').count();
+    let [low, high] = [low, high].map(|table| encode(&numbers(table), NUMBER_WIDTH));
+    let [mut step, mut bound] = [[0xA5; NUMBER_WIDTH]; 2];
+    let mut vector = vec![0xA5; NUMBER_WIDTH * order];
+    let n = order as i64;
+    let code = entries::stiffness(n, &low, &high, &mut step, &mut bound, &mut vector);
+    let line = |word: &str, bytes: &[u8]| {
+        let written = decode(bytes, NUMBER_WIDTH).into_iter();
+        let words: String = written.map(|number| format!(" {number}")).collect();
+        format!("{word}{words}")
+    };
+    let lines = format!("{}; {}", line("bound", &bound), line("vector", &vector));
+    let got = match (code, step == [0xA5; NUMBER_WIDTH]) {
+        (entries::POSITIVE, false) => format!("{}; {lines}", line("step", &step)),
+        (entries::NEGATIVE, true) => lines,
+        _ => format!("answer {code}"),
     };
     Case::new(&subject, expected, got)
 }

@@ -1,4 +1,4 @@
-//! The acts over bytes, as the C entries have them: R15 and R22 to R25.
+//! The acts over bytes, as the C entries have them: R15 and R22 to R26.
 //!
 //! Numbers take up 8 bytes (R15.2); what is returned is that of R15.4.
 
@@ -10,14 +10,15 @@ use crate::problem::{
 use crate::refusal::Refusal;
 use crate::residual::{self, FactorAnswer};
 use crate::rides::{self, Sample};
+use crate::stiffness::{self, Bracket};
 use crate::summary::{decode, encode, read_problem, NUMBER_WIDTH};
 use crate::vectors;
 use crate::writer;
 
-/// 'definite', 'accepted', 'yes', a box, a sample taken, a limit written, a file
-/// written, a problem written
+/// 'definite', 'accepted', 'yes', a box, a bracket with its step, a sample taken, a
+/// limit written, a file written, a problem written
 pub const POSITIVE: i64 = 0;
-/// 'not definite', 'not accepted', 'no', 'empty'
+/// 'not definite', 'not accepted', 'no', 'empty', a bound alone
 pub const NEGATIVE: i64 = -1;
 /// 'undecided'
 pub const UNDECIDED: i64 = -2;
@@ -181,6 +182,54 @@ pub fn enclosed(
     let answer = enclosure::enclose(n, &low, &high, &least, &most, limit, &centre, &mut pairs)?;
     write(&pairs, sides);
     Ok(answer)
+}
+
+/// The return value of the bracket of the stiffness.
+pub fn stiffness_code(answer: &Result<Bracket, Refusal>) -> i64 {
+    match answer {
+        Ok(Bracket { step: Some(_), .. }) => POSITIVE,
+        Ok(Bracket { step: None, .. }) => NEGATIVE,
+        Err(refusal) => refusal.number(),
+    }
+}
+
+/// The bracket of the stiffness.
+pub fn stiffness(
+    n: i64,
+    low: &[u8],
+    high: &[u8],
+    step: &mut [u8],
+    bound: &mut [u8],
+    vector: &mut [u8],
+) -> i64 {
+    stiffness_code(&bracketed(n, low, high, step, bound, vector))
+}
+
+/// The bracket of the stiffness, with all that its return value leaves out. R15.7: bound
+/// and vector are written with either answer, and the step where it is given.
+pub fn bracketed(
+    n: i64,
+    low: &[u8],
+    high: &[u8],
+    step: &mut [u8],
+    bound: &mut [u8],
+    vector: &mut [u8],
+) -> Result<Bracket, Refusal> {
+    let buffers = [
+        (low, table_size as Count),
+        (high, table_size),
+        (&*step, SINGLE),
+        (&*bound, SINGLE),
+        (&*vector, LIST),
+    ];
+    let [low, high, _, _, mut x] = read(n, buffers)?;
+    let bracket = stiffness::bracket(n, &low, &high, &mut x)?;
+    write(&x, vector);
+    write_single(bracket.bound, bound);
+    if let Some(t) = bracket.step {
+        write_single(t, step);
+    }
+    Ok(bracket)
 }
 
 /// The return value of what only takes or refuses.

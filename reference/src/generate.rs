@@ -1,6 +1,7 @@
 //! Seeded problems, calls and files for comparisons with another
 //! implementation.
 
+mod brackets;
 mod calls;
 mod factors;
 mod files;
@@ -11,7 +12,7 @@ mod problems;
 mod rides;
 mod simulated;
 
-pub use calls::{BoxCall, FactorCall, JudgeCall, VectorCall, WriteCall};
+pub use calls::{BoxCall, FactorCall, JudgeCall, StiffnessCall, VectorCall, WriteCall};
 pub use files::{DrawnFile, Field, ReadCall};
 pub use points::{Fractions, Point};
 pub use rides::{GatherCall, SumsCall, EDGES};

@@ -19,6 +19,7 @@ pub mod random;
 pub mod refusal;
 pub mod residual;
 pub mod rides;
+pub mod stiffness;
 pub mod summary;
 pub mod vectors;
 pub mod writer;

@@ -32,7 +32,7 @@ struct problem {
 
 /* All that the functions answer and write for a problem: the answers of gathering are added up */
 struct result {
-    int64_t answers[8];
+    int64_t answers[9];
     int64_t low[HB_SAMPLE_ORDER * HB_SAMPLE_ORDER];
     int64_t high[HB_SAMPLE_ORDER * HB_SAMPLE_ORDER];
     int64_t linear_low[HB_SAMPLE_ORDER];
@@ -43,6 +43,9 @@ struct result {
     int64_t vector[N];
     int64_t over;
     int64_t tested_over;
+    int64_t step;
+    int64_t bound;
+    int64_t shown[N];
     int64_t sides[2 * N];
     uint8_t file[HB_SUMMARY_BYTES(N)];
     int64_t order;
@@ -94,6 +97,8 @@ static void call(const struct problem *problem, struct result *result)
                                          (uint8_t *)result->read_linear_high, sizeof result->read_linear_high,
                                          (uint8_t *)&result->read_limit, sizeof result->read_limit, (uint8_t *)result->read_centre,
                                          sizeof result->read_centre);
+    result->answers[8] = hb_stiffness(N, table, size, table, size, (uint8_t *)&result->step, sizeof result->step, (uint8_t *)&result->bound,
+                                      sizeof result->bound, (uint8_t *)result->shown, sizeof result->shown);
 }
 
 /* Whether a problem's calls give what they gave alone */
@@ -171,6 +176,9 @@ int main(void)
     expect("undecided", alone[1].answers[0] == HB_UNDECIDED && alone[1].over == 0);
     expect("not definite, as the vector shows",
            alone[2].answers[0] == HB_NOT_DEFINITE && alone[2].over == 0 && alone[2].answers[2] == HB_YES);
+    expect("a step and a bound", alone[0].answers[8] == HB_BETWEEN && 0 < alone[0].step && alone[0].step < alone[0].bound);
+    expect("a bound alone, above 0 and at it", alone[1].answers[8] == HB_AT_MOST && alone[1].step == 0 && alone[1].bound == 1 &&
+                                                   alone[2].answers[8] == HB_AT_MOST && alone[2].step == 0 && alone[2].bound == 0);
     expect("gathered, and read", alone[0].answers[4] == HB_TAKEN && alone[0].answers[5] == HB_WRITTEN);
     expect("64 gathered, and 6 too many", alone[1].answers[4] == 6 * HB_REFUSED_FULL && alone[1].answers[5] == HB_WRITTEN);
     expect("all samples refused", alone[2].answers[4] == SAMPLES * HB_REFUSED_SAMPLE && alone[2].limit == 1000000);

@@ -262,6 +262,131 @@ static void run_over_sizes(void)
     expect("nothing is written", kept(over, sizeof over), 1);
 }
 
+/* A call of the bracket, the answer it gives, and what it writes: the step where it is 0, bound and vector where it is 0 or -1. */
+struct stiffness_case {
+    const char *what;
+    int64_t n;
+    int64_t low[ENTRIES];
+    int64_t high[ENTRIES];
+    size_t vector_len;
+    int64_t expected;
+    int64_t step;
+    int64_t bound;
+    int64_t vector[ORDER];
+};
+
+static const struct stiffness_case stiffness_cases[] = {
+    {"bracket [5 2; 2 5]", 2, {5, 2, 2, 5}, {5, 2, 2, 5}, WHOLE_VECTOR, HB_BETWEEN, 2, 3, {1, -1}},
+    {"bracket [4 1; 1 3]", 2, {4, 1, 1, 3}, {4, 1, 1, 3}, WHOLE_VECTOR, HB_BETWEEN, 2, 3, {0, 1}},
+    {"bracket [2 1; 1 2]", 2, MATRIX, MATRIX, WHOLE_VECTOR, HB_BETWEEN, 0, 1, {1, -1}},
+    {"bracket [1 0; 0 1]", 2, {1, 0, 0, 1}, {1, 0, 0, 1}, WHOLE_VECTOR, HB_BETWEEN, 0, 1, {0, 1}},
+    {"bracket the greatest diagonal", 2, {HB_ENTRY_RANGE, 0, 0, HB_ENTRY_RANGE}, {HB_ENTRY_RANGE, 0, 0, HB_ENTRY_RANGE}, WHOLE_VECTOR,
+     HB_BETWEEN, HB_ENTRY_RANGE - 1, HB_ENTRY_RANGE, {0, 1}},
+    {"bracket [1 2; 2 1]", 2, {1, 2, 2, 1}, {1, 2, 2, 1}, WHOLE_VECTOR, HB_AT_MOST, 0, -1, {1, -1}},
+    {"bracket [1 0; 0 1] to [1 2; 2 1]", 2, {1, 0, 0, 1}, {1, 2, 2, 1}, WHOLE_VECTOR, HB_AT_MOST, 0, -1, {1, -1}},
+    {"bracket [0 1; 1 1]", 2, {0, 1, 1, 1}, {0, 1, 1, 1}, WHOLE_VECTOR, HB_AT_MOST, 0, 0, {1, 0}},
+    {"bracket [1 3; 3 10]", 2, {1, 3, 3, 10}, {1, 3, 3, 10}, WHOLE_VECTOR, HB_AT_MOST, 0, 1, {1, 0}},
+    {"bracket [100 37; 37 13]", 2, {100, 37, 37, 13}, {100, 37, 37, 13}, WHOLE_VECTOR, HB_AT_MOST, 0, 13, {0, 1}},
+    {"bracket the least entries", 2, {-HB_ENTRY_RANGE, -HB_ENTRY_RANGE, -HB_ENTRY_RANGE, -HB_ENTRY_RANGE},
+     {-HB_ENTRY_RANGE, -HB_ENTRY_RANGE, -HB_ENTRY_RANGE, -HB_ENTRY_RANGE}, WHOLE_VECTOR, HB_AT_MOST, 0, -2 * HB_ENTRY_RANGE, {1, 1}},
+    {"bracket halves mended to [3 1; 1 3] and [4 2; 2 4]", 2, {3, -1, 1, 3}, {4, 2, 3, 4}, WHOLE_VECTOR, HB_BETWEEN, 0, 1, {1, -1}},
+    {"bracket halves that are mended to [1 2; 2 1]", 2, {1, -9, 2, 1}, {1, 2, 5, 1}, WHOLE_VECTOR, HB_AT_MOST, 0, -1, {1, -1}},
+    {"bracket at order 0", 0, MATRIX, MATRIX, WHOLE_VECTOR, HB_REFUSED_ORDER, 0, 0, {0}},
+    {"bracket at order 9", 9, MATRIX, MATRIX, WHOLE_VECTOR, HB_REFUSED_ORDER, 0, 0, {0}},
+    {"bracket at order 2^32 + 2", ((int64_t)1 << 32) + 2, MATRIX, MATRIX, WHOLE_VECTOR, HB_REFUSED_ORDER, 0, 0, {0}},
+    {"bracket tables of order 2 at order 1", 1, MATRIX, MATRIX, HB_VECTOR_BYTES(1), HB_REFUSED_LENGTH, 0, 0, {0}},
+    {"bracket with a vector one byte short", 2, MATRIX, MATRIX, WHOLE_VECTOR - 1, HB_REFUSED_LENGTH, 0, 0, {0}},
+    {"bracket with a vector as long as a table", 2, MATRIX, MATRIX, WHOLE, HB_REFUSED_LENGTH, 0, 0, {0}},
+    {"bracket an entry above the range", 2, MATRIX, {2, 1, 1, HB_ENTRY_RANGE + 1}, WHOLE_VECTOR, HB_REFUSED_RANGE, 0, 0, {0}},
+    {"bracket the least 64-bit number", 2, {2, INT64_MIN, 1, 2}, MATRIX, WHOLE_VECTOR, HB_REFUSED_RANGE, 0, 0, {0}},
+    {"bracket low above high", 2, {2, 2, 2, 2}, MATRIX, WHOLE_VECTOR, HB_REFUSED_CROSSED, 0, 0, {0}},
+    {"bracket halves that leave no number", 2, {2, 0, 2, 2}, {2, 1, 3, 2}, WHOLE_VECTOR, HB_REFUSED_LOPSIDED, 0, 0, {0}},
+};
+
+/* The answers of the vector test for the vector of a bracket, with the bound taken off both diagonals and with one less taken off. */
+static void test_bracket(const struct stiffness_case *test, const uint8_t *vector)
+{
+    int64_t off;
+    for (off = test->bound - 1; off <= test->bound; off++) {
+        int64_t tables[2][ENTRIES];
+        uint8_t low[WHOLE], high[WHOLE];
+        size_t k;
+        memcpy(tables[0], test->low, sizeof tables[0]);
+        memcpy(tables[1], test->high, sizeof tables[1]);
+        for (k = 0; k < ENTRIES; k += ORDER + 1) {
+            tables[0][k] -= off;
+            tables[1][k] -= off;
+        }
+        store(low, tables[0], ENTRIES);
+        store(high, tables[1], ENTRIES);
+        expect("the vector, with the bound taken off", hb_test_vector(ORDER, low, WHOLE, high, WHOLE, vector, WHOLE_VECTOR),
+               off == test->bound ? HB_YES : HB_NO);
+    }
+}
+
+/* Brackets, and then has the judge say where a step is given, and what was written tested. */
+static void run_stiffness_case(const struct stiffness_case *test)
+{
+    uint8_t low[1 + WHOLE], high[1 + WHOLE], step[1 + HB_STEP_BYTES + 1], bound[1 + HB_BOUND_BYTES + 1], vector[1 + WHOLE + 1];
+    uint8_t factor[WHOLE], witness[WHOLE_VECTOR], over[HB_OVER_BYTES];
+    int64_t answer, verdict;
+    store(low + 1, test->low, ENTRIES);
+    store(high + 1, test->high, ENTRIES);
+    memset(step, KEPT, sizeof step);
+    memset(bound, KEPT, sizeof bound);
+    memset(vector, KEPT, sizeof vector);
+    answer = hb_stiffness(test->n, low + 1, WHOLE, high + 1, WHOLE, step + 1, HB_STEP_BYTES, bound + 1, HB_BOUND_BYTES, vector + 1,
+                          test->vector_len);
+    expect(test->what, answer, test->expected);
+    expect("the tables are as they were", holds(low + 1, test->low, ENTRIES) && holds(high + 1, test->high, ENTRIES), 1);
+    if (answer > 0) {
+        expect("all outputs are kept", kept(step, sizeof step) && kept(bound, sizeof bound) && kept(vector, sizeof vector), 1);
+        return;
+    }
+    verdict = hb_judge(ORDER, low + 1, WHOLE, high + 1, WHOLE, factor, WHOLE, witness, WHOLE_VECTOR, over, HB_OVER_BYTES);
+    expect("a step is given exactly with a definite verdict", answer == HB_BETWEEN, verdict == HB_DEFINITE);
+    expect("the step", answer == HB_BETWEEN ? holds_alone(step, test->step) : kept(step, sizeof step), 1);
+    expect("the bound", hb_load_number(bound + 1), test->bound);
+    expect("no byte beside it is written", holds_alone(bound, test->bound), 1);
+    expect("the vector", holds(vector + 1, test->vector, ORDER), 1);
+    expect("no byte beside it is written", kept(vector, 1) && kept(vector + 1 + WHOLE_VECTOR, sizeof vector - 1 - WHOLE_VECTOR), 1);
+    if (test->bound > -HB_ENTRY_RANGE)
+        test_bracket(test, vector + 1);
+}
+
+/* Every other size of step and of bound, of a bracket with a step and of one without; n comes before it, and the tables behind it */
+static void run_stiffness_sizes(void)
+{
+    static const int64_t good[ENTRIES] = MATRIX, flat[ENTRIES] = {1, 1, 1, 1}, crossed[ENTRIES] = {3, 1, 1, 2};
+    uint8_t tables[2][WHOLE], above[WHOLE], vector[WHOLE_VECTOR], one[3 * HB_STEP_BYTES], other[HB_BOUND_BYTES];
+    size_t size, k;
+    expect("the size of a step", HB_STEP_BYTES, HB_NUMBER_BYTES);
+    expect("that of a bound", HB_BOUND_BYTES, HB_NUMBER_BYTES);
+    store(tables[0], good, ENTRIES);
+    store(tables[1], flat, ENTRIES);
+    store(above, crossed, ENTRIES);
+    memset(vector, KEPT, sizeof vector);
+    memset(one, KEPT, sizeof one);
+    memset(other, KEPT, sizeof other);
+    for (size = 0; size <= sizeof one; size++) {
+        if (size == HB_STEP_BYTES)
+            continue;
+        for (k = 0; k < 2; k++) {
+            const uint8_t *low = tables[k];
+            expect("a step of another size",
+                   hb_stiffness(ORDER, low, WHOLE, low, WHOLE, one, size, other, HB_BOUND_BYTES, vector, WHOLE_VECTOR), HB_REFUSED_LENGTH);
+            expect("a bound of another size",
+                   hb_stiffness(ORDER, low, WHOLE, low, WHOLE, other, HB_STEP_BYTES, one, size, vector, WHOLE_VECTOR), HB_REFUSED_LENGTH);
+            expect("the same and crossed",
+                   hb_stiffness(ORDER, above, WHOLE, low, WHOLE, one, size, other, HB_BOUND_BYTES, vector, WHOLE_VECTOR),
+                   HB_REFUSED_LENGTH);
+            expect("the same and order 9",
+                   hb_stiffness(9, low, WHOLE, low, WHOLE, other, HB_STEP_BYTES, one, size, vector, WHOLE_VECTOR), HB_REFUSED_ORDER);
+        }
+    }
+    expect("nothing is written", kept(one, sizeof one) && kept(other, sizeof other) && kept(vector, sizeof vector), 1);
+}
+
 /* A call of the box, the answer it gives, and the sides it writes where that is 0. */
 struct box_case {
     const char *what;
@@ -447,7 +572,7 @@ static void run_one_table(void)
     const int64_t numbers[ENTRIES] = {5, 1, 1, 5}, zeros[ORDER] = ZEROS, still[2 * ORDER] = {0, 0, 0, 0};
     const int64_t ones[ORDER] = {1, 1}, unit[ORDER] = {1, 0}, around[2 * ORDER] = {-4, 6, -4, 4};
     uint8_t table[WHOLE], factor[WHOLE], vector[WHOLE_VECTOR], terms[WHOLE_VECTOR], middle[WHOLE_VECTOR], sides[WHOLE_SIDES];
-    uint8_t over[HB_OVER_BYTES], tested[HB_OVER_BYTES];
+    uint8_t over[HB_OVER_BYTES], tested[HB_OVER_BYTES], step[HB_STEP_BYTES], bound[HB_BOUND_BYTES];
     store(table, numbers, ENTRIES);
     store(terms, zeros, ORDER);
     store(middle, zeros, ORDER);
@@ -457,6 +582,11 @@ static void run_one_table(void)
     expect("the same number over", memcmp(over, tested, sizeof over), 0);
     store(vector, numbers, ORDER);
     expect("test a vector", hb_test_vector(ORDER, table, WHOLE, table, WHOLE, vector, WHOLE_VECTOR), HB_NO);
+    expect("bracket it",
+           hb_stiffness(ORDER, table, WHOLE, table, WHOLE, step, sizeof step, bound, sizeof bound, vector, WHOLE_VECTOR), HB_BETWEEN);
+    expect("its step", hb_load_number(step), 3);
+    expect("its bound", hb_load_number(bound), 4);
+    expect("its vector", hb_load_number(vector) == 1 && hb_load_number(vector + HB_NUMBER_BYTES) == -1, 1);
     expect("box it",
            hb_box(ORDER, table, WHOLE, table, WHOLE, terms, WHOLE_VECTOR, terms, WHOLE_VECTOR, 0, middle, WHOLE_VECTOR, sides, WHOLE_SIDES),
            HB_BOX);
@@ -903,6 +1033,9 @@ int main(void)
     for (k = 0; k < sizeof judge_cases / sizeof judge_cases[0]; k++)
         run_judge_case(&judge_cases[k]);
     run_over_sizes();
+    for (k = 0; k < sizeof stiffness_cases / sizeof stiffness_cases[0]; k++)
+        run_stiffness_case(&stiffness_cases[k]);
+    run_stiffness_sizes();
     for (k = 0; k < sizeof vector_cases / sizeof vector_cases[0]; k++)
         run_vector_case(&vector_cases[k]);
     for (k = 0; k < sizeof factor_cases / sizeof factor_cases[0]; k++)
@@ -911,6 +1044,8 @@ int main(void)
     expect("null buffers and order 0", hb_test_factor(0, NULL, 0, NULL, 0, NULL, 0, NULL, 0), HB_REFUSED_ORDER);
     expect("null buffers of the judge", hb_judge(1, NULL, 0, NULL, 0, NULL, 0, NULL, 0, NULL, 0), HB_REFUSED_LENGTH);
     expect("the same and order 9", hb_judge(9, NULL, 0, NULL, 0, NULL, 0, NULL, 0, NULL, 0), HB_REFUSED_ORDER);
+    expect("null buffers of the bracket", hb_stiffness(1, NULL, 0, NULL, 0, NULL, 0, NULL, 0, NULL, 0), HB_REFUSED_LENGTH);
+    expect("the same and order 9", hb_stiffness(9, NULL, 0, NULL, 0, NULL, 0, NULL, 0, NULL, 0), HB_REFUSED_ORDER);
     expect("null buffers of the box", hb_box(1, NULL, 0, NULL, 0, NULL, 0, NULL, 0, 0, NULL, 0, NULL, 0), HB_REFUSED_LENGTH);
     expect("the same and order -1", hb_box(-1, NULL, 0, NULL, 0, NULL, 0, NULL, 0, 0, NULL, 0, NULL, 0), HB_REFUSED_ORDER);
     printf("%d passed, %d failed\n", passed, failed);

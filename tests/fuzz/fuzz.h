@@ -1,4 +1,4 @@
-/* The second implementation's output for a summary file, and new files: the C side of src/lib.rs. */
+/* The second implementation's output for a summary file, its bracket of the stiffness, and new files: the C side of src/lib.rs. */
 #ifndef FUZZ_H
 #define FUZZ_H
 
@@ -11,6 +11,8 @@ size_t fuzz_expected(const uint8_t *file, size_t size, uint8_t *text, size_t roo
 int64_t fuzz_read(const uint8_t *file, size_t size, uint8_t *problem);
 /* Writes the file of the problem that a file is read as; its length, 0 where the file is refused. */
 size_t fuzz_again(const uint8_t *file, size_t size, uint8_t *again, size_t room);
+/* Writes the bracket of a problem into the three buffers of hb_stiffness, which have their sizes, one behind the other; the answer. */
+int64_t fuzz_bracket(int64_t n, const uint8_t *low, const uint8_t *high, uint8_t *bracket);
 /* Puts right what refuses a file; its new length, the old where it has no room. */
 size_t fuzz_repair(uint8_t *file, size_t size, size_t room);
 /* Writes a generated file; its length, 0 where it has no room. */

@@ -4,6 +4,8 @@
  * standard error, and its exit status 0. hb_read_summary, in this process too, has to answer as the second implementation does, and to leave the same
  * bytes; and what it reads hb_write_summary has to write as the file of the mended problem: the same file where its tables are symmetric.
  * hb_judge has to write the number that the program prints behind `over`, and to keep its buffer where it prints no such line.
+ * hb_stiffness has to answer as the second implementation does and to leave the same bytes, with a step exactly where the program prints
+ * `definite`.
  */
 #define _GNU_SOURCE
 #include <errno.h>
@@ -249,6 +251,25 @@ static bool same_over(const struct problem *read, const char *text) {
     return hb_load_number(over) == printed && (verdict == HB_DEFINITE) == (printed != unwritten);
 }
 
+/* What hb_stiffness writes, one behind the other. A vector of a smaller order stands in front of the last buffer. */
+struct bracket {
+    uint8_t step[HB_STEP_BYTES];
+    uint8_t bound[HB_BOUND_BYTES];
+    uint8_t vector[HB_VECTOR_BYTES(HB_MAX_ORDER)];
+};
+
+/* Whether hb_stiffness gives the second implementation's bracket of what was read, with a step exactly where `definite` was printed */
+static bool same_bracket(const struct problem *read, const char *text) {
+    struct bracket given, expected;
+    int64_t n = hb_load_number(read->order);
+    memset(&given, 0x5A, sizeof given);
+    memset(&expected, 0x5A, sizeof expected);
+    int64_t answer = hb_stiffness(n, read->low, HB_TABLE_BYTES(n), read->high, HB_TABLE_BYTES(n), given.step, sizeof given.step,
+                                  given.bound, sizeof given.bound, given.vector, HB_VECTOR_BYTES(n));
+    return answer == fuzz_bracket(n, read->low, read->high, (uint8_t *)&expected) && memcmp(&given, &expected, sizeof given) == 0 &&
+           (answer == HB_BETWEEN) == (text[0] == 'd');
+}
+
 static void compare_reading(const uint8_t *data, size_t size, const char *text) {
     struct problem read, expected;
     memset(&read, 0x5A, sizeof read);
@@ -268,6 +289,10 @@ static void compare_reading(const uint8_t *data, size_t size, const char *text) 
     }
     if (answer == HB_WRITTEN && !same_over(&read, text)) {
         fprintf(stderr, "DIFFERENCE on %zu bytes: hb_judge has another number over than the program:\n%s", size, text);
+        abort();
+    }
+    if (answer == HB_WRITTEN && !same_bracket(&read, text)) {
+        fprintf(stderr, "DIFFERENCE on %zu bytes: hb_stiffness gives another bracket than the second implementation:\n%s", size, text);
         abort();
     }
 }

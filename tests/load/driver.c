@@ -83,6 +83,7 @@ static const struct act acts[LOAD_ACTS] = {
                    {HB_REFUSED_REVERSED, "reversed"},
                    {HB_REFUSED_FLAT, "flat"},
                    {HB_REFUSED_FAR, "far"}}},
+    [LOAD_STIFFNESS] = {"hb_stiffness", {{HB_BETWEEN, "between"}, {HB_AT_MOST, "at most"}, REFUSED_1_TO_5}},
     [LOAD_GATHER] = {"hb_gather",
                      {{HB_TAKEN, "taken"},
                       {HB_REFUSED_SAMPLE, "sample"},
@@ -252,6 +253,9 @@ static int64_t answered(const struct load_call *call, const struct place *lent) 
                               fourth->length);
     case LOAD_TEST_VECTOR:
         return hb_test_vector(n, low->lent, low->length, high->lent, high->length, third->lent, third->length);
+    case LOAD_STIFFNESS:
+        return hb_stiffness(n, low->lent, low->length, high->lent, high->length, third->lent, third->length, fourth->lent, fourth->length,
+                            fifth->lent, fifth->length);
     case LOAD_GATHER:
         return hb_gather(sample, n, low->lent, low->length, high->lent, high->length, third->lent, third->length, fourth->lent, fourth->length,
                          fifth->lent, fifth->length);
@@ -278,6 +282,9 @@ static bool is_written(const struct load_call *call, size_t k) {
     }
     if (call->act == LOAD_TEST_FACTOR) {
         return (call->answer == HB_ACCEPTED || call->answer == HB_NOT_ACCEPTED) && k == 3;
+    }
+    if (call->act == LOAD_STIFFNESS) { /* the bound with its vector, and the step before them */
+        return (call->answer == HB_BETWEEN && k >= 2) || (call->answer == HB_AT_MOST && k >= 3);
     }
     if (call->act == LOAD_GATHER) {
         return call->answer == HB_TAKEN;

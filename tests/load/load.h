@@ -5,7 +5,18 @@
 #include <stddef.h>
 #include <stdint.h>
 
-enum { LOAD_JUDGE, LOAD_TEST_FACTOR, LOAD_TEST_VECTOR, LOAD_BOX, LOAD_GATHER, LOAD_READ_SUMS, LOAD_WRITE_SUMMARY, LOAD_READ_SUMMARY, LOAD_ACTS };
+enum {
+    LOAD_JUDGE,
+    LOAD_TEST_FACTOR,
+    LOAD_TEST_VECTOR,
+    LOAD_BOX,
+    LOAD_STIFFNESS,
+    LOAD_GATHER,
+    LOAD_READ_SUMS,
+    LOAD_WRITE_SUMMARY,
+    LOAD_READ_SUMMARY,
+    LOAD_ACTS
+};
 
 /* The most buffers that an act has. */
 #define LOAD_MOST 8

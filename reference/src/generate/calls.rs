@@ -56,6 +56,18 @@ pub struct BoxCall {
     pub sides: Vec<u8>,
 }
 
+/// The bracket's arguments; the outputs with their contents before the call.
+#[derive(Clone, Debug, PartialEq, Eq)]
+#[allow(missing_docs)]
+pub struct StiffnessCall {
+    pub n: i64,
+    pub low: Vec<u8>,
+    pub high: Vec<u8>,
+    pub step: Vec<u8>,
+    pub bound: Vec<u8>,
+    pub vector: Vec<u8>,
+}
+
 /// The writer's arguments; the file with its contents before the call.
 #[derive(Clone, Debug, PartialEq, Eq)]
 #[allow(missing_docs)]
@@ -177,6 +189,29 @@ impl Generator {
             &mut call.linear_high,
             &mut call.centre,
             &mut call.sides,
+        ];
+        self.damage_sizes(&mut call.n, buffers);
+        call
+    }
+
+    /// A call of the bracket of the stiffness.
+    pub fn stiffness_call(&mut self) -> StiffnessCall {
+        let mut problem = self.bracket_problem();
+        self.damage_entries(&mut problem);
+        let mut call = StiffnessCall {
+            n: problem.order as i64,
+            low: bytes(&problem.low),
+            high: bytes(&problem.high),
+            step: self.buffer(1),
+            bound: self.buffer(1),
+            vector: self.buffer(problem.order),
+        };
+        let buffers = &mut [
+            &mut call.low,
+            &mut call.high,
+            &mut call.step,
+            &mut call.bound,
+            &mut call.vector,
         ];
         self.damage_sizes(&mut call.n, buffers);
         call

@@ -1,5 +1,5 @@
 //! Members of bounds, and points of an ellipsoid, with the member and the linear terms
-//! that they belong to: R3.2 and R3.6 to R3.8, in fractions; D3.8 of a member.
+//! that they belong to: R3.2 and R3.6 to R3.8, in fractions; D3.8 and D3.9 of a member.
 
 use super::{Generator, RawProblem};
 use crate::factoring::ceiling_quotient;
@@ -97,6 +97,15 @@ impl Fractions {
         let image = images(&factor);
         let squares = i128::from(over) * inner_product(&x, &x) + inner_product(&image, &image);
         (1 << 32) * inner_product(&x, &images(&self.numbers)) - self.denominator * squares
+    }
+
+    /// By how much x'Nx of a member N over q is above q·w·x'x, for a whole x and a whole
+    /// number w (D3.9). It is above 0 where w is the step and x ≠ 0.
+    pub fn above(&self, w: i64, x: &[i64]) -> i128 {
+        let x = widen(x);
+        let rows = self.numbers.chunks(x.len());
+        let image: Vec<i128> = rows.map(|row| inner_product(row, &x)).collect();
+        inner_product(&x, &image) - self.denominator * i128::from(w) * inner_product(&x, &x)
     }
 }
 

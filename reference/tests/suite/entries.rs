@@ -3,7 +3,7 @@
 use hankboulder_reference::entries;
 use hankboulder_reference::generate::Generator;
 
-use crate::support::{bytes, run_box, run_factor, run_gather, run_judge, run_sums};
+use crate::support::{bytes, run_box, run_factor, run_gather, run_judge, run_stiffness, run_sums};
 
 /// 'Definite' keeps the vector, 'not definite' the factor, all others both. What the
 /// rows have over is written with the factor.
@@ -65,6 +65,33 @@ fn the_box_writes_only_a_given_box() {
     assert!(given > 100, "{given}");
 }
 
+/// Bound and vector are written where the code is 0 or -1, the step where it is 0, and
+/// nothing elsewhere.
+#[test]
+fn the_bracket_writes_a_bound_with_its_vector_and_a_step_where_it_is_given() {
+    let mut generator = Generator::new(16);
+    let mut written = [0, 0];
+    for _ in 0..1500 {
+        let before = generator.stiffness_call();
+        let mut after = before.clone();
+        let code = run_stiffness(&mut after);
+        let changed = [
+            after.step != before.step,
+            after.bound != before.bound,
+            after.vector != before.vector,
+        ];
+        match code {
+            0 => assert_eq!(changed, [true; 3]),
+            -1 => assert_eq!(changed, [false, true, true]),
+            _ => assert_eq!(changed, [false; 3]),
+        }
+        assert_eq!((after.low, after.high), (before.low, before.high));
+        written[0] += usize::from(changed[0]);
+        written[1] += usize::from(changed[1]);
+    }
+    assert!(written[0] > 200 && written[1] > 700, "{written:?}");
+}
+
 /// The sums are written where the sample is taken and nowhere else.
 #[test]
 fn gathering_writes_only_what_is_taken() {
@@ -119,4 +146,16 @@ fn numbers_are_signed_with_the_low_byte_first() {
     let r = bytes(&[131073]);
     assert_eq!(entries::test_factor(1, &m, &m, &r, &mut over), -1);
     assert_eq!(over, [0xFF, 0xFF, 0xFB, 0xFF, 0xFF, 0xFF, 0xFF, 0xFF]);
+
+    // 300 = 0x12C has the step 299, and -2 is a bound alone.
+    let (mut step, mut bound) = ([0xA5; 8], [0xA5; 8]);
+    let m = [0x2C, 1, 0, 0, 0, 0, 0, 0];
+    let code = entries::stiffness(1, &m, &m, &mut step, &mut bound, &mut vector);
+    assert_eq!((code, bound), (0, m));
+    assert_eq!(step, [0x2B, 1, 0, 0, 0, 0, 0, 0]);
+    assert_eq!(vector, [1, 0, 0, 0, 0, 0, 0, 0]);
+    let m = [0xFE, 0xFF, 0xFF, 0xFF, 0xFF, 0xFF, 0xFF, 0xFF];
+    let code = entries::stiffness(1, &m, &m, &mut step, &mut bound, &mut vector);
+    assert_eq!((code, bound), (-1, m));
+    assert_eq!(step, [0x2B, 1, 0, 0, 0, 0, 0, 0]);
 }

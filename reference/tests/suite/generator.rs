@@ -9,12 +9,13 @@ use hankboulder_reference::judge::{verdict, List, Verdict};
 use hankboulder_reference::problem::Bounds;
 use hankboulder_reference::program::output;
 use hankboulder_reference::residual::{check_factor, over, rows_over};
+use hankboulder_reference::stiffness::{bracket_of, has_smaller_fraction};
 use hankboulder_reference::summary::read_problem;
 use hankboulder_reference::writer::file_of;
 
 use crate::support::{
     enclose_problem, judge, numbers, run_box, run_factor, run_gather, run_judge, run_read,
-    run_sums, run_write,
+    run_stiffness, run_sums, run_write,
 };
 
 /// How often each answer was met.
@@ -39,7 +40,11 @@ fn the_same_seed_gives_the_same_calls() {
         let mut generator = Generator::new(seed);
         let problem = generator.any_problem();
         let acts = (generator.factor_call(), generator.vector_call());
-        let others = (generator.judge_call(), generator.box_call());
+        let others = (
+            generator.judge_call(),
+            generator.box_call(),
+            generator.stiffness_call(),
+        );
         let rides = (generator.gather_call(), generator.sums_call());
         let files = (generator.write_call(), generator.read_call());
         (
@@ -152,6 +157,59 @@ fn box_calls_meet_every_answer() {
 }
 
 #[test]
+fn calls_of_the_bracket_meet_every_answer() {
+    let mut generator = Generator::new(69);
+    let counts = count(3000, || run_stiffness(&mut generator.stiffness_call()));
+    assert_met(&counts, &[-1, 0, 1, 2, 3, 4, 5]);
+}
+
+const STEP_OF_0: i64 = 0;
+const STEP_ABOVE_0: i64 = 1;
+const BELOW_0: i64 = 2;
+const AT_0: i64 = 3;
+const ABOVE_0: i64 = 4;
+
+/// Steps of 0 and above, and bounds alone on either side of 0 and at it, each where the
+/// vector that is shown has the least fraction and where another one has it. At order 1
+/// factoring stops exactly where the bound is 0 or less, and there is one fraction.
+#[test]
+fn brackets_of_every_kind_are_met_at_every_order() {
+    let mut generator = Generator::new(70);
+    let mut met: BTreeMap<(usize, bool), Counts> = BTreeMap::new();
+    let mut ends: BTreeMap<usize, BTreeSet<i128>> = BTreeMap::new();
+    for _ in 0..6000 {
+        let problem = generator.bracket_problem();
+        let n = problem.order;
+        let bounds = Bounds::read(n, &problem.low, &problem.high).unwrap();
+        let bracket = bracket_of(&bounds);
+        let kind = match (bracket.step, bracket.bound.signum()) {
+            (Some(0), _) => STEP_OF_0,
+            (Some(_), _) => STEP_ABOVE_0,
+            (None, sign) => AT_0 + sign as i64,
+        };
+        let elsewhere = has_smaller_fraction(&bounds, &bracket.vector);
+        let counts = met.entry((n, elsewhere)).or_default();
+        *counts.entry(kind).or_default() += 1;
+        ends.entry(n).or_default().insert(bracket.bound);
+    }
+    assert_met(&met[&(1, false)], &[STEP_OF_0, STEP_ABOVE_0, BELOW_0, AT_0]);
+    assert!(!met.contains_key(&(1, true)));
+    for (n, elsewhere) in (2..=8).flat_map(|n| [(n, false), (n, true)]) {
+        let counts = &met[&(n, elsewhere)];
+        assert_met(counts, &[STEP_OF_0, STEP_ABOVE_0, BELOW_0, AT_0, ABOVE_0]);
+        let enough = counts.values().all(|count| *count >= 3);
+        assert!(enough, "{n} {elsewhere}: {counts:?}");
+    }
+    for n in 1..=8 {
+        let (least, most) = (ends[&n].first(), ends[&n].last());
+        assert_eq!(
+            (least, most),
+            (Some(&(-(n as i128) << 20)), Some(&(1 << 20)))
+        );
+    }
+}
+
+#[test]
 fn calls_of_gathering_meet_every_answer() {
     let mut generator = Generator::new(61);
     let counts = count(3000, || run_gather(&mut generator.gather_call()));
@@ -221,6 +279,12 @@ fn lopsided_calls_on_a_problem_meet_every_answer() {
         (has_lopsided(&call.low, &call.high), run_box(&mut call))
     });
     assert_met(&counts, &[-1, 0, 1, 2, 3, 4, 5, 8, 9, 16]);
+    let counts = count_lopsided(|| {
+        let mut call = own.stiffness_call();
+        let lopsided = has_lopsided(&call.low, &call.high);
+        (lopsided, run_stiffness(&mut call))
+    });
+    assert_met(&counts, &[-1, 0, 1, 2, 3, 4, 5]);
 }
 
 #[test]

@@ -4,7 +4,9 @@
 use hankboulder_reference::cases::{listed_cases, numbers};
 use hankboulder_reference::entries;
 
-use crate::support::{bytes, enclose, judge, minors_positive, test_factor, Judged, UNWRITTEN};
+use crate::support::{
+    bracket, bytes, enclose, judge, minors_positive, test_factor, Bracketed, Judged, UNWRITTEN,
+};
 
 #[test]
 fn every_listed_case_passes() {
@@ -15,7 +17,7 @@ fn every_listed_case_passes() {
         .map(|case| case.to_string())
         .collect();
     assert_eq!(failed, Vec::<String>::new());
-    assert_eq!(cases.len(), 63);
+    assert_eq!(cases.len(), 72);
 }
 
 #[test]
@@ -107,6 +109,36 @@ fn judged_boxes() {
     assert_eq!(boxed(1, 0, 0), (8, kept.clone()));
     assert_eq!(boxed(4, 1 << 20, 0).0, 0);
     assert_eq!(boxed(4, (1 << 20) + 1, 0), (9, kept));
+}
+
+#[test]
+fn brackets() {
+    let told = |low: &str, high: &str| {
+        let n = low.split(';').count();
+        bracket(n, &numbers(low), &numbers(high))
+    };
+    let thin = |matrix: &str| told(matrix, matrix);
+    let between = |step: i64, bound: i64, vector: &[i64]| Bracketed {
+        code: 0,
+        step,
+        bound,
+        vector: vector.to_vec(),
+    };
+    let at_most = |bound: i64, vector: &[i64]| Bracketed {
+        code: -1,
+        ..between(UNWRITTEN, bound, vector)
+    };
+    assert_eq!(thin("[1]"), between(0, 1, &[1]));
+    assert_eq!(thin("[4]"), between(3, 4, &[1]));
+    assert_eq!(thin("[0]"), at_most(0, &[1]));
+    assert_eq!(thin("[5 2; 2 5]"), between(2, 3, &[1, -1]));
+    assert_eq!(thin("[1 2; 2 1]"), at_most(-1, &[1, -1]));
+    assert_eq!(thin("[4 1; 1 3]"), between(2, 3, &[0, 1]));
+    assert_eq!(thin("[0 1; 1 1]"), at_most(0, &[1, 0]));
+    assert_eq!(thin("[1 3; 3 10]"), at_most(1, &[1, 0]));
+    let apart = told("[3 -1; 1 3]", "[4 2; 3 4]");
+    assert_eq!(apart, between(0, 1, &[1, -1]));
+    assert_eq!(apart, told("[3 1; 1 3]", "[4 2; 2 4]"));
 }
 
 #[test]

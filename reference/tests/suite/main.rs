@@ -13,6 +13,7 @@ mod readings;
 mod refusals;
 mod residual_tables;
 mod rides;
+mod stiffness;
 mod summaries;
 mod support;
 mod two_ends;

@@ -16,8 +16,8 @@ use hankboulder_reference::summary::{fields, read_problem};
 use hankboulder_reference::writer::file_of;
 
 use crate::support::{
-    bytes, enclose_problem, judge, numbers, read_call, run_gather, run_read, run_sums, run_write,
-    test_factor, write_call, UNWRITTEN,
+    bracket, bytes, enclose_problem, judge, numbers, read_call, run_gather, run_read, run_sums,
+    run_write, test_factor, write_call, UNWRITTEN,
 };
 
 const ENTRY: i64 = 1 << 20;
@@ -198,6 +198,8 @@ fn answers(problem: &RawProblem, offered: &Offered) -> Vec<(i64, Vec<u8>)> {
     let (tested, over) = test_factor(problem.order, &problem.low, &problem.high, &offered.factor);
     let vector = bytes(&offered.vector);
     let (boxed, sides) = enclose_problem(problem);
+    let stiffness = bracket(problem.order, &problem.low, &problem.high);
+    let ends = vec![stiffness.step, stiffness.bound];
     let (mut sums, mut write) = (sums_call(problem), write_call(problem));
     let mut read = read_call(&problem.file());
     let (sums_read, written) = (run_sums(&mut sums), run_write(&mut write));
@@ -214,6 +216,7 @@ fn answers(problem: &RawProblem, offered: &Offered) -> Vec<(i64, Vec<u8>)> {
         (code, tables),
         (entries::test_vector(n, &low, &high, &vector), vec![]),
         (boxed, bytes(&sides)),
+        (stiffness.code, bytes(&[ends, stiffness.vector].concat())),
         (sums_read, sums.limit),
         (written, write.file),
         (run_read(&mut read), stored(&read)),
@@ -266,7 +269,7 @@ fn expect_mended(apart: &RawProblem, problem: &RawProblem) {
 fn expect_refused(problem: &RawProblem, number: i64) {
     let offered = offered(problem);
     let codes: Vec<i64> = answers(problem, &offered).iter().map(|a| a.0).collect();
-    assert_eq!(codes, [number; 8], "{problem:?}");
+    assert_eq!(codes, [number; 9], "{problem:?}");
     assert_eq!(output(&problem.file()), format!("refused {number}\n"));
     if problem.order == 4 {
         let before = gather_call(problem, sample([1.0; 5]));

@@ -6,7 +6,7 @@ use hankboulder_reference::refusal::REFUSALS;
 
 use crate::support::bytes;
 
-/// The arguments of the four acts on a problem.
+/// The arguments of the five acts on a problem.
 #[derive(Clone, PartialEq, Eq, Debug)]
 struct Call {
     n: i64,
@@ -15,6 +15,8 @@ struct Call {
     factor: Vec<u8>,
     vector: Vec<u8>,
     over: Vec<u8>,
+    step: Vec<u8>,
+    bound: Vec<u8>,
     linear_low: Vec<u8>,
     linear_high: Vec<u8>,
     limit: i64,
@@ -25,11 +27,12 @@ struct Call {
 type Act = fn(&mut Call) -> i64;
 
 /// The acts, with the checks that each has besides 1 to 5.
-const ACTS: [(Act, &[i64]); 4] = [
+const ACTS: [(Act, &[i64]); 5] = [
     (test_factor, &[6]),
     (test_vector, &[7]),
     (judge, &[]),
     (enclose, &[16, 8, 9]),
+    (stiffness, &[]),
 ];
 
 fn test_factor(call: &mut Call) -> i64 {
@@ -59,6 +62,11 @@ fn enclose(call: &mut Call) -> i64 {
     )
 }
 
+fn stiffness(call: &mut Call) -> i64 {
+    let (step, bound, vector) = (&mut call.step, &mut call.bound, &mut call.vector);
+    entries::stiffness(call.n, &call.low, &call.high, step, bound, vector)
+}
+
 /// A call of order 2 that every act lets through.
 fn good_call() -> Call {
     Call {
@@ -68,6 +76,8 @@ fn good_call() -> Call {
         factor: bytes(&[1, 2, 0, 3]),
         vector: bytes(&[1, -1]),
         over: bytes(&[7]),
+        step: bytes(&[7]),
+        bound: bytes(&[7]),
         linear_low: bytes(&[0, 0]),
         linear_high: bytes(&[0, 0]),
         limit: 10,
@@ -129,7 +139,7 @@ fn run(act: Act, call: &Call) -> i64 {
 #[test]
 fn good_calls_are_let_through() {
     let codes = ACTS.map(|(act, _)| run(act, &good_call()));
-    assert_eq!(codes, [0, -1, 0, 0]);
+    assert_eq!(codes, [0, -1, 0, 0, 0]);
 }
 
 #[test]
@@ -202,6 +212,8 @@ fn buffers(act: usize, call: &mut Call) -> Vec<&mut Vec<u8>> {
         factor,
         vector,
         over,
+        step,
+        bound,
         linear_low,
         linear_high,
         centre,
@@ -212,7 +224,8 @@ fn buffers(act: usize, call: &mut Call) -> Vec<&mut Vec<u8>> {
         0 => vec![low, high, factor, over],
         1 => vec![low, high, vector],
         2 => vec![low, high, factor, vector, over],
-        _ => vec![low, high, linear_low, linear_high, centre, sides],
+        3 => vec![low, high, linear_low, linear_high, centre, sides],
+        _ => vec![low, high, step, bound, vector],
     }
 }
 
@@ -261,6 +274,11 @@ fn refusal_2_is_not_asked_of_buffers_of_other_acts() {
     call.over.clear();
     assert_eq!(run(test_vector, &call), -1);
     assert_eq!(run(enclose, &call), 0);
+    assert_eq!(run(stiffness, &call), 0);
+    call = good_call();
+    call.step.clear();
+    call.bound.clear();
+    assert_eq!(run(judge, &call), 0);
 }
 
 /// The buffer for what the rows have over has 8 bytes at every order, whatever else is
@@ -278,6 +296,29 @@ fn refusal_2_of_every_other_size_for_what_the_rows_have_over() {
             }
             put_fault(&mut call, 1);
             assert_eq!(run(act, &call), 1, "{size} bytes");
+        }
+    }
+}
+
+/// Step and bound have 8 bytes at every order, whatever else is wrong but the order, and
+/// whether the step would be written or not.
+#[test]
+fn refusal_2_of_every_other_size_for_step_and_bound() {
+    for size in (0..=17).chain([32, 64, 512]).filter(|size| *size != 8) {
+        for (place, stops) in [(2, false), (2, true), (3, false), (3, true)] {
+            let mut call = good_call();
+            if stops {
+                set(&mut call.low, 0, 0);
+            }
+            assert_eq!(run(stiffness, &call), -i64::from(stops));
+            buffers(4, &mut call).remove(place).resize(size, 0);
+            assert_eq!(run(stiffness, &call), 2, "{size} bytes");
+            for later in [3, 4, 5] {
+                put_fault(&mut call, later);
+                assert_eq!(run(stiffness, &call), 2, "{size} bytes, and {later}");
+            }
+            put_fault(&mut call, 1);
+            assert_eq!(run(stiffness, &call), 1, "{size} bytes");
         }
     }
 }

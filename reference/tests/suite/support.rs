@@ -5,7 +5,8 @@ use std::collections::BTreeSet;
 
 use hankboulder_reference::entries;
 use hankboulder_reference::generate::{
-    BoxCall, FactorCall, GatherCall, JudgeCall, RawProblem, ReadCall, SumsCall, WriteCall,
+    BoxCall, FactorCall, GatherCall, JudgeCall, RawProblem, ReadCall, StiffnessCall, SumsCall,
+    WriteCall,
 };
 use hankboulder_reference::writer::file_size;
 
@@ -64,6 +65,33 @@ pub fn test_factor(n: usize, low: &[i64], high: &[i64], factor: &[i64]) -> (i64,
     (code, numbers(&call.over)[0])
 }
 
+/// The return value of the bracket and its three outputs.
+#[derive(Debug, PartialEq, Eq)]
+pub struct Bracketed {
+    pub code: i64,
+    pub step: i64,
+    pub bound: i64,
+    pub vector: Vec<i64>,
+}
+
+/// The bracket of tables given as numbers.
+pub fn bracket(n: usize, low: &[i64], high: &[i64]) -> Bracketed {
+    let mut call = StiffnessCall {
+        n: n as i64,
+        low: bytes(low),
+        high: bytes(high),
+        step: bytes(&[UNWRITTEN]),
+        bound: bytes(&[UNWRITTEN]),
+        vector: bytes(&vec![UNWRITTEN; n]),
+    };
+    Bracketed {
+        code: run_stiffness(&mut call),
+        step: numbers(&call.step)[0],
+        bound: numbers(&call.bound)[0],
+        vector: numbers(&call.vector),
+    }
+}
+
 /// Runs a generated call of the judge.
 pub fn run_judge(call: &mut JudgeCall) -> i64 {
     entries::judge(
@@ -92,6 +120,18 @@ pub fn run_box(call: &mut BoxCall) -> i64 {
         call.limit,
         &call.centre,
         &mut call.sides,
+    )
+}
+
+/// Runs a generated call of the bracket.
+pub fn run_stiffness(call: &mut StiffnessCall) -> i64 {
+    entries::stiffness(
+        call.n,
+        &call.low,
+        &call.high,
+        &mut call.step,
+        &mut call.bound,
+        &mut call.vector,
     )
 }
 

@@ -22,6 +22,9 @@ pub enum Detail {
     Stepless,
     /// This row alone has the least over.
     LeastIn(Row),
+    /// The bracket gives this; and whether another vector than the one that is shown has
+    /// the least fraction.
+    Bracketed(Given, bool),
 }
 
 /// Places of a row. The only row of order 1 is the first.
@@ -31,6 +34,17 @@ pub enum Row {
     First,
     Middle,
     Last,
+}
+
+/// What a bracket gives: a step, or a bound alone.
+#[derive(Clone, Copy, Debug, PartialEq, Eq, PartialOrd, Ord)]
+#[allow(missing_docs)]
+pub enum Given {
+    StepOf0,
+    StepAbove0,
+    BoundBelow0,
+    BoundOf0,
+    BoundAbove0,
 }
 
 /// The kinds of numbers that checks 3 and 18 ask.
@@ -96,6 +110,10 @@ impl fmt::Display for Outcome {
             Some(Detail::Full(kind)) => write!(f, ", {kind:?} alone"),
             Some(Detail::Stepless) => write!(f, ", t(k) = 0 for some k"),
             Some(Detail::LeastIn(row)) => write!(f, ", {row:?} row the least"),
+            Some(Detail::Bracketed(given, false)) => write!(f, ", {given:?}"),
+            Some(Detail::Bracketed(given, true)) => {
+                write!(f, ", {given:?}, the least fraction elsewhere")
+            }
         }
     }
 }

@@ -1,5 +1,5 @@
-//! The second implementation's output for a summary file, and new files, for
-//! the fuzz harness in C. `fuzz.h` has the C side of what is here.
+//! The second implementation's output for a summary file, its bracket of the
+//! stiffness, and new files, for the fuzz harness in C. `fuzz.h` has the C side of what is here.
 
 #![warn(missing_docs)]
 #![deny(unsafe_op_in_unsafe_fn)]
@@ -8,7 +8,7 @@ mod repair;
 
 use std::slice;
 
-use hankboulder_reference::entries::read_summary;
+use hankboulder_reference::entries::{read_summary, stiffness};
 use hankboulder_reference::generate::Generator;
 use hankboulder_reference::program::output;
 use hankboulder_reference::summary::read_problem;
@@ -73,6 +73,31 @@ pub unsafe extern "C" fn fuzz_again(
         return 0;
     };
     write(&file_of(&problem), again).expect("the file has room")
+}
+
+/// Writes the bracket of a problem into the three buffers for step, bound and vector, one
+/// behind the other; the answer.
+///
+/// # Safety
+///
+/// The order is 1 to 8, as many bytes as its tables have can be read, and as many as the
+/// three have be written.
+#[no_mangle]
+pub unsafe extern "C" fn fuzz_bracket(
+    n: i64,
+    low: *const u8,
+    high: *const u8,
+    bracket: *mut u8,
+) -> i64 {
+    let order = n as usize;
+    let (table, number) = (8 * order * order, 8);
+    // SAFETY: the caller's promise.
+    let (low, high) = unsafe { (read(low, table), read(high, table)) };
+    // SAFETY: the caller's promise.
+    let bracket = unsafe { slice::from_raw_parts_mut(bracket, 2 * number + 8 * order) };
+    let (step, behind) = bracket.split_at_mut(number);
+    let (bound, vector) = behind.split_at_mut(number);
+    stiffness(n, low, high, step, bound, vector)
 }
 
 /// Puts right what refuses a file; its new length, the old where it has no room.

@@ -13,17 +13,18 @@ pub enum Act {
     TestFactor = 1,
     TestVector = 2,
     Box = 3,
-    Gather = 4,
-    ReadSums = 5,
-    WriteSummary = 6,
-    ReadSummary = 7,
+    Stiffness = 4,
+    Gather = 5,
+    ReadSums = 6,
+    WriteSummary = 7,
+    ReadSummary = 8,
 }
 
 impl Act {
     /// How many of the buffers are read: the first ones.
     pub fn read(self) -> usize {
         match self {
-            Act::Judge => 2,
+            Act::Judge | Act::Stiffness => 2,
             Act::TestFactor | Act::TestVector => 3,
             Act::Box | Act::Gather | Act::WriteSummary => 5,
             Act::ReadSums => 4,
@@ -105,6 +106,11 @@ impl Call {
                 let sums = [call.low, call.high, call.linear_low, call.linear_high];
                 sums.into_iter().chain([call.centre, call.sides]).collect()
             }
+            Act::Stiffness => {
+                let call = generator.stiffness_call();
+                passed.n = call.n;
+                vec![call.low, call.high, call.step, call.bound, call.vector]
+            }
             Act::Gather => {
                 let call = generator.gather_call();
                 (passed.n, passed.sample) = (call.n, call.sample);
@@ -161,6 +167,9 @@ impl Call {
             (Act::TestVector, [low, high, vector]) => entries::test_vector(n, low, high, vector),
             (Act::Box, [low, high, least, most, centre, sides]) => {
                 entries::enclose(n, low, high, least, most, passed.limit, centre, sides)
+            }
+            (Act::Stiffness, [low, high, step, bound, vector]) => {
+                entries::stiffness(n, low, high, step, bound, vector)
             }
             (Act::Gather, [low, high, least, most, running]) => {
                 entries::gather(&passed.sample, n, low, high, least, most, running)

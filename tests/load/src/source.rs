@@ -10,11 +10,12 @@ use crate::variation::varied;
 const GROUP: u64 = 12;
 
 /// The acts in turn, one for each group.
-const TURNS: [Act; 8] = [
+const TURNS: [Act; 9] = [
     Act::Judge,
     Act::TestFactor,
     Act::TestVector,
     Act::Box,
+    Act::Stiffness,
     Act::Gather,
     Act::ReadSums,
     Act::WriteSummary,

@@ -6,10 +6,11 @@ use hankboulder_compare::gather::GATHER;
 use hankboulder_compare::judge::JUDGE;
 use hankboulder_compare::read_summary::READ_SUMMARY;
 use hankboulder_compare::read_sums::READ_SUMS;
+use hankboulder_compare::stiffness::STIFFNESS;
 use hankboulder_compare::test_factor::TEST_FACTOR;
 use hankboulder_compare::test_vector::TEST_VECTOR;
 use hankboulder_compare::write_summary::WRITE_SUMMARY;
-use hankboulder_compare::{Act, Counts, Detail, Inputs, Kind, Outcome, Row};
+use hankboulder_compare::{Act, Counts, Detail, Given, Inputs, Kind, Outcome, Row};
 use hankboulder_reference::judge::List;
 
 /// The kinds of numbers that sums share with a problem.
@@ -177,6 +178,32 @@ fn reading_the_sums_agrees_with_the_reference_at_every_order() {
         for kind in SUMS.into_iter().chain(others) {
             expect_way(&counts, order, Detail::Beyond(kind), true);
         }
+    }
+}
+
+/// Steps of 0 and above it, and bounds alone below 0, of 0 and above it, each with the
+/// least fraction at the vector that is shown and elsewhere. The judge, the vector test and
+/// the verdicts on lowered tables are asked of each, too.
+#[test]
+fn the_bracket_agrees_with_the_reference_at_every_order() {
+    let answered = Answered {
+        calls: 90_000,
+        least: &[(0, 25_000), (-1, 50_000)],
+    };
+    let counts = agrees_on_generated_calls(&STIFFNESS, 9, answered);
+    let all = [
+        Given::StepOf0,
+        Given::StepAbove0,
+        Given::BoundBelow0,
+        Given::BoundOf0,
+        Given::BoundAbove0,
+    ];
+    for (order, given) in (1..=8).flat_map(|order| all.map(|given| (order, given))) {
+        // At order 1 there is one vector and its opposite, and factoring stops exactly where
+        // the bound is 0 or less.
+        let possible = order > 1 || given != Given::BoundAbove0;
+        expect_way(&counts, order, Detail::Bracketed(given, false), possible);
+        expect_way(&counts, order, Detail::Bracketed(given, true), order > 1);
     }
 }
 

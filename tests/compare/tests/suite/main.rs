@@ -9,6 +9,7 @@ mod over;
 mod refusals;
 mod rides;
 mod shown;
+mod stiffness;
 mod summaries;
 mod support;
 mod two_ends;

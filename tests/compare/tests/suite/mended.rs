@@ -8,6 +8,7 @@ use hankboulder_compare::gather::GATHER;
 use hankboulder_compare::judge::JUDGE;
 use hankboulder_compare::read_summary::{of_file, unwritten, writing_again, READ_SUMMARY};
 use hankboulder_compare::read_sums::READ_SUMS;
+use hankboulder_compare::stiffness::STIFFNESS;
 use hankboulder_compare::test_factor::TEST_FACTOR;
 use hankboulder_compare::test_vector::TEST_VECTOR;
 use hankboulder_compare::write_summary::WRITE_SUMMARY;
@@ -18,8 +19,8 @@ use hankboulder_reference::random::Random;
 use hankboulder_reference::rides::Sample;
 
 use crate::support::{
-    call_on, factor_call, judge_call, places, problem_call, square, write_call, ENTRY_RANGE, FILE,
-    JUDGED_OVER, SCALE, SIDES,
+    call_on, factor_call, judge_call, places, problem_call, square, stiffness_call, write_call,
+    ENTRY_RANGE, FILE, JUDGED_OVER, SCALE, SIDES,
 };
 
 const WRITTEN: i64 = 0;
@@ -69,12 +70,13 @@ fn offered(problem: &RawProblem) -> Offered {
 type Caller = fn(&RawProblem, &Offered) -> Call;
 
 /// Every act. Those from the box on are handed linear terms.
-const ACTS: [(&Act, Caller); 8] = [
+const ACTS: [(&Act, Caller); 9] = [
     (&JUDGE, |p, _| judge_call(&p.low, &p.high)),
     (&TEST_FACTOR, |p, o| factor_call(&p.low, &p.high, &o.factor)),
     (&TEST_VECTOR, |p, o| {
         call_on(&p.low, &p.high, &[bytes(&o.vector)])
     }),
+    (&STIFFNESS, |p, _| stiffness_call(&p.low, &p.high)),
     (&BOX, |p, _| problem_call(p)),
     (&GATHER, |p, _| {
         gather_call(p, sample([0.5, -0.3, 0.0, 7.9, 1.0]))
@@ -299,7 +301,7 @@ fn what_comes_after_5_is_asked_of_the_mended_tables() {
         let apart = with(order, i * order + j, (-END, END));
         let mut reversed = apart.clone();
         reversed.linear_low[order - 1] = 6;
-        expect_refused_by(&ACTS[3..], &reversed, REFUSED_REVERSED);
+        expect_refused_by(&ACTS[4..], &reversed, REFUSED_REVERSED);
         let (mut flat, mut far) = (apart.clone(), apart.clone());
         flat.low[0] = 1;
         BOX.expect(&problem_call(&flat), REFUSED_FLAT);

@@ -3,6 +3,7 @@
 use hankboulder_compare::enclosure::BOX;
 use hankboulder_compare::judge::JUDGE;
 use hankboulder_compare::read_sums::READ_SUMS;
+use hankboulder_compare::stiffness::STIFFNESS;
 use hankboulder_compare::test_factor::TEST_FACTOR;
 use hankboulder_compare::test_vector::TEST_VECTOR;
 use hankboulder_compare::write_summary::WRITE_SUMMARY;
@@ -77,13 +78,14 @@ impl FactorTest {
 pub type Caller = fn(&FactorTest) -> Call;
 
 /// Every act on bounds of any order.
-pub const ACTS: [(&Act, Caller); 6] = [
+pub const ACTS: [(&Act, Caller); 7] = [
     (&TEST_FACTOR, FactorTest::call),
     (&TEST_VECTOR, |test| {
         let ones = vec![1; test.order];
         call_on(&test.low, &test.high, &[bytes(&ones)])
     }),
     (&JUDGE, |test| judge_call(&test.low, &test.high)),
+    (&STIFFNESS, |test| stiffness_call(&test.low, &test.high)),
     (&BOX, |test| {
         let zeros = vec![0; test.order];
         box_call(&test.low, &test.high, &zeros, 0, &zeros)
@@ -116,6 +118,15 @@ pub fn judge_call(low: &[i64], high: &[i64]) -> Call {
     let mut random = Random::new(order as u64);
     let mut output = |count: usize| random.bytes(8 * count);
     let outputs = [output(order * order), output(order), output(1)];
+    call_on(low, high, &outputs)
+}
+
+/// A call of the bracket, whose outputs hold random bytes.
+pub fn stiffness_call(low: &[i64], high: &[i64]) -> Call {
+    let order = low.len().isqrt();
+    let mut random = Random::new(order as u64);
+    let mut output = |count: usize| random.bytes(8 * count);
+    let outputs = [output(1), output(1), output(order)];
     call_on(low, high, &outputs)
 }
 
