@@ -68,6 +68,8 @@ static struct {
     int64_t factor[MAX_ENTRIES];
     int64_t vector[HB_MAX_ORDER];
     int64_t over;
+    int64_t step;
+    int64_t bound;
     int64_t sides[2 * HB_MAX_ORDER];
     uint8_t file[HB_SUMMARY_BYTES(HB_MAX_ORDER)];
     int64_t order;
@@ -209,6 +211,26 @@ static int64_t tuned_box_side(int64_t n, const struct problem *problem)
     return tuned_box(n, bytes(problem->low), table, bytes(problem->high), table, bytes(problem->linear_low), vector,
                      bytes(problem->linear_high), vector, problem->limit, bytes(problem->centre), vector, (uint8_t *)out.sides,
                      HB_SIDES_BYTES(n));
+}
+
+static int64_t library_stiffness(int64_t n, const struct problem *problem)
+{
+    size_t size = HB_TABLE_BYTES(n);
+    return hb_stiffness(n, bytes(problem->low), size, bytes(problem->high), size, (uint8_t *)&out.step, HB_STEP_BYTES,
+                        (uint8_t *)&out.bound, HB_BOUND_BYTES, (uint8_t *)out.vector, HB_VECTOR_BYTES(n));
+}
+
+static int64_t plain_stiffness_side(int64_t n, const struct problem *problem)
+{
+    size_t count = (size_t)(n * n);
+    return plain_stiffness(n, problem->low, count, problem->high, count, &out.step, 1, &out.bound, 1, out.vector, (size_t)n);
+}
+
+static int64_t tuned_stiffness_side(int64_t n, const struct problem *problem)
+{
+    size_t size = HB_TABLE_BYTES(n);
+    return tuned_stiffness(n, bytes(problem->low), size, bytes(problem->high), size, (uint8_t *)&out.step, HB_STEP_BYTES,
+                           (uint8_t *)&out.bound, HB_BOUND_BYTES, (uint8_t *)out.vector, HB_VECTOR_BYTES(n));
 }
 
 /*
@@ -359,6 +381,9 @@ enum {
     JUDGE_NOT,
     JUDGE_UNDECIDED,
     BOX,
+    BRACKET_DEFINITE,
+    BRACKET_NOT,
+    BRACKET_UNDECIDED,
     GATHER,
     READ_SUMS,
     WRITE_SUMMARY,
@@ -369,6 +394,7 @@ enum {
     APART_VECTOR_TEST,
     APART_JUDGE,
     APART_BOX,
+    APART_BRACKET,
     APART_GATHER,
     CHOLESKY,
     ACTS
@@ -382,6 +408,11 @@ static struct act acts[ACTS] = {
     [JUDGE_NOT] = {"judge, not definite", NOT_DEFINITE, 1, HB_MAX_ORDER, {library_judge, plain_judge_side, tuned_judge_side}},
     [JUDGE_UNDECIDED] = {"judge, undecided (none is of order 1)", UNDECIDED, 2, HB_MAX_ORDER, {library_judge, plain_judge_side, tuned_judge_side}},
     [BOX] = {"box", DEFINITE, 1, HB_MAX_ORDER, {library_box, plain_box_side, tuned_box_side}},
+    [BRACKET_DEFINITE] = {"bracket, definite", DEFINITE, 1, HB_MAX_ORDER, {library_stiffness, plain_stiffness_side, tuned_stiffness_side}},
+    [BRACKET_NOT] = {"bracket, not definite", NOT_DEFINITE, 1, HB_MAX_ORDER,
+                     {library_stiffness, plain_stiffness_side, tuned_stiffness_side}},
+    [BRACKET_UNDECIDED] = {"bracket, undecided (none is of order 1)", UNDECIDED, 2, HB_MAX_ORDER,
+                           {library_stiffness, plain_stiffness_side, tuned_stiffness_side}},
     [GATHER] = {"gathering (a sample is of order 4)", DEFINITE, HB_SAMPLE_ORDER, HB_SAMPLE_ORDER, {library_gather, plain_gather_side}},
     [READ_SUMS] = {"reading the sums", DEFINITE, 1, HB_MAX_ORDER, {library_read_sums, plain_read_sums_side}},
     [WRITE_SUMMARY] = {"writing a summary", DEFINITE, 1, HB_MAX_ORDER, {library_write_summary, plain_write_summary_side, tuned_write_summary_side}},
@@ -395,6 +426,8 @@ static struct act acts[ACTS] = {
     [APART_JUDGE] = {"judge, definite, halves rounded apart", LOPSIDED, 1, HB_MAX_ORDER,
                      {library_judge, plain_judge_side, tuned_judge_side}},
     [APART_BOX] = {"box, halves rounded apart", LOPSIDED, 1, HB_MAX_ORDER, {library_box, plain_box_side, tuned_box_side}},
+    [APART_BRACKET] = {"bracket, definite, halves rounded apart", LOPSIDED, 1, HB_MAX_ORDER,
+                       {library_stiffness, plain_stiffness_side, tuned_stiffness_side}},
     [APART_GATHER] = {"gathering, the halves of the sums apart", LOPSIDED, HB_SAMPLE_ORDER, HB_SAMPLE_ORDER,
                       {library_gather, plain_gather_side}},
     [CHOLESKY] = {"peers: the judge on thin definite bounds, and the peers' factoring of the same matrices",
@@ -455,6 +488,7 @@ static const struct {
     {VECTOR_TEST, "vector test"},
     {JUDGE_DEFINITE, "judge"},
     {BOX, "box"},
+    {BRACKET_DEFINITE, "bracket"},
     {GATHER, "gathering"},
     {READ_SUMS, "reading the sums"},
     {WRITE_SUMMARY, "writing a summary"},
@@ -807,9 +841,10 @@ static const struct {
     int act;
     double most;
 } limits[] = {
-    {FACTORING, 1.2},         {FACTOR_TEST, 1.2},  {JUDGE_DEFINITE, 1.1}, {BOX, 1.2},       {JUDGE_UNDECIDED, 0.01},
-    {GATHER, 1.5},            {READ_SUMS, 1.5},    {WRITE_SUMMARY, 1.5},  {READ_SUMMARY, 1.5},
-    {APART_FACTOR_TEST, 1.2}, {APART_JUDGE, 1.1},  {APART_BOX, 1.2},      {APART_GATHER, 1.5},
+    {FACTORING, 1.2},         {FACTOR_TEST, 1.2},  {JUDGE_DEFINITE, 1.1},    {BOX, 1.2},           {JUDGE_UNDECIDED, 0.01},
+    {BRACKET_DEFINITE, 0.2},  {BRACKET_NOT, 0.2},  {BRACKET_UNDECIDED, 0.2}, {GATHER, 1.5},        {READ_SUMS, 1.5},
+    {WRITE_SUMMARY, 1.5},     {READ_SUMMARY, 1.5}, {APART_FACTOR_TEST, 1.2}, {APART_JUDGE, 1.1},   {APART_BOX, 1.2},
+    {APART_BRACKET, 0.2},     {APART_GATHER, 1.5},
 };
 
 /* Prints whether the limits are kept. What has no side of the library is not measured. */

@@ -420,7 +420,7 @@ int64_t plain_pairs_judge(int64_t n, const int64_t *low, size_t low_count, const
     return judge_by(pairs_form, n, low, low_count, high, high_count, factor, factor_count, vector, vector_count, over, over_count);
 }
 
-/* The tables that the box makes its trials with, and what the trials start from */
+/* The tables that box and bracket make their trials with, and what the trials start from */
 struct trial {
     int64_t n;
     const int64_t *low;
@@ -583,6 +583,42 @@ int64_t plain_box(int64_t n, const int64_t *low, size_t low_count, const int64_t
         return 2;
     int64_t refusal = check_ellipsoid(&ellipsoid, mended.low, mended.high);
     return refusal ? refusal : enclose(&ellipsoid, sides);
+}
+
+/* v: the least quotient of the tried vectors, each worked out from scratch; x is the first that has it */
+static int64_t least_quotient(int64_t n, const int64_t *low, const int64_t *high, int64_t *x)
+{
+    int64_t tried[PLAIN_MAX_ORDER] = {0}, least = INT64_MAX;
+    while (next_tried(n, tried)) {
+        int64_t quotient = ceiling_quotient(pairs_form(n, low, high, tried), inner_product(n, tried, tried));
+        if (quotient < least) {
+            least = quotient;
+            memcpy(x, tried, (size_t)n * sizeof *x);
+        }
+    }
+    return least;
+}
+
+int64_t plain_stiffness(int64_t n, const int64_t *low, size_t low_count, const int64_t *high, size_t high_count, int64_t *step,
+                        size_t step_count, int64_t *bound, size_t bound_count, int64_t *vector, size_t vector_count)
+{
+    int64_t factor[PLAIN_MAX_ORDER * PLAIN_MAX_ORDER];
+    struct mended mended;
+    struct trial trial;
+    if (n < 1 || n > PLAIN_MAX_ORDER)
+        return 1;
+    size_t count = (size_t)(n * n);
+    if (low_count != count || high_count != count || step_count != 1 || bound_count != 1 || vector_count != (size_t)n)
+        return 2;
+    int64_t refusal = check_tables(n, low, high, &mended);
+    if (refusal)
+        return refusal;
+    *bound = least_quotient(n, mended.low, mended.high, vector);
+    if (plain_factor(n, mended.low, mended.high, factor) != 0)
+        return -1;
+    start_trials(&trial, n, mended.low, mended.high);
+    *step = greatest_step(&trial, 0, n);
+    return 0;
 }
 
 /* The whole numbers next to 16 times a number of a sample, or the ends of a product */

@@ -53,6 +53,14 @@ int64_t plain_box(int64_t n, const int64_t *low, size_t low_count, const int64_t
                   size_t centre_count, int64_t *sides, size_t sides_count);
 
 /*
+ * The bracket of the stiffness with its checks: 0, and step, bound and vector are written; -1, and bound and vector are; or the number of
+ * the refusal. The tried vectors are taken one by one, and each has its form worked out from scratch, row by row, each pair of entries
+ * once. The step is found as that of the box.
+ */
+int64_t plain_stiffness(int64_t n, const int64_t *low, size_t low_count, const int64_t *high, size_t high_count, int64_t *step,
+                        size_t step_count, int64_t *bound, size_t bound_count, int64_t *vector, size_t vector_count);
+
+/*
  * Gathering with its checks, by floorf and ceilf: 0, and the sums are the mended ones with the sample; or the number of the refusal, and
  * they are as they were.
  */

@@ -14,7 +14,7 @@
 #define SEED 20240229u
 #define STACK_BYTES 65536
 #define MAX_ENTRIES (HB_MAX_ORDER * HB_MAX_ORDER)
-#define ENTRIES 8
+#define ENTRIES 9
 #define KINDS 11
 #define LEAST_ANSWER (-2)
 #define ANSWERS (HB_REFUSED_FALLING - LEAST_ANSWER + 1)
@@ -38,7 +38,7 @@ static struct input input;
 
 /* What gathering takes for sums: the bounds, the linear terms, and the limit for a running limit */
 static struct input sums;
-static int64_t factor[MAX_ENTRIES], vector[HB_MAX_ORDER], over, sides[2 * HB_MAX_ORDER], limit;
+static int64_t factor[MAX_ENTRIES], vector[HB_MAX_ORDER], over, sides[2 * HB_MAX_ORDER], step, bound, shown[HB_MAX_ORDER], limit;
 
 /* The last summary file that was written, and how much of it is read; and what is read from it */
 static uint8_t file[HB_SUMMARY_BYTES(HB_MAX_ORDER)];
@@ -87,6 +87,13 @@ static void call_box(void)
                     HB_VECTOR_BYTES(input.n), (uint8_t *)sides, HB_SIDES_BYTES(input.n));
 }
 
+static void call_stiffness(void)
+{
+    frame = __builtin_frame_address(0);
+    answer = hb_stiffness(input.n, bytes(input.low), HB_TABLE_BYTES(input.n), bytes(input.high), HB_TABLE_BYTES(input.n), (uint8_t *)&step,
+                          HB_STEP_BYTES, (uint8_t *)&bound, HB_BOUND_BYTES, (uint8_t *)shown, HB_VECTOR_BYTES(input.n));
+}
+
 static void call_gather(void)
 {
     frame = __builtin_frame_address(0);
@@ -133,6 +140,7 @@ static struct entry entries[ENTRIES] = {
     {.name = "hb_test_factor", .call = call_test_factor, .allowed = HB_TEST_FACTOR_STACK},
     {.name = "hb_test_vector", .call = call_test_vector, .allowed = HB_TEST_VECTOR_STACK},
     {.name = "hb_box", .call = call_box, .allowed = HB_BOX_STACK},
+    {.name = "hb_stiffness", .call = call_stiffness, .allowed = HB_STIFFNESS_STACK},
     {.name = "hb_gather", .call = call_gather, .allowed = HB_GATHER_STACK},
     {.name = "hb_read_sums", .call = call_read_sums, .allowed = HB_READ_SUMS_STACK},
     {.name = "hb_write_summary", .call = call_write_summary, .allowed = HB_WRITE_SUMMARY_STACK},

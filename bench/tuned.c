@@ -887,6 +887,56 @@ int64_t tuned_box(int64_t n, const uint8_t *low_bytes, size_t low_len, const uin
     return 0;
 }
 
+/*
+ * v, and x is the first tried vector that is under it: a vector is under a threshold exactly where it shows 'not definite' with the
+ * threshold taken off the diagonal. The first threshold is the least diagonal entry, and each other one is 1 less than the quotient of the
+ * vector found before. No vector before the one that is found is under its threshold, and so none is under its quotient: the last one found
+ * is the first under v. The diagonal of low is changed.
+ */
+static int64_t least_quotient(int64_t n, struct mended *tables, int64_t *x)
+{
+    int64_t diagonal[ORDER], least = INT64_MAX, found = 0;
+    for (int64_t i = 0; i < n; i++) {
+        diagonal[i] = tables->low[i * n + i];
+        least = diagonal[i] < least ? diagonal[i] : least;
+    }
+    for (int64_t threshold = least;; threshold = found - 1) {
+        int64_t count = 0;
+        for (int64_t i = 0; i < n; i++)
+            tables->low[i * n + i] = diagonal[i] - threshold;
+        if (!tried(n, tables->low, tables->high, x))
+            return found;
+        for (int64_t i = 0; i < n; i++)
+            count += x[i] != 0;
+        found = threshold + ceiling_quotient(least_value(n, tables->low, tables->high, x), count);
+    }
+}
+
+int64_t tuned_stiffness(int64_t n, const uint8_t *low_bytes, size_t low_len, const uint8_t *high_bytes, size_t high_len,
+                        uint8_t *step_bytes, size_t step_len, uint8_t *bound_bytes, size_t bound_len, uint8_t *vector_bytes,
+                        size_t vector_len)
+{
+    const number *low = numbers(low_bytes), *high = numbers(high_bytes);
+    number *vector = (number *)vector_bytes;
+    int64_t h[ORDER][ORDER], x[ORDER];
+    struct mended mended;
+    if (n < 1 || n > ORDER)
+        return 1;
+    size_t table = (size_t)(8 * n * n);
+    if (low_len != table || high_len != table || step_len != sizeof(number) || bound_len != sizeof(number) || vector_len != (size_t)(8 * n))
+        return 2;
+    if (!scale(n, low, high, h))
+        return refusal(n, low, high);
+    fill_mended(n, low, high, &mended);
+    *(number *)bound_bytes = least_quotient(n, &mended, x);
+    for (int64_t i = 0; i < n; i++)
+        vector[i] = x[i];
+    if (!ends(n, 0, 0, 0, h))
+        return -1;
+    *(number *)step_bytes = greatest_step(n, 0, 1, h);
+    return 0;
+}
+
 /* An entry of a table in a file, and a length there */
 typedef int32_t narrow __attribute__((aligned(1), may_alias));
 typedef uint16_t length __attribute__((aligned(1), may_alias));

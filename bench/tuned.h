@@ -29,6 +29,13 @@ int64_t tuned_box(int64_t n, const uint8_t *low, size_t low_len, const uint8_t *
                   size_t linear_low_len, const uint8_t *linear_high, size_t linear_high_len, int64_t limit, const uint8_t *centre,
                   size_t centre_len, uint8_t *sides, size_t sides_len);
 
+/*
+ * The bound comes down from the least diagonal entry: with a threshold taken off the diagonal, the search of the judge finds the first
+ * vector that shows as little, and its quotient gives the next threshold, as long as one is found.
+ */
+int64_t tuned_stiffness(int64_t n, const uint8_t *low, size_t low_len, const uint8_t *high, size_t high_len, uint8_t *step, size_t step_len,
+                        uint8_t *bound, size_t bound_len, uint8_t *vector, size_t vector_len);
+
 int64_t tuned_write_summary(int64_t n, const uint8_t *low, size_t low_len, const uint8_t *high, size_t high_len, const uint8_t *linear_low,
                             size_t linear_low_len, const uint8_t *linear_high, size_t linear_high_len, int64_t limit, const uint8_t *centre,
                             size_t centre_len, uint8_t *file, size_t file_len);

@@ -184,6 +184,88 @@ static int judge(const struct sums *sums, uint8_t *factor)
     }
 }
 
+/* part: bracket */
+/* The least stiffness of a matrix between the bounds: from the step, or 0 where none is given, to the bound, which the vector shows */
+struct bracket {
+    int64_t step;
+    int64_t bound;
+    int64_t vector[ORDER];
+};
+
+/* Prints the coefficients that a vector has: those that rise along it, and those that fall. */
+static void print_along(const int64_t *vector)
+{
+    static const char *const names[ORDER] = {"rolling", "climb", "air", "start"};
+    printf(" along");
+    for (int k = 0; k < ORDER; k++)
+        if (vector[k] != 0)
+            printf(" %c%s", vector[k] > 0 ? '+' : '-', names[k]);
+    printf("\n");
+}
+
+/* Brackets the stiffness of the sums, and prints the bracket. Returns 1 where it is written. */
+static int find_bracket(const struct sums *sums, struct bracket *found)
+{
+    uint8_t step[HB_STEP_BYTES], bound[HB_BOUND_BYTES], vector[HB_VECTOR_BYTES(ORDER)];
+    int64_t answer = hb_stiffness(ORDER, sums->low, sizeof sums->low, sums->high, sizeof sums->high, step, sizeof step, bound, sizeof bound,
+                                  vector, sizeof vector);
+    if (answer != HB_BETWEEN && answer != HB_AT_MOST) {
+        log_refusal("hb_stiffness", answer);
+        return 0;
+    }
+    found->step = answer == HB_BETWEEN ? hb_load_number(step) : 0;
+    found->bound = hb_load_number(bound);
+    for (int k = 0; k < ORDER; k++)
+        found->vector[k] = hb_load_number(vector + HB_NUMBER_BYTES * k);
+    if (answer == HB_BETWEEN)
+        printf("  stiffness from %" PRId64 " to %" PRId64 ", low", found->step, found->bound);
+    else
+        printf("  stiffness of at most %" PRId64 ", %s", found->bound, found->bound > 0 ? "low" : "none");
+    print_along(found->vector);
+    return 1;
+}
+
+/* part: sure */
+/* Asks the rider for the stretch that adds most to the stiffness along a vector x: one with the factors f adds (f'x)^2 to x'Mx. */
+static void ask_for_stretch(const int64_t *vector)
+{
+    static const struct {
+        const char *name;
+        int64_t factors[ORDER];
+    } kinds[] = {{"slow and level", {4, 0, 0, 0}}, {"up a hill", {1, 3, 0, 0}}, {"fast", {2, 0, 4, 0}}, {"with stops", {1, 0, 0, 3}}};
+    const char *name = "";
+    int64_t most = 0;
+    for (size_t k = 0; k < sizeof kinds / sizeof kinds[0]; k++) {
+        int64_t sum = 0;
+        for (int i = 0; i < ORDER; i++)
+            sum += kinds[k].factors[i] * vector[i];
+        if (sum * sum > most) {
+            most = sum * sum;
+            name = kinds[k].name;
+        }
+    }
+    printf("  to know more: a stretch that is ridden %s\n", name);
+}
+
+/*
+ * Prints how sure the coefficients are. At the distance r from those that fit best, the squares of the misses add up to at least
+ * step * r^2 more. So all that fit, by the allowance, are within the least r for which that is the allowance or more. With a step of 0
+ * there is no such r, and the rider is asked for a stretch.
+ */
+static void print_sure(const struct sums *sums, const struct bracket *found)
+{
+    int64_t r = 0;
+    if (found->step == 0) {
+        ask_for_stretch(found->vector);
+        return;
+    }
+    if (!allowance_is_good(sums))
+        return;
+    while (found->step * r * r < sums->allowance)
+        r++;
+    printf("  all coefficients that fit are within %" PRId64 " of the best\n", r);
+}
+
 /* part: stiffer */
 /* The sums with a step taken off each diagonal entry of both tables */
 static void lower(const struct sums *sums, int64_t step, struct sums *lowered)
@@ -197,21 +279,16 @@ static void lower(const struct sums *sums, int64_t step, struct sums *lowered)
 }
 
 /*
- * Looks for a factor that shows more stiffness than the one that the judge has written for the sums: that of the sums with a step taken off
- * their diagonal. The step is tried bit by bit, and is kept where the judge says that what is left is definite: only then is the factor
- * written.
+ * Writes a factor that shows more stiffness than the one that the judge has written for the sums: that of the sums with the step of their
+ * bracket taken off the diagonal. What is left is definite, for the step was tried so. Were it not, the factor would stay as it was.
  */
-static void find_stiffer(const struct sums *sums, uint8_t *factor)
+static void find_stiffer(const struct sums *sums, int64_t step, uint8_t *factor)
 {
     uint8_t vector[HB_VECTOR_BYTES(ORDER)], over[HB_OVER_BYTES];
     struct sums lowered;
-    int64_t step = 0;
-    for (int64_t bit = HB_ENTRY_RANGE / 2; bit > 0; bit /= 2) {
-        lower(sums, step + bit, &lowered);
-        if (hb_judge(ORDER, lowered.low, sizeof lowered.low, lowered.high, sizeof lowered.high, factor, HB_TABLE_BYTES(ORDER), vector,
-                     sizeof vector, over, sizeof over) == HB_DEFINITE)
-            step += bit;
-    }
+    lower(sums, step, &lowered);
+    hb_judge(ORDER, lowered.low, sizeof lowered.low, lowered.high, sizeof lowered.high, factor, HB_TABLE_BYTES(ORDER), vector,
+             sizeof vector, over, sizeof over);
 }
 
 /* part: filed */
@@ -355,18 +432,30 @@ static void show_kilometres(const int64_t *sides)
 
 /* part: display */
 /*
- * The display's work: test the factor that was filed with the sums, or judge them, look for a factor to file, and test that; then read the
- * sums, which checks all of them before anything is worked out from them, and box from the centre. filed is 1 where there is a filed
- * factor.
+ * Judges the sums, brackets their stiffness, says how sure the coefficients are, and writes a factor to file. Returns 1 where the factor is
+ * accepted.
+ */
+static int file_factor(const struct sums *sums, uint8_t *factor)
+{
+    struct bracket found;
+    int definite = judge(sums, factor);
+    if (!find_bracket(sums, &found))
+        return 0;
+    print_sure(sums, &found);
+    if (!definite)
+        return 0;
+    find_stiffer(sums, found.step, factor);
+    return test_filed(sums, factor);
+}
+
+/*
+ * The display's work: test the factor that was filed with the sums, or judge them and write a factor to file; then read the sums, which
+ * checks all of them before anything is worked out from them, and box from the centre. filed is 1 where there is a filed factor.
  */
 static void display(const struct sums *sums, uint8_t *factor, int filed)
 {
     int64_t limit, centre[ORDER], sides[2 * ORDER];
-    int definite = filed && test_filed(sums, factor);
-    if (!definite && judge(sums, factor)) {
-        find_stiffer(sums, factor);
-        definite = test_filed(sums, factor);
-    }
+    int definite = (filed && test_filed(sums, factor)) || file_factor(sums, factor);
     if (!definite || !read_limit(sums, &limit)) {
         show_table();
         return;
@@ -410,6 +499,20 @@ static void gather_all(struct sums *sums, const struct stretch *stretches, size_
 }
 
 static const struct stretch nothing = {0, 0, 0, 0, 0};
+
+/* part: workshop */
+/* A workshop's look at a ride: how its bracket goes up, every two stretches */
+static void show_growth(void)
+{
+    struct sums sums = {{0}, {0}, {0}, {0}, {0}, 0};
+    for (size_t count = 2; count <= COUNT(ride); count += 2) {
+        struct bracket found;
+        printf("the first %zu stretches of the ride\n", count);
+        gather_all(&sums, &ride[count - 2], 2, &nothing, 2);
+        if (find_bracket(&sums, &found))
+            print_sure(&sums, &found);
+    }
+}
 
 /* part: cases */
 /* A ride, its factor filed and damaged, its sums damaged, a hub that fails, and many such rides */
@@ -485,10 +588,7 @@ static void show_alike(void)
         struct sums sums = {{0}, {0}, {0}, {0}, {0}, 0};
         printf("stretches with air and starts of 5 and 0, and of %d and %d\n", 4 + k, 4 - k);
         gather_all(&sums, stretches, COUNT(stretches), &nothing, 2);
-        if (judge(&sums, factor)) {
-            find_stiffer(&sums, factor);
-            test_filed(&sums, factor);
-        }
+        file_factor(&sums, factor);
     }
 }
 
@@ -525,6 +625,7 @@ static void show_others(void)
 int main(void)
 {
     show_rides();
+    show_growth();
     show_wider();
     show_alike();
     show_others();

@@ -17,8 +17,9 @@
  * bytes long. A vector, an end of the linear terms and a centre have n, and are HB_VECTOR_BYTES(n) bytes long. The sides of a box have
  * 2 * n (the low and the high of side 0, those of side 1, and so on), and are HB_SIDES_BYTES(n) bytes long. A running limit that is lent, a
  * limit that is written and an order that is written are HB_NUMBER_BYTES long; what the rows have over, one number too, is HB_OVER_BYTES
- * long. hb_load_number and hb_store_number, below, read and store one number on any processor. Where the processor stores the low byte
- * first, an array of int64_t has this form already and is passed as it is:
+ * long, and step and bound of the stiffness, one number each, HB_STEP_BYTES and HB_BOUND_BYTES. hb_load_number and hb_store_number, below,
+ * read and store one number on any processor. Where the processor stores the low byte first, an array of int64_t has this form already and
+ * is passed as it is:
  *
  *     int64_t low[4] = {2, 1, 1, 2};
  *     ... (const uint8_t *)low, sizeof low ...
@@ -63,6 +64,28 @@
  *
  * The factor that hb_judge writes has a v of 0 or more. By the rules it is from 2^26 to 2^29 + 2^27, and near 2^29 where entries are small,
  * whether the matrices are stiff or not. That is not proved: docs/FIRMWARE.md says why it is so, and how a factor with a greater v is found.
+ *
+ * THE BRACKET OF THE STIFFNESS
+ *
+ * hb_stiffness says between which two whole numbers the least stiffness lies that a symmetric matrix from low to high has: the step t from
+ * below and the bound v from above. It writes t to the buffer step, HB_STEP_BYTES = 8 bytes, v to the buffer bound, HB_BOUND_BYTES = 8
+ * bytes, and to the buffer vector a vector x with entries 0, 1 and -1, not all zero, that goes with v. This v is no number over.
+ *
+ *     x'Mx >  t * x'x    for every symmetric matrix M from low to high and every x of n fractions but 0
+ *     x'Mx <= v * x'x    for some symmetric matrix M from low to high, and the x that is written
+ *
+ * So every such M has a stiffness of t or more, and one of them has a stiffness of v or less: the least stiffness is from t to v. In the
+ * direction x one of them is no stiffer than v.
+ *
+ * - t is given, with the answer HB_BETWEEN, exactly if hb_judge says HB_DEFINITE. It is 0 or more then, and t < v. It is the t that hb_box
+ *   works with, so that hb_box refuses these bounds by HB_REFUSED_FLAT exactly if t is 0.
+ * - v is given with HB_BETWEEN and with HB_AT_MOST. It is from -n * 2^20 to 2^20, and no more than any low(i,i). No smaller whole number is
+ *   shown by any vector with entries 0, 1 and -1, and x is the first of them, in a fixed order, that shows v. A vector with other entries
+ *   may show a smaller one.
+ * - Where v is 0 or less, not every matrix from low to high is positive definite: hb_judge says HB_NOT_DEFINITE, perhaps with another
+ *   vector. x is a witness vector then: hb_test_vector says HB_YES of it, and of the x that goes with a v of 1 or more it says HB_NO.
+ * - HB_AT_MOST with a v of 1 or more says neither that all these matrices are positive definite nor that one is not: hb_judge says
+ *   HB_UNDECIDED of them, or HB_NOT_DEFINITE with a vector that has other entries too.
  *
  * SUMMARY FILES
  *
@@ -127,10 +150,11 @@ extern "C" {
  * version. Since 0.3 there are hb_gather and hb_read_sums, and a summary file has its tags rising (19). Since 0.4 there are hb_write_summary and
  * hb_read_summary. Since 0.5 the halves of low and high may differ, and HB_REFUSED_LOPSIDED refuses only a pair that leaves no number: what
  * 0.4 answers by any number but 5 is answered as before. Since 0.6 hb_judge and hb_test_factor have two parameters more, the buffer over and
- * its length, which again a linker does not see; all that they answered and wrote before they answer and write as they did.
+ * its length, which again a linker does not see; all that they answered and wrote before they answer and write as they did. Since 0.7 there
+ * is hb_stiffness, and nothing else is changed.
  */
 #define HB_VERSION_MAJOR 0
-#define HB_VERSION_MINOR 6
+#define HB_VERSION_MINOR 7
 #define HB_VERSION_PATCH 0
 #define HB_VERSION_STRING HB_VERSION_JOINED(HB_VERSION_MAJOR, HB_VERSION_MINOR, HB_VERSION_PATCH)
 #define HB_VERSION_JOINED(major, minor, patch) HB_VERSION_QUOTED(major) "." HB_VERSION_QUOTED(minor) "." HB_VERSION_QUOTED(patch)
@@ -141,11 +165,13 @@ extern "C" {
 #define HB_SAMPLE_ORDER 4
 
 /*
- * Bytes of a number; of what the rows have over, at any order; and of order n: of a table or factor; of a vector, of one end of the linear
- * terms or of a centre; of the sides of a box.
+ * Bytes of a number; of what the rows have over, and of step and bound of the stiffness, at any order; and of order n: of a table or
+ * factor; of a vector, of one end of the linear terms or of a centre; of the sides of a box.
  */
 #define HB_NUMBER_BYTES 8
 #define HB_OVER_BYTES HB_NUMBER_BYTES
+#define HB_STEP_BYTES HB_NUMBER_BYTES
+#define HB_BOUND_BYTES HB_NUMBER_BYTES
 #define HB_TABLE_BYTES(n) ((size_t)HB_NUMBER_BYTES * (size_t)(n) * (size_t)(n))
 #define HB_VECTOR_BYTES(n) ((size_t)HB_NUMBER_BYTES * (size_t)(n))
 #define HB_SIDES_BYTES(n) ((size_t)2 * HB_NUMBER_BYTES * (size_t)(n))
@@ -181,6 +207,7 @@ extern "C" {
 #define HB_TEST_FACTOR_STACK 4096
 #define HB_TEST_VECTOR_STACK 4096
 #define HB_BOX_STACK 8192
+#define HB_STIFFNESS_STACK 10240
 #define HB_GATHER_STACK 4096
 #define HB_READ_SUMS_STACK 4096
 #define HB_WRITE_SUMMARY_STACK 8192
@@ -205,6 +232,9 @@ enum {
 
     HB_EMPTY = -1,
     HB_BOX = 0,
+
+    HB_AT_MOST = -1,
+    HB_BETWEEN = 0,
 
     HB_TAKEN = 0,
 
@@ -244,8 +274,8 @@ enum {
 
 /*
  * hb_load_number: the number in 8 bytes, signed, low byte first. hb_store_number: puts a number there. On any processor, at any address. They are
- * for running limits, limits and what the rows have over, and for tables and vectors one number after the other: number k of a buffer starts
- * at byte HB_NUMBER_BYTES * k.
+ * for running limits, limits, what the rows have over, steps and bounds, and for tables and vectors one number after the other: number k of
+ * a buffer starts at byte HB_NUMBER_BYTES * k.
  */
 static inline int64_t hb_load_number(const uint8_t *bytes)
 {
@@ -436,6 +466,53 @@ int64_t hb_test_vector(int64_t n, const uint8_t *low, size_t low_len, const uint
 int64_t hb_box(int64_t n, const uint8_t *low, size_t low_len, const uint8_t *high, size_t high_len, const uint8_t *linear_low,
                size_t linear_low_len, const uint8_t *linear_high, size_t linear_high_len, int64_t limit, const uint8_t *centre,
                size_t centre_len, uint8_t *sides, size_t sides_len);
+
+/*
+ * hb_stiffness: between which two whole numbers does the least stiffness of the matrices between the bounds lie?
+ *
+ *   n                    the order, 1 to 8
+ *   low, high            the bounds: HB_TABLE_BYTES(n) bytes each, entries within +-2^20, no low of a pair above a high of the same pair.
+ *                        Their halves may differ: the mended tables count, and low and high are only read
+ *   step                 HB_STEP_BYTES = 8 bytes, written where the answer is HB_BETWEEN and kept as they were where it is any other
+ *   bound                HB_BOUND_BYTES = 8 bytes, written where the answer is HB_BETWEEN and where it is HB_AT_MOST, and kept as they were
+ *                        on a refusal
+ *   vector               HB_VECTOR_BYTES(n) bytes, written where bound is, and kept as they were on a refusal
+ *   low_len, high_len,   the lengths of the five buffers, in bytes. All five have their full size in every call: whether step will be
+ *   step_len,            written is not known before
+ *   bound_len,
+ *   vector_len
+ *
+ * Of each vector x with entries 0, 1 and -1, but the one of zeros, the least value (see hb_test_vector) is divided by x'x, which is how
+ * many of its entries are not 0, and the quotient is rounded up. The bound v is the least of these quotients, and vector gets the first x
+ * whose quotient is v: 0 comes before 1 and 1 before -1, and the first entry counts most. The step t is looked for as hb_box does it: bit
+ * by bit, what can be taken off every diagonal entry of low and high so that what is left can still be factored. It is given where low and
+ * high can be factored with nothing taken off. The same input has the same answer always, and what is written depends on n, low and high
+ * alone.
+ *
+ * Returns
+ *
+ *   HB_BETWEEN           every symmetric matrix from low to high, entry by entry, is positive definite, and their least stiffness is from
+ *                        t to v. step has t, which is 0 or more, bound has v, which is above t, and vector has x: see THE BRACKET OF THE
+ *                        STIFFNESS
+ *   HB_AT_MOST           the least stiffness of these matrices is v or less, and nothing is said from below. bound has v, vector has x,
+ *                        and step is kept. If v is 0 or less not every one is positive definite, and x is a witness vector; if v is 1 or
+ *                        more, neither that nor the contrary is said
+ *   HB_REFUSED_ORDER     n is not 1 to 8; no length is looked at
+ *   HB_REFUSED_LENGTH    a length is not HB_TABLE_BYTES(n) for low and high, HB_STEP_BYTES for step, HB_BOUND_BYTES for bound,
+ *                        HB_VECTOR_BYTES(n) for the vector; too long is refused like too short
+ *   HB_REFUSED_RANGE     an entry of low or high is beyond +-2^20
+ *   HB_REFUSED_CROSSED   an entry of low is above its entry of high
+ *   HB_REFUSED_LOPSIDED  low(i,j) is above high(j,i) for some i and j: the pair leaves no number
+ *
+ * and nothing else: these are the refusals of hb_judge. What step, bound and vector hold before the call plays no part.
+ *
+ * Buffers: at any address; none overlaps another, but low and high may be the same table. Nothing is allocated. Reentrant.
+ * Stack: HB_STIFFNESS_STACK bytes.
+ * Time: up to 21 factorings, and searches through the vectors with entries 0, 1 and -1, of which order 8 has 6560. Each but the last finds
+ * one with a smaller quotient than the one before: at order 8 some ten searches are made, as a rule.
+ */
+int64_t hb_stiffness(int64_t n, const uint8_t *low, size_t low_len, const uint8_t *high, size_t high_len, uint8_t *step, size_t step_len,
+                     uint8_t *bound, size_t bound_len, uint8_t *vector, size_t vector_len);
 
 /*
  * A sample, as the hub hands it over: the four factors of a stretch of a ride, and the draw that was measured on it, each from -8 to 8. Coefficients x
