@@ -8,11 +8,11 @@ use native.Mathlib.Omega.{arith}
 use native.Mathlib.Decide.{decLt, ℕ-discrete}
 use lib.Dec.{T}
 use lib.IntN.{ℤ, pos, _*ℤ_}
-use lib.Signed.{_≤ℤ_, leZ}
+use lib.Signed.{_≤ℤ_, _<ℤ_, leZ}
 use Rattle.integers.specs.Sum.{only}
 use Rattle.integers.specs.Division.{floorDiv}
 use Rattle.integers.specs.Root.{wholeRoot}
-use Rattle.integers.proofs.Parts.{≤ℤ-trans, pos-nonneg, *ℤ-nonneg, leZ-true}
+use Rattle.integers.proofs.Parts.{≤ℤ-trans, pos-nonneg, *ℤ-nonneg, leZ-true, leZ-false}
 use Rattle.integers.proofs.Solver.{_&_, order, ring, solver}
 use Rattle.integers.proofs.Sums.{only-by, only-other}
 use Rattle.tables.specs.Ranges.{greatestOrder}
@@ -21,7 +21,7 @@ use Rattle.tables.specs.Bounds.{Bounds}
 use Rattle.tables.proofs.Checks.{bool-ext, false-of}
 use Rattle.cholesky.specs.Scale.{scale, scaled}
 use Rattle.cholesky.specs.Scaling.{Scaled}
-use Rattle.cholesky.specs.Factoring.{factoring}
+use Rattle.cholesky.specs.Factoring.{factoring, factored}
 use Rattle.cholesky.specs.Store.{upper}
 use Rattle.cholesky.specs.Reduced.{rowEntry, reduced, endsFrom}
 use Rattle.cholesky.specs.Rows.{ColumnsTaken}
@@ -58,6 +58,17 @@ module _ {n : ℕ} {L U : Matrix} {h : List ℤ} (b : Bounds n L U) (o : n ≤ g
                 lowered-ext _ (λ i. scale *ℤ t) (upper h) (scaled n L U) i j (taken-in 0 n (scale *ℤ t) i (omega arith) (omega arith)) (w .entries i j l m);
           })
           ∙ sym (factoring-by-rows _ n) ∙ sym (trial-is n L U (λ i. t) b))
+
+  -- with nothing taken off
+  pub ends-is : endsFrom (n - 0) (upper h) 0 ≡ factored n L U .ends
+  ends-is =
+      let e : n - 0 ≡ n = omega arith in
+      rw e (ends-ext n n 0 (omega arith) (record { entries = λ i j k l m. w .entries i j l m }) ∙ sym (factoring-by-rows _ n))
+
+-- less than 1 is left of the first diagonal entry
+pub none-ends : (n : ℕ) (S : Matrix) → 0 < n → S 0 0 <ℤ pos 1 → endsFrom (n - 0) S 0 ≡ false
+unfolding endsFrom
+none-ends (suc m) S p h = let e : suc m - 0 ≡ suc m = omega arith in rw (e, leZ-false h) refl
 
 -- ---- what is taken off later entries changes no row before them
 module _ (d : ℕ → ℤ) (S S′ : Matrix) (f : (a b : ℕ) → S′ a b ≡ lowered d S a b) (i : ℕ) (none : d i ≡ pos 0) where

@@ -11,6 +11,7 @@ ghost use Rattle.tables.specs.Matrix.{at};
 ghost use Rattle.tables.specs.Checks.{all};
 ghost use Rattle.tables.specs.Buffers.{Filled};
 ghost use Rattle.tables.specs.Bounds.{CheckedTables};
+ghost use Rattle.cholesky.specs.Factoring.{factored};
 ghost use Rattle.cholesky.specs.Store.{upper};
 ghost use Rattle.cholesky.specs.Reduced.{endsFrom};
 ghost use Rattle.steps.specs.Steps.{lowered, step, stepAt};
@@ -115,6 +116,19 @@ pub fn step(n: usize, low: &[i64], high: &[i64]) -> i64
     let mut h = [0i64; TABLE_ROOM];
     scale(n, low, high, &mut h);
     search(n, 0, n, &h)
+}
+
+// Whether factoring ends with nothing taken off.
+pub fn ends(n: usize, low: &[i64], high: &[i64]) -> bool
+    requires { ⌜ CheckedTables n (now low) (now high) × (0 < n) ⌝ }
+    ensures { λ r. ⌜ r ≡ factored n (at n (now (low .entry))) (at n (now (high .entry))) .ends ⌝ }
+{
+    let mut h = [0i64; TABLE_ROOM];
+    scale(n, low, high, &mut h);
+    if h[0] < 1 {
+        return false;
+    }
+    ends_from(&mut h, n, 0)
 }
 
 // t(k), of diagonal entry k only, for each k: on what is left after the rows before k. Where factoring stops in one of these, or less

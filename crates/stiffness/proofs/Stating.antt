@@ -1,6 +1,6 @@
 -- The bracket, from the least bound and the vector in an array, and what is written of it.
 use mathlib.Core.Path.{_≡_, refl, sym, ap, ap₂, _∙_}
-use mathlib.Core.Bool.{false≢true}
+use mathlib.Core.Bool.{true, false, false≢true}
 use mathlib.Core.List.{List}
 use Prim.Native.Nat.{ℕ}
 use lib.IntN.{ℤ}
@@ -8,9 +8,6 @@ use borrow.Table.Steps.{cases}
 use Rattle.tables.specs.Matrix.{Matrix, nth, tabulate}
 use Rattle.tables.specs.declared.Refusal.{Refusal}
 use Rattle.cholesky.specs.Factoring.{factored}
-use Rattle.cholesky.specs.Store.{Stored}
-use Rattle.cholesky.specs.declared.factoring.Outcome.the-variants.{Ends, Stops}
-use Rattle.cholesky.proofs.Store.{outcome-ends, outcome-stops}
 use Rattle.steps.specs.Steps.{step}
 use Rattle.stiffness.specs.Bracket.{Bracketing, between, atMost, refused, shown, bracketed, Bracketed, written}
 use Rattle.stiffness.specs.Descent.{Least, stated, Stated}
@@ -25,17 +22,17 @@ module _ (n : ℕ) (L U : Matrix) where
     vector-shown = ap shown (rw (a .bound) at (a .vector))
 
     -- factoring ended, or it stopped
-    pub stated-between : {t : List ℤ} → Stored (factored n L U) Ends t → Stated (bracketed n L U) n (Stiffness.Between (step n L U) v) x
+    pub stated-between : true ≡ factored n L U .ends → Stated (bracketed n L U) n (Stiffness.Between (step n L U) v) x
     unfolding stated
-    stated-between s = record {
-      stiffness = bracketed-ends n L U (sym (outcome-ends _ (sym (s .outcome)))) ∙ ap₂ (λ (w : ℤ) (z : List ℤ). between (step n L U) w z) (sym (a .bound)) vector-shown;
+    stated-between e = record {
+      stiffness = bracketed-ends n L U (sym e) ∙ ap₂ (λ (w : ℤ) (z : List ℤ). between (step n L U) w z) (sym (a .bound)) vector-shown;
       size = a .size;
     }
 
-    pub stated-at-most : {j m : ℕ} {t : List ℤ} → Stored (factored n L U) (Stops j m) t → Stated (bracketed n L U) n (Stiffness.AtMost v) x
+    pub stated-at-most : false ≡ factored n L U .ends → Stated (bracketed n L U) n (Stiffness.AtMost v) x
     unfolding stated
-    stated-at-most s = record {
-      stiffness = bracketed-stops n L U (sym (outcome-stops _ _ _ (sym (s .outcome)))) ∙ ap₂ atMost (sym (a .bound)) vector-shown;
+    stated-at-most e = record {
+      stiffness = bracketed-stops n L U (sym e) ∙ ap₂ atMost (sym (a .bound)) vector-shown;
       size = a .size;
     }
 

@@ -8,8 +8,6 @@ ghost use Rattle.tables.specs.Bounds.{CheckedTables};
 ghost use Rattle.stiffness.specs.Bracket.{Bracketed, bracketed, written, bracket, bracketCode, Meaning};
 ghost use Rattle.stiffness.specs.Descent.{Stated};
 use crate::least_bound::least_bound;
-use cholesky::factoring::Outcome;
-use cholesky::problem::factor_tables;
 use tables::Checked;
 use tables::GREATEST_ORDER;
 use tables::Refusal;
@@ -43,12 +41,10 @@ pub fn find(n: usize, low: &[i64], high: &[i64], x: &mut Vector) -> Stiffness
     ensures { λ r. ⌜ Stated (bracketed n (at n (now (low .entry))) (at n (now (high .entry)))) n r (now (x .exit)) ⌝ }
 {
     let v = least_bound(n, low, high, x);
-    let mut t = [0i64; TABLE_ROOM];
-    let outcome = factor_tables(n, low, high, &mut t);
-    match outcome {
-        Outcome::Ends => Stiffness::Between(steps::step(n, low, high), v),
-        Outcome::Stops(_, _) => Stiffness::AtMost(v),
+    if !steps::ends(n, low, high) {
+        return Stiffness::AtMost(v);
     }
+    Stiffness::Between(steps::step(n, low, high), v)
 }
 
 // The bracket of bounds of order n, with the vector written to a buffer of n numbers.

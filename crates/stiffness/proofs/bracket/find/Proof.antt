@@ -1,6 +1,9 @@
 -- The bound, then the factoring: t is looked for where it ends.
+use mathlib.Core.Path.{_≡_, refl}
+use mathlib.Core.Bool.{true, false}
 use borrow.Author.Needs.{needs}
 use Rattle.integers.proofs.Machine.{clean-result}
+use Rattle.tables.proofs.Checks.{call-true, call-false}
 use Rattle.stiffness.proofs.Stating.{stated-between, stated-at-most}
 use Rattle.stiffness.proofs.bracket.find.Statement.{statement}
 use Rattle.stiffness.proofs.bracket.find.Tie as tie
@@ -11,19 +14,15 @@ find-spec =
     (tie.spec
     (λ c κs. search needs)
     (λ c κs. search needs)
-    (λ c. search needs)
+    (λ c.
+    let e = c .before in
+    let l = e .before in
+    let t : e .ends .result ≡ false = call-false refl (c .if1 .taken) in
+    rw (clean-result (l .least-bound)) (stated-at-most _ _ _ (l .least-bound .ensures) (rw t at (e .ends .ensures))))
     (λ c κs. search needs)
-    (λ c. search needs)
     (λ c.
-    let k = c .before in
-    let f = k .before .before in
-    let l = f .before .before in
-    let s = rw (k .enum-told .given .1) at (f .factor-tables .ensures) in
-    rw (clean-result (c .step), c .step .ensures, clean-result (l .least-bound))
-    (stated-between _ _ _ (l .least-bound .ensures) s))
-    (λ c.
-    let f = c .before .before in
-    let l = f .before .before in
-    let s = rw (c .enum-told2 .given .1) at (f .factor-tables .ensures) in
-    rw (clean-result (l .least-bound))
-    (stated-at-most _ _ _ (l .least-bound .ensures) s)))
+    let i = c .before in
+    let e = i .before in
+    let l = e .before in
+    let t : e .ends .result ≡ true = call-true refl (i .if1 .left) in
+    rw (clean-result (c .step), c .step .ensures, clean-result (l .least-bound)) (stated-between _ _ _ (l .least-bound .ensures) (rw t at (e .ends .ensures)))))
