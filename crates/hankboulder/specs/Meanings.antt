@@ -104,7 +104,7 @@ module _ (n : ℤ) (l u : List ℕ) where
     -- no refusal: the vector that is written is a tried one, and with v in bound some member M has x'Mx ≤ v·x'x for it
     pub from-list : r ≤ℤ pos 0 → List·Memᴰ (vectorOf k x) (tried k)
     pub witness : r ≤ℤ pos 0 → WitnessAt k L U (numberOf b) (nth (vectorOf k x))
-    -- of no tried vector does a member do that at v - 1
+    -- no member M has y'My ≤ (v - 1)·y'y for a tried y but 0
     pub least : r ≤ℤ pos 0 → (y : List ℤ) → List·Memᴰ y (tried k) → WitnessAt k L U (numberOf b -ℤ pos 1) (nth y) → ⊥
 
 -- of a sample gathered into the sums that b spells; d: the buffers as they are left

@@ -1,4 +1,3 @@
-pub mod Examples
 pub mod Quotients
 pub mod Descending
 pub mod Meanings

@@ -117,7 +117,7 @@ module _ (n : ℤ) (l u : List ℤ) where
     -- the vector that is written is a tried one, and some member M has x'Mx ≤ v·x'x for it
     pub from-list : (v : ℤ) → boundOf r ≡ some v → List·Memᴰ x (tried k)
     pub witness : (v : ℤ) → boundOf r ≡ some v → WitnessAt k (at k l) (at k u) v (nth x)
-    -- of no tried vector does a member do that at v - 1
+    -- no member M has y'My ≤ (v - 1)·y'y for a tried y but 0
     pub least : (v : ℤ) → boundOf r ≡ some v → (y : List ℤ) → List·Memᴰ y (tried k) →
         WitnessAt k (at k l) (at k u) (v -ℤ pos 1) (nth y) → ⊥
     pub ordered : (t v : ℤ) → stepOf r ≡ some t → boundOf r ≡ some v → t <ℤ v

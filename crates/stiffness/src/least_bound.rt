@@ -37,7 +37,7 @@ fn next_bound(n: usize, low: &[i64], high: &[i64], v: i64, x: &mut Vector) -> i6
 }
 
 // v, with the vector that is shown in x. Each vector that is found is the first that is under its own quotient, so that only less than that
-// is looked for: few searches are made, and one of them finds nothing.
+// is looked for. The last search finds nothing.
 pub fn least_bound(n: usize, low: &[i64], high: &[i64], x: &mut Vector) -> i64
     requires { ⌜ CheckedTables n (now low) (now high) × (0 < n) × (length (now x) ≡ greatestOrder) ⌝ }
     ensures { λ v. ⌜ Least n (at n (now (low .entry))) (at n (now (high .entry))) v (now (x .exit)) ⌝ }

@@ -66,6 +66,7 @@ fn bracket_bounds(
             store_bound(n, v, &x, bound, vector);
             Stiffness::AtMost(v)
         }
+        // bounds that were let in are never refused
         Stiffness::Refused(r) => Stiffness::Refused(r),
     }
 }

@@ -6,7 +6,7 @@ use Prim.Native.Nat.{ℕ, zero, suc}
 use lib.IntN.{ℤ, pos, negsuc}
 
 -- R9.2: three copies of the list for one entry less, with 0, with 1 and with -1 prefixed to each vector; for no entries, one vector.
--- R9.3: the zero vector is in the list and is passed over, since it shows nothing.
+-- R9.3: the zero vector is in the list and is passed over, since it shows nothing, and is under no number.
 unfoldable pub tried : ℕ → List (List ℤ)
 tried zero = [] ∷ []
 tried (suc n) =

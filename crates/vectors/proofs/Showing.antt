@@ -199,15 +199,15 @@ module _ (n : ℕ) (L U : Matrix) (x : ℕ → ℤ) where
 
 -- ---- R8.3, the case w = 0: a nonzero x shows 'not definite' exactly if some member M has x'Mx ≤ 0
 -- q·0·x'x is 0
-none : (q z : ℤ) → q *ℤ pos 0 *ℤ z ≡ pos 0
-none q z = ring (q ∷ z ∷ []) (search solver depth 40 fits 20000) refl
+zero-product : (q z : ℤ) → q *ℤ pos 0 *ℤ z ≡ pos 0
+zero-product q z = ring (q ∷ z ∷ []) (search solver depth 40 fits 20000) refl
 
 module _ {n : ℕ} {L U : Matrix} {x : ℕ → ℤ} where
   pub witness-at-zero : Witness n L U x → WitnessAt n L U (pos 0) x
-  witness-at-zero f = record { differs = f .differs; matrix = f .matrix; denominator = f .denominator; member = f .member; low = rw (none (f .denominator) (normSquared n x)) (f .low) }
+  witness-at-zero f = record { differs = f .differs; matrix = f .matrix; denominator = f .denominator; member = f .member; low = rw (zero-product (f .denominator) (normSquared n x)) (f .low) }
 
   pub zero-witness : WitnessAt n L U (pos 0) x → Witness n L U x
-  zero-witness f = record { differs = f .differs; matrix = f .matrix; denominator = f .denominator; member = f .member; low = rw (none (f .denominator) (normSquared n x)) at (f .low) }
+  zero-witness f = record { differs = f .differs; matrix = f .matrix; denominator = f .denominator; member = f .member; low = rw (zero-product (f .denominator) (normSquared n x)) at (f .low) }
 
   pub shows-witness : Bounds n L U → shows n L U x ≡ true → Witness n L U x
   shows-witness b e = zero-witness (under-witness b (under-zero n L U x ∙ e))
