@@ -508,9 +508,8 @@ int64_t hb_box(int64_t n, const uint8_t *low, size_t low_len, const uint8_t *hig
  *
  * Buffers: at any address; none overlaps another, but low and high may be the same table. Nothing is allocated. Reentrant.
  * Stack: HB_STIFFNESS_STACK bytes.
- * Time: up to 21 factorings, and searches through the vectors with entries 0, 1 and -1, of which order 8 has 6560. Each but the last finds
- * one with a smaller quotient than the one before: at order 8 some ten searches are made, as a rule, and of bounds that were looked for so
- * some hundreds: docs/FIRMWARE.md has what that takes.
+ * Time: up to 21 factorings, and searches through the vectors with entries 0, 1 and -1, of which order 8 has 6560: some ten searches there,
+ * as a rule, and 48 at most.
  */
 int64_t hb_stiffness(int64_t n, const uint8_t *low, size_t low_len, const uint8_t *high, size_t high_len, uint8_t *step, size_t step_len,
                      uint8_t *bound, size_t bound_len, uint8_t *vector, size_t vector_len);

@@ -1,26 +1,28 @@
--- The descent from one tried vector to the next: where it starts, what one search does, and that it ends at the least bound.
+-- The search for the least bound: where it starts, what one number that is asked for leaves, and that it ends at the least bound.
 use mathlib.Core.Path.{_≡_, refl, sym, ap, ap₂, _∙_}
-use mathlib.Core.Bool.{true, false}
-use mathlib.Core.List.{List, [], _∷_}
+use mathlib.Core.Bool.{Bool, true, false}
+use mathlib.Core.Logic.{_⊎_, inl, inr}
+use mathlib.Core.List.{List, [], _∷_, List·Memᴰ}
 use mathlib.Core.Option.{Option, none, some, Option·some-injective, Option·none-ne-some}
 use Prim.Native.Nat.{ℕ, _+_, _*_, _≤_, _<_}
 use native.Mathlib.Nat.{mul-le-mul-right}
 use native.Mathlib.Omega.{arith}
 use lib.IntN.{ℤ, pos, negsuc, negℤ, natAbs, _+ℤ_, _-ℤ_, _*ℤ_}
-use lib.Signed.{_≤ℤ_, _<ℤ_, ≤ℤ-refl, clashℤ}
+use lib.Signed.{_≤ℤ_, _<ℤ_, ltZ, ≤ℤ-refl, clashℤ}
 use lib.ListN.{length}
 use Rattle.integers.specs.Numbers.{Within}
 use Rattle.integers.specs.Division.{ceilDiv}
-use Rattle.integers.proofs.Parts.{<-out, ≤ℤ-trans, ≤ℤ-antisym}
+use Rattle.integers.proofs.Parts.{<-out, ≤ℤ-trans, ≤ℤ-or-<ℤ}
 use Rattle.integers.proofs.Order.{<-≤}
-use Rattle.integers.proofs.Solver.{_&_, order, solver}
+use Rattle.integers.proofs.Solver.{_&_, none as none-given, order, solver}
 use Rattle.integers.proofs.Sums.{sum-ext}
-use Rattle.integers.proofs.Machine.{within-more, within-in, within-low, within-high, within-neg}
+use Rattle.integers.proofs.Machine.{within-more, within-in, within-low, within-high, within-neg, lt-holds}
 use Rattle.tables.specs.Ranges.{greatestOrder, entryRange}
 use Rattle.tables.specs.Matrix.{Matrix, at, nth, normSquared, tabulate}
 use Rattle.tables.specs.Members.{Nonzero}
 use Rattle.tables.specs.Bounds.{Bounds, CheckedTables}
 use Rattle.tables.proofs.Buffers.{Small}
+use Rattle.tables.proofs.Checks.{true-of, false-of}
 use Rattle.tables.proofs.Matrix.{nth-tabulate, tabulate-ext}
 use Rattle.arithmetic.specs.Contracts.{boundRange}
 use Rattle.vectors.specs.Least.{leastValue}
@@ -30,8 +32,8 @@ use Rattle.tried.specs.Tried.{tried}
 use Rattle.tried.specs.Search.{found, Searched}
 use Rattle.tried.proofs.TriedVectors.{every-at, tried-sized}
 use Rattle.stiffness.specs.Bracket.{quotient, firstUnder}
-use Rattle.stiffness.specs.Descent.{TriedEntries, Reached, Next, Descended, Least}
-use Rattle.stiffness.proofs.Quotients.{under-parts, quotient-low, first-found, first-again, some-under, bound-is}
+use Rattle.stiffness.specs.Descent.{TriedEntries, Inside, Asked, raised, Narrowed, Least}
+use Rattle.stiffness.proofs.Quotients.{under-parts, quotient-under, quotient-low, first-found, none-found, first-again, some-under, bound-is}
 
 -- ---- numbers
 -- a measure falls
@@ -40,35 +42,25 @@ falls {x = pos a} {y = pos b} h k = omega (arith, <-out k)
 falls {x = pos a} {y = negsuc b} h k = omega (arith, <-out k)
 falls {x = negsuc a} h k = absurd (h .le)
 
--- the number before one that the search comes to is one that vectors can be asked to be under
-pub before-reached : {v : ℤ} → Reached v → Within underRange (v -ℤ pos 1)
-before-reached {v} r =
-    within-in (order (v ∷ []) (r .low) (search solver depth 40 fits 20000) (omega arith))
-    (order (v ∷ []) (r .high) (search solver depth 40 fits 20000) (omega arith))
+-- v fell, or it stayed
+module _ (below w v : ℤ) where
+  raised-fell : {v′ : ℤ} → v′ <ℤ v → raised below w v v′ ≡ below
+  unfolding raised
+  raised-fell {v′} h = ap (λ (b : Bool). elim b as (λ z. ℤ) [ true ↦ below | false ↦ w ]) (true-of (ltZ v′ v) (h .lt))
 
--- what lies between a number and the least that the search comes to
-pub descends : {v w : ℤ} → Reached w → w <ℤ v → natAbs (w +ℤ pos (greatestOrder * entryRange)) < natAbs (v +ℤ pos (greatestOrder * entryRange))
-descends {v} {w} r h =
-    let most : ℤ = pos (greatestOrder * entryRange) in
-    falls {x = w +ℤ most} {y = v +ℤ most} (order (w ∷ []) (r .low) (search solver depth 40 fits 20000) (omega arith))
-    (order (v ∷ w ∷ []) h (search solver depth 40 fits 20000) (omega arith))
+  raised-stayed : raised below w v v ≡ w
+  unfolding raised
+  raised-stayed = ap (λ (b : Bool). elim b as (λ z. ℤ) [ true ↦ below | false ↦ w ]) (false-of (ltZ v v) (λ e. clashℤ (lt-holds e) (≤ℤ-refl v)))
 
--- the search starts one above L(1,1)
-pub start-reached : {n : ℕ} {L U : Matrix} → Bounds n L U → 0 < n → Reached (L 0 0 +ℤ pos 1)
-start-reached {L = L} b p =
-    let w : Within entryRange (L 0 0) = record { size = b .low-range 0 0 p p } in
-    record {
-      low = order (L 0 0 ∷ []) (within-low w) (search solver depth 40 fits 20000) (omega arith);
-      high = order (L 0 0 ∷ []) (within-high w) (search solver depth 40 fits 20000) (omega arith);
-    }
+-- a number between those that are asked for
+pub inside-within : {below v w : ℤ} → negℤ (pos underRange) ≤ℤ below → v ≤ℤ pos (entryRange + 1) → Inside below v w → Within underRange w
+inside-within {below} {v} {w} l h i =
+    within-in (order (below ∷ w ∷ []) (l & i .low) (search solver depth 40 fits 20000) (omega arith))
+    (order (v ∷ w ∷ []) (h & i .high) (search solver depth 40 fits 20000) (omega arith))
 
 -- no quotient is less than the least of them
 low-most : {n : ℕ} → n ≤ greatestOrder → negℤ (pos (greatestOrder * entryRange)) ≤ℤ negℤ (pos (n * entryRange))
 low-most {n} o = within-low (within-neg {x = pos (n * entryRange)} (record { size = mul-le-mul-right entryRange o }))
-
--- w ≤ v - 1 is w < v
-≤-< : {v w : ℤ} → w ≤ℤ (v -ℤ pos 1) → w <ℤ v
-≤-< {v} {w} h = order (v ∷ w ∷ []) h (search solver depth 40 fits 20000) (omega arith)
 
 -- the least value of a vector of such entries can be divided
 pub least-small : {n : ℕ} {l u x : List ℤ} → CheckedTables n l u → TriedEntries n x → Within boundRange (leastValue n (at n l) (at n u) (nth x))
@@ -108,70 +100,120 @@ module _ (n : ℕ) (L U : Matrix) where
           record { index = z .index; inside = z .inside; differs = rw (same (z .index) (z .inside)) at (z .differs) }
 
   -- nothing was found, or a vector
-  module _ (v : ℤ) {x : List ℤ} where
-    pub was-missed : {y : List ℤ} → Searched (firstUnder n L U (v -ℤ pos 1)) false 0 n y → length x ≡ greatestOrder → Next n L U v x v x
+  module _ (w v : ℤ) {x : List ℤ} where
+    pub was-missed : {y : List ℤ} → Searched (firstUnder n L U w) false 0 n y → length x ≡ greatestOrder → Asked n L U w v x v x
     was-missed {y} s k = record {
       missed = λ e. (refl, refl);
-      hit = λ z e. absurd (Option·none-ne-some z (sym (searched-none (v -ℤ pos 1) y s) ∙ e));
+      hit = λ z e. absurd (Option·none-ne-some z (sym (searched-none w y s) ∙ e));
       size = k;
     }
 
-    pub was-hit : {y : List ℤ} {w : ℤ} → Searched (firstUnder n L U (v -ℤ pos 1)) true 0 n y → w ≡ quotient n L U (nth y) → Next n L U v x w y
+    pub was-hit : {y : List ℤ} {v′ : ℤ} → Searched (firstUnder n L U w) true 0 n y → v′ ≡ quotient n L U (nth y) → Asked n L U w v x v′ y
     was-hit {y} s q =
-        let f = searched-some (v -ℤ pos 1) y s in
+        let f = searched-some w y s in
         record { missed = λ e. absurd (Option·none-ne-some _ (sym e ∙ f)); hit = λ z e. (Option·some-injective _ _ (sym e ∙ f), q); size = s .size }
 
-  -- ---- one search further
-  module _ (b : Bounds n L U) (o : n ≤ greatestOrder) {v : ℤ} {x₀ : List ℤ} {w : ℤ} {x : List ℤ} (r : Reached v) (g : Next n L U v x₀ w x) where
-    after-hit : (y : List ℤ) → firstUnder n L U (v -ℤ pos 1) ≡ some y → Descended n L U v w x
+  -- ---- one search further: what is left between the two numbers, and that it is less than before
+  pub record Further (below v below′ v′ : ℤ) (x : List ℤ) : Type 0 where
+    pub narrowed : Narrowed n L U below′ v′ x
+    pub less : natAbs (v′ -ℤ below′) < natAbs (v -ℤ below)
+
+  module _ {below v w : ℤ} {x₀ : List ℤ} {v′ : ℤ} {x : List ℤ} (s : Narrowed n L U below v x₀) (i : Inside below v w) (g : Asked n L U w v x₀ v′ x) where
+    after-hit : (y : List ℤ) → firstUnder n L U w ≡ some y → Further below v (raised below w v v′) v′ x
     after-hit y e =
         let h = g .hit y e in
-        let p = under-parts n L U (nth y) (v -ℤ pos 1) (first-found n L U (v -ℤ pos 1) y e .1) in
-        let q : quotient n L U (nth y) ≡ w = ap (λ (l : List ℤ). quotient n L U (nth l)) (h .0) ∙ quotient-ext _ _ (λ i k. nth-tabulate n (nth x) i k) ∙ sym (h .1) in
-        let less : w ≤ℤ (v -ℤ pos 1) = rw q at (p .1) in
-        record {
-          range = record {
-            low = ≤ℤ-trans (low-most o) (rw q at (quotient-low n L U (nth y) b (p .0)));
-            high = order (v ∷ w ∷ []) (r .high & less) (search solver depth 40 fits 20000) (omega arith);
+        let f = first-found n L U w y e in
+        let p = under-parts n L U (nth y) w (f .1) in
+        let q : quotient n L U (nth y) ≡ v′ = ap (λ (l : List ℤ). quotient n L U (nth l)) (h .0) ∙ quotient-ext _ _ (λ i k. nth-tabulate n (nth x) i k) ∙ sym (h .1) in
+        let most : v′ ≤ℤ w = rw q at (p .1) in
+        let fell : v′ <ℤ v = order (v ∷ w ∷ v′ ∷ []) (most & i .high) (search solver depth 40 fits 20000) (omega arith) in
+        rw (raised-fell below w v fell) (record {
+          narrowed = record {
+            low = s .low;
+            high = ≤ℤ-trans (<-≤ fell) (s .high);
+            apart = above y (f .0) (p .0) q;
+            nothing = s .nothing;
+            vector = λ k. rw (q, h .0) at (first-again n L U w y e);
+            size = g .size;
           };
-          ordered = <-≤ (≤-< less);
-          vector = rw (q, h .0) at (first-again n L U (v -ℤ pos 1) y e);
-          least = λ k. absurd (clashℤ (≤-< less) k);
-          size = g .size;
-        }
-
-    after-miss : firstUnder n L U v ≡ some (tabulate n (nth x₀)) → firstUnder n L U (v -ℤ pos 1) ≡ none → Descended n L U v w x
-    after-miss f e =
-        let m = g .missed e in
-        record {
-          range = rw (m .0) r;
-          ordered = rw (m .0) (≤ℤ-refl v);
-          vector = rw (m .0, m .1) f;
-          least = λ k. e;
-          size = g .size;
-        }
-
-    pub one-further : firstUnder n L U v ≡ some (tabulate n (nth x₀)) → Descended n L U v w x
-    one-further f = go (firstUnder n L U (v -ℤ pos 1)) refl
+          less = falls {x = v′ -ℤ below} {y = v -ℤ below} (order (below ∷ v′ ∷ []) (above y (f .0) (p .0) q) (search solver depth 40 fits 20000) (omega arith))
+              (order (below ∷ v ∷ v′ ∷ []) fell (search solver depth 40 fits 20000) (omega arith));
+        })
       where
-        go : (q : Option (List ℤ)) → firstUnder n L U (v -ℤ pos 1) ≡ q → Descended n L U v w x
-        go none e = after-miss f e
+        -- no tried vector is under `below`, so no quotient is that low
+        above : (y : List ℤ) → List·Memᴰ y (tried n) → Nonzero n (nth y) → quotient n L U (nth y) ≡ v′ → below <ℤ v′
+        above y m z q = go (≤ℤ-or-<ℤ v′ below)
+          where
+            go : (v′ ≤ℤ below) ⊎ (below <ℤ v′) → below <ℤ v′
+            go (inl k) = absurd (none-found n L U below (s .nothing) y m (quotient-under n L U (nth y) below z (rw q k)))
+            go (inr k) = k
+
+    after-miss : firstUnder n L U w ≡ none → Further below v (raised below w v v′) v′ x
+    after-miss e =
+        let m = g .missed e in
+        rw (m .0, m .1, raised-stayed below w v) (record {
+          narrowed = record {
+            low = ≤ℤ-trans (s .low) (<-≤ (i .low));
+            high = s .high;
+            apart = i .high;
+            nothing = e;
+            vector = s .vector;
+            size = s .size;
+          };
+          less = falls {x = v -ℤ w} {y = v -ℤ below} (order (w ∷ v ∷ []) (i .high) (search solver depth 40 fits 20000) (omega arith))
+              (order (below ∷ w ∷ v ∷ []) (i .low) (search solver depth 40 fits 20000) (omega arith));
+        })
+
+    pub further : Further below v (raised below w v v′) v′ x
+    further = go (firstUnder n L U w) refl
+      where
+        go : (q : Option (List ℤ)) → firstUnder n L U w ≡ q → Further below v (raised below w v v′) v′ x
+        go none e = after-miss e
         go (some y) e = after-hit y e
 
-    -- the first search starts one above L(1,1), and so finds a vector
-    pub started : 0 < n → v ≡ L 0 0 +ℤ pos 1 → Descended n L U v w x
-    started p e = go (firstUnder n L U (v -ℤ pos 1)) refl
-      where
-        back : v -ℤ pos 1 ≡ L 0 0
-        back = order (v ∷ L 0 0 ∷ []) e (search solver depth 40 fits 20000) (omega arith)
+  -- how large both numbers are
+  module _ (b : Bounds n L U) (p : 0 < n) {below v : ℤ} {x : List ℤ} (s : Narrowed n L U below v x) where
+    pub upper-most : v ≤ℤ pos (entryRange + 1)
+    upper-most =
+        let w : Within entryRange (L 0 0) = record { size = b .low-range 0 0 p p } in
+        order (v ∷ L 0 0 ∷ []) (s .high & within-high w) (search solver depth 40 fits 20000) (omega arith)
 
-        go : (q : Option (List ℤ)) → firstUnder n L U (v -ℤ pos 1) ≡ q → Descended n L U v w x
-        go none k = absurd (some-under n L U p (rw back at k))
-        go (some y) k = after-hit y k
+    pub lower-within : Within underRange below
+    lower-within = within-in (s .low) (order (below ∷ v ∷ []) (s .apart & upper-most) (search solver depth 40 fits 20000) (omega arith))
 
-  -- no further: it is the least
-  pub arrived : 0 < n → {v w : ℤ} {x : List ℤ} → Descended n L U v w x → v ≤ℤ w → Least n L U v x
-  arrived p {v} {w} {x} d k =
-      let e : w ≡ v = ≤ℤ-antisym (d .ordered) k in
-      let f = rw e at (d .vector) in
-      record { bound = bound-is n L U p v _ f (d .least k); vector = f; size = d .size }
+    pub upper-within : Within (underRange + 1) v
+    upper-within =
+        within-in (order (below ∷ v ∷ []) (s .low & s .apart) (search solver depth 40 fits 20000) (omega arith))
+        (order (v ∷ []) upper-most (search solver depth 40 fits 20000) (omega arith))
+
+  -- where it starts: no vector is under the least number
+  pub started : Bounds n L U → n ≤ greatestOrder → 0 < n → {x : List ℤ} → length x ≡ greatestOrder → Narrowed n L U (negℤ (pos underRange)) (L 0 0 +ℤ pos 1) x
+  started b o p k =
+      let w : Within entryRange (L 0 0) = record { size = b .low-range 0 0 p p } in
+      record {
+        low = ≤ℤ-refl _;
+        high = ≤ℤ-refl _;
+        apart = order (L 0 0 ∷ []) (within-low w) (search solver depth 40 fits 20000) (omega arith);
+        nothing = go (firstUnder n L U (negℤ (pos underRange))) refl;
+        vector = λ h. absurd (clashℤ (order (L 0 0 ∷ []) none-given (search solver depth 40 fits 20000) (omega arith)) h);
+        size = k;
+      }
+    where
+      go : (q : Option (List ℤ)) → firstUnder n L U (negℤ (pos underRange)) ≡ q → firstUnder n L U (negℤ (pos underRange)) ≡ none
+      go none e = e
+      go (some y) e =
+          let q = under-parts n L U (nth y) (negℤ (pos underRange)) (first-found n L U (negℤ (pos underRange)) y e .1) in
+          absurd (≤ℤ-trans (≤ℤ-trans (low-most o) (quotient-low n L U (nth y) b (q .0))) (q .1) .le)
+
+  -- no number is left between: it is the least
+  pub arrived : 0 < n → {below v : ℤ} {x : List ℤ} → Narrowed n L U below v x → v ≤ℤ (below +ℤ pos 1) → Least n L U v x
+  arrived p {below} {v} {x} s k = go (≤ℤ-or-<ℤ v (L 0 0))
+    where
+      last : v -ℤ pos 1 ≡ below
+      last = order (below ∷ v ∷ []) (k & s .apart) (search solver depth 40 fits 20000) (omega arith)
+
+      go : (v ≤ℤ L 0 0) ⊎ (L 0 0 <ℤ v) → Least n L U v x
+      go (inl h) = record { bound = bound-is n L U p v _ (s .vector h) (rw last (s .nothing)); vector = s .vector h; size = s .size }
+      go (inr h) =
+          let e : below ≡ L 0 0 = order (below ∷ v ∷ L 0 0 ∷ []) (k & s .apart & h & s .high) (search solver depth 40 fits 20000) (omega arith) in
+          absurd (some-under n L U p (rw e at (s .nothing)))

@@ -1,27 +1,28 @@
--- The loop's invariant: x holds the first tried vector that is under `next`, which came after v.
-use mathlib.Core.Path.{_≡_, refl, _∙_}
+-- The loop's invariant: no tried vector is under `below`, and x holds the first that is under v, once one was found.
+use mathlib.Core.Path.{_≡_, _∙_}
 use mathlib.Core.List.{[], _∷_}
-use Prim.Native.Nat.{_+_, _*_}
+use Prim.Native.Nat.{_+_}
 use native.Mathlib.Omega.{arith}
-use lib.IntN.{pos, natAbs, _+ℤ_}
+use lib.IntN.{ℤ, pos, natAbs, _+ℤ_, _-ℤ_}
+use lib.Signed.{_<ℤ_}
 use mir.Syntax.{w64}
 use mir.Val.{toZ, ofZ}
-use Rattle.integers.proofs.Machine.{clean, clean-result, fits-within, within-in, within-low, within-high, lt-holds, lt-fails}
-use Rattle.integers.proofs.Solver.{order, solver}
-use Rattle.tables.specs.Ranges.{greatestOrder, entryRange}
+use Rattle.integers.proofs.Solver.{none, order, solver}
+use Rattle.integers.proofs.Machine.{clean, clean-result, fits-within, fits-literal, within-more, within-in, within-low, within-high, lt-holds, lt-fails}
+use Rattle.tables.specs.Ranges.{entryRange}
 use Rattle.tables.specs.Matrix.{at}
 use Rattle.tables.proofs.CheckedTables.{low-within}
-use Rattle.stiffness.specs.Descent.{Descended}
-use Rattle.stiffness.proofs.Descending.{descends, start-reached, one-further, started, arrived}
+use Rattle.lookahead.specs.Pairs.{underRange}
+use Rattle.stiffness.specs.Descent.{raised, Narrowed}
+use Rattle.stiffness.proofs.Descending.{inside-within, upper-most, lower-within, upper-within, Further, further, started, arrived}
 use Rattle.stiffness.proofs.least_bound.least_bound.Statement.{statement}
 use Rattle.stiffness.proofs.least_bound.least_bound.Tie as tie
 
 abbrev Inv-loop : tie.InvT-loop
-Inv-loop n low high x₀ v₀ next₀ x v next = Descended n (at n low) (at n high) (toZ w64 v) (toZ w64 next) x
+Inv-loop n low high x₀ below₀ v₀ left₀ x below v left = Narrowed n (at n low) (at n high) (toZ w64 below) (toZ w64 v) x
 
--- v falls, and is never below the least that the search comes to
 abbrev μ-loop : tie.MeasureT-loop
-μ-loop n low high x₀ v₀ next₀ x v next = natAbs (toZ w64 v +ℤ pos (greatestOrder * entryRange))
+μ-loop n low high x₀ below₀ v₀ left₀ x below v left = natAbs (toZ w64 v -ℤ toZ w64 below)
 
 -- where the search starts
 one-more : tie.Need-add-v Inv-loop μ-loop
@@ -37,30 +38,61 @@ begun : (c : tie.After-entry Inv-loop μ-loop) → let a = c .before .args in
     toZ w64 (ofZ w64 (toZ w64 (ofZ w64 (c .entry .result)) +ℤ pos 1)) ≡ at (a .n) (a .low .now) 0 0 +ℤ pos 1
 begun c = clean (one-more c) ∙ rw (clean-result (c .entry), c .entry .ensures)
 
+-- the number that is asked for after `below`
+above : tie.Need-add-loop Inv-loop μ-loop
+above c =
+    let p = c .before .before .pre in
+    let w = lower-within _ _ _ (p .0 .bounds) (p .1) (c .loop .inv) in
+    let b : ℤ = toZ w64 (c .loop .below) in
+    fits-within {m = underRange + 2} (within-in (order (b ∷ []) (within-low w) (search solver depth 40 fits 20000) (omega arith))
+    (order (b ∷ []) (within-high w) (search solver depth 40 fits 20000) (omega arith))) (omega arith)
+
+-- some number is left between the two
+left-between : (c : tie.In-loop Inv-loop μ-loop) → (toZ w64 (c .before .loop .below) +ℤ pos 1) <ℤ toZ w64 (c .before .loop .v)
+left-between c = lt-holds (rw (clean (above (c .before))) at (c .loop-test .taken))
+
+-- what one search leaves
+went : (c : tie.After-ask Inv-loop μ-loop) → let w = c .before .before in let l = w .before .before in let a = l .before .before .args in
+    Further (a .n) (at (a .n) (a .low .now)) (at (a .n) (a .high .now)) (toZ w64 (l .loop .below)) (toZ w64 (l .loop .v))
+    (raised (toZ w64 (l .loop .below)) (w .next .result) (toZ w64 (l .loop .v)) (c .ask .result)) (c .ask .result) (c .ask .last .1 .1 .1 .1 .1 .0)
+went c =
+    let w = c .before .before in
+    further _ _ _ (w .before .before .loop .inv) (w .next .ensures) (rw (clean-result (w .next)) at (c .ask .ensures))
+
 pub least-bound-spec : {M : Type 1} → statement M
 least-bound-spec =
     tie.close
     (tie.spec
     Inv-loop
     μ-loop
+    (λ c. fits-literal tt)
     (λ c κs. let p = c .pre in (p .0 .order, p .1, p .1, p .0 .low-length))
     one-more
-    (λ c κs. let p = c .before .before .pre in (p .0, rw (begun (c .before)) (start-reached (p .0 .bounds) (p .1)), p .2))
-    (λ c.
-    let e = c .before .before in
-    let p = e .before .pre in
-    rw (begun e, clean-result (c .next-bound))
-    (started _ _ _ (p .0 .bounds) (p .0 .order) (start-reached (p .0 .bounds) (p .1)) (rw (begun e) at (c .next-bound .ensures)) (p .1) refl))
-    (λ c κs. let l = c .before .before in (l .before .before .before .before .pre .0, l .loop .inv .range, l .loop .inv .size))
-    (λ c.
-    let i = c .before .before in
-    let d = i .before .loop .inv in
-    descends (d .range) (lt-holds (i .loop-test .taken)))
-    (λ c.
+    (λ c. let p = c .before .pre in rw (begun c) (started _ _ _ (p .0 .bounds) (p .0 .order) (p .1) (p .2)))
+    above
+    (λ c κs.
+    let l = c .before in
+    let p = l .before .before .pre in
+    let s = l .loop .inv in (
+      within-more (omega arith) (lower-within _ _ _ (p .0 .bounds) (p .1) s),
+      upper-within _ _ _ (p .0 .bounds) (p .1) s,
+      record { low = order (toZ w64 (l .loop .below) ∷ []) none (search solver depth 40 fits 20000) (omega arith); high = left-between c },
+    ))
+    (λ c κs.
     let l = c .before .before .before in
-    let p = l .before .before .before .before .pre in
-    let d = l .loop .inv in
-    rw (clean-result (c .next-bound2)) (one-further _ _ _ (p .0 .bounds) (p .0 .order) (d .range) (c .next-bound2 .ensures) (d .vector)))
+    let p = l .before .before .pre in
+    let s = l .loop .inv in
+    (p .0, rw (clean-result (c .before .next)) (inside-within (s .low) (upper-most _ _ _ (p .0 .bounds) (p .1) s) (c .before .next .ensures)), s .size))
+    (λ c κs. tt)
+    (λ c κs. tt)
+    (λ c.
+    let r = c .before in
+    let k = r .before in
+    rw (clean-result (r .raised), r .raised .ensures, clean-result (k .before .before .next), clean-result (k .ask)) (went k .less))
+    (λ c.
+    let r = c .before in
+    let k = r .before in
+    rw (clean-result (r .raised), r .raised .ensures, clean-result (k .before .before .next), clean-result (k .ask)) (went k .narrowed))
     (λ c.
     let l = c .before in
-    arrived _ _ _ (l .before .before .before .before .pre .1) (l .loop .inv) (lt-fails (c .loop-test .left))))
+    arrived _ _ _ (l .before .before .pre .1) (l .loop .inv) (lt-fails (rw (clean (above l)) at (c .loop-test .left)))))
