@@ -78,7 +78,8 @@
  * direction x one of them is no stiffer than v.
  *
  * - t is given, with the answer HB_BETWEEN, exactly if hb_judge says HB_DEFINITE. It is 0 or more then, and t < v. It is the t that hb_box
- *   works with, so that hb_box refuses these bounds by HB_REFUSED_FLAT exactly if t is 0.
+ *   works with, so that hb_box refuses these bounds by HB_REFUSED_FLAT exactly if t is 0
+ *   and nothing before it refuses.
  * - v is given with HB_BETWEEN and with HB_AT_MOST. It is from -n * 2^20 to 2^20, and no more than any low(i,i). No smaller whole number is
  *   shown by any vector with entries 0, 1 and -1, and x is the first of them, in a fixed order, that shows v. A vector with other entries
  *   may show a smaller one.
@@ -509,7 +510,7 @@ int64_t hb_box(int64_t n, const uint8_t *low, size_t low_len, const uint8_t *hig
  * Buffers: at any address; none overlaps another, but low and high may be the same table. Nothing is allocated. Reentrant.
  * Stack: HB_STIFFNESS_STACK bytes.
  * Time: up to 21 factorings, and searches through the vectors with entries 0, 1 and -1, of which order 8 has 6560: some ten searches there,
- * as a rule, and 48 at most.
+ * or some twenty where bounds are wide, and 48 at most.
  */
 int64_t hb_stiffness(int64_t n, const uint8_t *low, size_t low_len, const uint8_t *high, size_t high_len, uint8_t *step, size_t step_len,
                      uint8_t *bound, size_t bound_len, uint8_t *vector, size_t vector_len);

@@ -240,7 +240,7 @@ static void run_over_sizes(void)
     static const int64_t good[ENTRIES] = MATRIX, crossed[ENTRIES] = {3, 1, 1, 2}, root[ENTRIES] = FACTOR;
     uint8_t low[WHOLE], above[WHOLE], factor[WHOLE], none[WHOLE], vector[WHOLE_VECTOR], over[3 * HB_OVER_BYTES];
     size_t size;
-    expect("its size", HB_OVER_BYTES, HB_NUMBER_BYTES);
+    expect("its size", HB_OVER_BYTES, 8);
     store(low, good, ENTRIES);
     store(above, crossed, ENTRIES);
     store(factor, root, ENTRIES);
@@ -360,8 +360,8 @@ static void run_stiffness_sizes(void)
     static const int64_t good[ENTRIES] = MATRIX, flat[ENTRIES] = {1, 1, 1, 1}, crossed[ENTRIES] = {3, 1, 1, 2};
     uint8_t tables[2][WHOLE], above[WHOLE], vector[WHOLE_VECTOR], one[3 * HB_STEP_BYTES], other[HB_BOUND_BYTES];
     size_t size, k;
-    expect("the size of a step", HB_STEP_BYTES, HB_NUMBER_BYTES);
-    expect("that of a bound", HB_BOUND_BYTES, HB_NUMBER_BYTES);
+    expect("the size of a step", HB_STEP_BYTES, 8);
+    expect("that of a bound", HB_BOUND_BYTES, 8);
     store(tables[0], good, ENTRIES);
     store(tables[1], flat, ENTRIES);
     store(above, crossed, ENTRIES);

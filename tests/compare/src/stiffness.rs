@@ -153,8 +153,8 @@ const ALL_TESTED: i64 = 2;
 /// A step is given exactly with a definite verdict, is the one that verdicts on lowered
 /// tables find, and is below the bound. The bound is in its range. The vector is a tried
 /// one; of the tables with the bound taken off the vector test says yes of it, with one
-/// less taken off no of every tried vector, and with nothing yes where the bound is 0 or
-/// less.
+/// less taken off no of it, up to order `ALL_TESTED` no of every tried vector, and with
+/// nothing yes where the bound is 0 or less.
 fn confirm(after: &Call, answer: i64) {
     if ![POSITIVE, NEGATIVE].contains(&answer) {
         return;

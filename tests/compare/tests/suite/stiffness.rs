@@ -11,8 +11,9 @@ use hankboulder_compare::{bytes, numbers, Call};
 use hankboulder_reference::cases;
 use hankboulder_reference::enclosure::common_step;
 use hankboulder_reference::generate::{Fractions, Generator, RawProblem};
-use hankboulder_reference::problem::Bounds;
+use hankboulder_reference::problem::{widen, Bounds};
 use hankboulder_reference::random::Random;
+use hankboulder_reference::stiffness::{bracket_of, quotient};
 use hankboulder_reference::vectors::tried_vectors;
 
 use crate::support::{problem_call, square, stiffness_call, ENTRY_RANGE};
@@ -190,6 +191,46 @@ fn of_several_vectors_with_one_quotient_the_first_is_written() {
         let even = square(order, 5, 0);
         expect_tables(&even, &even, Some(4), 5, &first_tried(order));
     }
+}
+
+/// How often a quotient stands in the list of tried vectors that is less than all before it.
+fn falls(bounds: &Bounds) -> usize {
+    let mut least = i128::MAX;
+    let vectors = tried_vectors(bounds.order).iter();
+    let quotients = vectors.map(|x| quotient(bounds, x));
+    quotients
+        .filter(|next| {
+            let before = least;
+            least = least.min(*next);
+            *next < before
+        })
+        .count()
+}
+
+/// Bounds as wide off the diagonal as its entries are small, and a little wider in the first
+/// row, less from one entry to the next: of the vectors that begin with 1 many have a quotient
+/// that is less than all before it. So a search that goes from one to the next takes long.
+#[test]
+fn bounds_whose_quotients_fall_often() {
+    let mut most = 0;
+    for order in 3..=8 {
+        for diagonal in [1000, 300_000] {
+            let low = square(order, diagonal, -30_000);
+            let mut high = square(order, diagonal, 30_000);
+            for k in 1..order {
+                high[k] += 8 << (order - 1 - k);
+                high[k * order] = high[k];
+            }
+            let bounds = Bounds::read(order, &low, &high).expect("bounds that are let through");
+            let expected = bracket_of(&bounds);
+            let found = given(&stiffness_call(&low, &high));
+            assert_eq!(found.step.map(i128::from), expected.step);
+            assert_eq!(i128::from(found.bound), expected.bound);
+            assert_eq!(widen(&found.vector), expected.vector);
+            most = most.max(falls(&bounds));
+        }
+    }
+    assert!(most > 100, "{most}");
 }
 
 /// [1 3; 3 10] in the last two rows and columns: all members are definite, and factoring
