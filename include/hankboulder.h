@@ -78,8 +78,7 @@
  * direction x one of them is no stiffer than v.
  *
  * - t is given, with the answer HB_BETWEEN, exactly if hb_judge says HB_DEFINITE. It is 0 or more then, and t < v. It is the t that hb_box
- *   works with, so that hb_box refuses these bounds by HB_REFUSED_FLAT exactly if t is 0
- *   and nothing before it refuses.
+ *   works with, so that hb_box, where nothing before it refuses, answers HB_REFUSED_FLAT of these bounds exactly if t is 0.
  * - v is given with HB_BETWEEN and with HB_AT_MOST. It is from -n * 2^20 to 2^20, and no more than any low(i,i). No smaller whole number is
  *   shown by any vector with entries 0, 1 and -1, and x is the first of them, in a fixed order, that shows v. A vector with other entries
  *   may show a smaller one.
