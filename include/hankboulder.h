@@ -77,6 +77,10 @@
  * So every such M has a stiffness of t or more, and one of them has a stiffness of v or less: the least stiffness is from t to v. In the
  * direction x one of them is no stiffer than v.
  *
+ * Both lines are proved of x of fractions, and that t is 0 or more and below v, and that no vector with entries 0, 1 and -1 shows v - 1.
+ * What is said below of the range of v, and of the other functions beside this one, follows from the rules: it is run, and no theorem says
+ * it.
+ *
  * - t is given, with the answer HB_BETWEEN, exactly if hb_judge says HB_DEFINITE. It is 0 or more then, and t < v. It is the t that hb_box
  *   works with, so that hb_box, where nothing before it refuses, answers HB_REFUSED_FLAT of these bounds exactly if t is 0.
  * - v is given with HB_BETWEEN and with HB_AT_MOST. It is from -n * 2^20 to 2^20, and no more than any low(i,i). No smaller whole number is
