@@ -17,11 +17,13 @@ use Rattle.tables.specs.Problem.{constraintOf, constraintEntered}
 use Rattle.tables.specs.declared.Refusal.the-variants as Refused
 use Rattle.tables.specs.declared.problem.Constraint.{Constraint}
 use Rattle.floats.specs.Brackets.{signed, unitsOf, sixteenth, finiteWithin, inRange, wholeNextTo}
+use Rattle.sums.specs.Sums.{plus, sumsWithin}
+use Rattle.sums.specs.Sums as Outcome
+use Rattle.sums.specs.Halving.{halved, addedIn, fitted}
 use Rattle.samples.specs.declared.sample.Sample.{Sample}
-use Rattle.samples.specs.Samples.{sampleFits, factorNext, drawNext}
-use Rattle.samples.specs.Sums.{addedBy, sumsWithin}
-use Rattle.samples.specs.Gathering.{addedWithin, gathering}
-use Rattle.samples.specs.Gathering as Outcome
+use Rattle.samples.specs.Samples.{sampleFits}
+use Rattle.samples.specs.Gains.{gains, gainsOf}
+use Rattle.samples.specs.Gathering.{gathering}
 use Rattle.rides.specs.Rides.{noSums, gathered}
 
 -- rolling 1, climb 1/32, air -1/32, start -0, draw 2: 16 times them lie from 16 to 16, 0 to 1, -1 to 0, 0 to 0, 32 to 32
@@ -66,11 +68,24 @@ taken :
     × (gathered drawn (apart 1 (pos 3) (pos 1) (pos 8) (pos 5)) ≡ Outcome.taken (summed (halves low 1 (pos 3) (pos 3)) (halves high 1 (pos 21) (pos 21))))
     × (gathered drawn (apart 1 (pos 6) (pos 1) (pos 8) (pos 5)) ≡ Outcome.refused Refused.Lopsided)
     × (gathered drawn (apart 2 (negsuc 1048575) (pos 0) (pos 0) (pos 0)) ≡ Outcome.taken (summed low high))
-    × (addedWithin (factorNext drawn) (drawNext drawn) (apart 2 (negsuc 1048575) (pos 0) (pos 0) (pos 0)) ≡ Outcome.refused Refused.Full)
-unfolding gathering addedWithin addedBy sumsWithin sampleFits noSums constraintEntered entered after firstRefusal entryChecks boundsChecks endsChecks
+    × (sumsWithin (plus (gainsOf drawn) (apart 2 (negsuc 1048575) (pos 0) (pos 0) (pos 0))) ≡ false)
+unfolding gathering gains plus fitted addedIn halved sumsWithin sampleFits noSums constraintEntered entered after firstRefusal entryChecks boundsChecks endsChecks
     orderOk orderOf within allWithin linearWithin tablesWithin nowhereCrossed mendedBy all at table tabulate
     signed unitsOf sixteenth finiteWithin inRange wholeNextTo floorDiv ceilDiv minℤ maxℤ
 taken = (refl, refl, refl, refl, refl)
+
+-- W72: rolling 1 and nothing else, into sums of zeros but for the first entry of the bounds, which is v in both
+abbrev first : ℤ → Constraint
+first v = constraintOf 4 (set (noSums .low) 0 v) (set (noSums .high) 0 v) (noSums .linear .low) (noSums .linear .high) (pos 0)
+
+abbrev rolling : Sample
+rolling = let none = fin false 0 (pos 0) in record { rolling = fin false 1 (pos 0); climb = none; air = none; start = none; draw = none }
+
+halved-first : gathered rolling (first (pos 1048576)) ≡ Outcome.taken (first (pos 524544))
+unfolding gathering gains plus fitted addedIn halved sumsWithin sampleFits noSums constraintEntered entered after firstRefusal entryChecks boundsChecks endsChecks
+    orderOk orderOf within allWithin linearWithin tablesWithin nowhereCrossed mendedBy all at table tabulate
+    signed unitsOf sixteenth finiteWithin inRange wholeNextTo floorDiv ceilDiv minℤ maxℤ
+halved-first = refl
 
 -- a draw that is no number
 refused : gathered (sample nan) noSums ≡ Outcome.refused Refused.Sample

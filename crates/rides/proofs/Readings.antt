@@ -14,9 +14,9 @@ use Rattle.tables.specs.declared.problem.Constraint.{Constraint}
 use Rattle.tables.proofs.Checks.{and-right, within-of}
 use Rattle.tables.proofs.Problems.{constraint-means, constraint-sized}
 use Rattle.enclosure.specs.Points.{Allowed}
+use Rattle.sums.specs.Sums.{termsIn}
 use Rattle.rides.specs.declared.reading.Reading.{Reading}
 use Rattle.rides.specs.declared.reading.Reading.the-variants as Reading
-use Rattle.samples.specs.Gathering.{termsIn}
 use Rattle.rides.specs.Reading.{allowanceRange, limitsIn, readLimit, checkedReading, readSums, ReadingMeaning}
 use Rattle.rides.proofs.Wanted.{allowed}
 

@@ -1,5 +1,5 @@
 -- What is wanted of gathered rides: a point whose squares are at most K together is allowed by the sums with the allowance K, and so lies in every box of them.
-use mathlib.Core.Path.{_≡_, refl, ap, subst}
+use mathlib.Core.Path.{_≡_, refl, ap, subst, _∙_}
 use mathlib.Core.Bool.{Bool, true, false}
 use mathlib.Core.List.{List, [], _∷_}
 use Prim.Native.Nat.{ℕ}
@@ -14,7 +14,6 @@ use Rattle.integers.proofs.Sums.{sum-none}
 use Rattle.tables.specs.Matrix.{form}
 use Rattle.tables.specs.Problem.{mendedConstraint}
 use Rattle.tables.specs.declared.Refusal.{Refusal}
-use Rattle.tables.specs.declared.Refusal.the-variants.{Full}
 use Rattle.tables.specs.declared.Refusal.the-variants as Refused
 use Rattle.tables.specs.declared.problem.Constraint.{Constraint}
 use Rattle.tables.proofs.Matrix.{at-table, nth-tabulate}
@@ -27,14 +26,17 @@ use Rattle.enclosure.specs.Act.{laidSides}
 use Rattle.enclosure.specs.declared.enclose.BoxAnswer.the-variants as BoxAnswer
 use Rattle.enclosure.proofs.BoxMeanings.{boxing-means}
 use Rattle.floats.specs.Brackets.{sixteenth}
+use Rattle.sums.specs.Sums.{Outcome, taken, refused, termsIn, allowing}
+use Rattle.sums.specs.Halving.{fitted}
+use Rattle.sums.specs.Explaining.{Explained}
+use Rattle.sums.proofs.Explained.{whole-*, mended-explains, fitted-ordered}
 use Rattle.samples.specs.declared.sample.Sample.{Sample}
 use Rattle.samples.specs.Samples.{factorCount, sampleFits, factorNext, drawNext}
-use Rattle.samples.specs.Sums.{addedBy, added, sumsWithin}
-use Rattle.samples.specs.Gathering.{Outcome, taken, refused, termsIn, addedWithin, enteredSums, gathering}
-use Rattle.samples.specs.Explaining.{Explained, misfit}
-use Rattle.rides.specs.Rides.{noSums, gathered, sumsAfter, gatheredAll, ifTaken, squares, allowing}
-use Rattle.samples.proofs.Products.{whole-*}
-use Rattle.samples.proofs.Gains.{one, mended-explains, added-explains}
+use Rattle.samples.specs.Gains.{gainsOf}
+use Rattle.samples.specs.Gathering.{enteredSums, gathering}
+use Rattle.samples.specs.Explaining.{misfit}
+use Rattle.samples.proofs.Gains.{one, added-explains}
+use Rattle.rides.specs.Rides.{noSums, sumsAfter, gatheredAll, ifTaken, squares}
 
 -- ---- fractions
 module _ (c : Constraint) {u v : ℤ} {X : ℕ → ℤ} {p : ℤ} where
@@ -44,6 +46,7 @@ module _ (c : Constraint) {u v : ℤ} {X : ℕ → ℤ} {p : ℤ} where
       let q = P .denominator in
       let s = P .scale in
       record {
+        nonneg = *ℤ-cancel t h (order (t ∷ u ∷ []) (P .nonneg) (search solver depth 40 fits 20000) (omega arith));
         matrix = P .matrix;
         denominator = q;
         member = P .member;
@@ -72,23 +75,21 @@ module _ (c : Constraint) {u v : ℤ} {X : ℕ → ℤ} {p : ℤ} where
             (P .under & *ℤ-mono room h) (search solver depth 40 fits 20000) (omega arith));
       }
 
--- ---- what gathering gives: the mended sums with the sample in them, or a refusal
-abbrev pub mendedWith : Sample → Constraint → Constraint
-mendedWith s c = added s (mendedConstraint c)
+-- ---- what gathering gives: the mended sums with the sample in them, halved first or not; or a refusal
+abbrev pub withSample : Sample → Constraint → Outcome
+withSample s c = fitted (gainsOf s) (mendedConstraint c)
 
 module _ (s : Sample) (n : ℤ) (sized : Bool) (c : Constraint) where
-  pub by-outcome : (P : Outcome → Type 0) → (sized ≡ true → sumsWithin (mendedWith s c) ≡ true → P (taken (mendedWith s c))) → ((r : Refusal) → P (refused r)) → P (gathering s n sized c)
-  unfolding gathering addedWithin
+  pub by-outcome : (P : Outcome → Type 0) → (sized ≡ true → (d : Constraint) → withSample s c ≡ taken d → P (taken d)) → ((r : Refusal) → P (refused r)) → P (gathering s n sized c)
+  unfolding gathering
   by-outcome P f g = go (sampleFits s)
     where
-      last : sized ≡ true → (b : Bool) → sumsWithin (mendedWith s c) ≡ b → P (elim b as (λ z. Outcome) [ true ↦ taken (mendedWith s c) | false ↦ refused Full ])
-      last z true e = f z e
-      last z false e = g Full
+      last : sized ≡ true → (o : Outcome) → withSample s c ≡ o → P o
+      last z (taken d) e = f z d e
+      last z (refused r) e = g r
 
       go : (b : Bool) → P (elim b as (λ z. Outcome) [ true ↦ enteredSums (factorNext s) (drawNext s) n sized c | false ↦ refused Refused.Sample ])
-      go true =
-          constraint-means refused n sized (termsIn (within limitRange (c .limit)) c) c (addedWithin (factorNext s) (drawNext s) (mendedConstraint c)) P g
-          (λ d. last (d .sizes) (sumsWithin (mendedWith s c)) refl)
+      go true = constraint-means refused n sized (termsIn (within limitRange (c .limit)) c) c (withSample s c) P g (λ d. last (d .sizes) (withSample s c) refl)
       go false = g Refused.Sample
 
 -- ---- no sample: the sums of zeros explain 0 at every point
@@ -96,6 +97,7 @@ pub none-explained : (v : ℤ) (X : ℕ → ℤ) (p : ℤ) → Explained noSums 
 unfolding noSums form
 none-explained v X p =
     record {
+      nonneg = ≤ℤ-refl (pos 0);
       matrix = λ i j. pos 0;
       denominator = pos 1;
       member = record {
@@ -134,20 +136,19 @@ module _ (X : ℕ → ℤ) (p : ℤ) (whole : pos 1 ≤ℤ p) where
   abbrev σ : Sample → ℤ
   σ s = misfit s X p *ℤ misfit s X p
 
-  taken-explained : (s : Sample) (c : Constraint) → c .order ≡ factorCount → (u : ℤ) → Explained c u Z X p → Explained (mendedWith s c) (u +ℤ σ s) Z X p
-  taken-explained s c e u P =
-      reduced (mendedWith s c) Z one-Z
-      (subst (λ (z : ℤ). Explained (mendedWith s c) z (Z *ℤ Z) X p) (ring (u ∷ Z ∷ misfit s X p ∷ []) (search solver depth 40 fits 20000) refl)
-      (added-explains s (mendedConstraint c) e one-Z (mended-explains c P)))
+  taken-explained : (s : Sample) (c : Constraint) → c .order ≡ factorCount → (u : ℤ) → Explained c u Z X p → {d : Constraint} → withSample s c ≡ taken d → Explained d (u +ℤ σ s) Z X p
+  taken-explained s c e u P {d} q =
+      reduced d Z one-Z
+      (subst (λ (z : ℤ). Explained d z (Z *ℤ Z) X p) (ring (u ∷ Z ∷ misfit s X p ∷ []) (search solver depth 40 fits 20000) refl)
+      (added-explains s X p (mendedConstraint c) e (≤ℤ-trans (pos-nonneg 1) one-Z) (mended-explains c P) q))
 
   all-explained : (ss : List Sample) (c : Constraint) → c .order ≡ factorCount → (u : ℤ) → Explained c u Z X p → Explained (gatheredAll ss c) (u +ℤ squares ss c X p) Z X p
-  unfolding gatheredAll squares sumsAfter ifTaken addedBy
+  unfolding gatheredAll squares sumsAfter ifTaken
   all-explained [] c e u P = subst (λ (z : ℤ). Explained c z Z X p) (ring (u ∷ []) (search solver depth 40 fits 20000) refl) P
   all-explained (s ∷ ss) c e u P =
       by-outcome s (pos factorCount) true c (λ (t : Outcome). Explained (gatheredAll ss (sumsAfter c t)) (u +ℤ (ifTaken t (σ s) +ℤ squares ss (sumsAfter c t) X p)) Z X p)
-      (λ q w. subst (λ (z : ℤ). Explained (gatheredAll ss (mendedWith s c)) z Z X p)
-      (ring (u ∷ misfit s X p ∷ squares ss (mendedWith s c) X p ∷ []) (search solver depth 40 fits 20000) refl)
-      (all-explained ss (mendedWith s c) refl (u +ℤ σ s) (taken-explained s c e u P)))
+      (λ q d f. subst (λ (z : ℤ). Explained (gatheredAll ss d) z Z X p) (ring (u ∷ misfit s X p ∷ squares ss d X p ∷ []) (search solver depth 40 fits 20000) refl)
+      (all-explained ss d (fitted-ordered (gainsOf s) (mendedConstraint c) f ∙ e) (u +ℤ σ s) (taken-explained s c e u P f)))
       (λ r. subst (λ (z : ℤ). Explained (gatheredAll ss c) z Z X p) (ring (u ∷ squares ss c X p ∷ []) (search solver depth 40 fits 20000) refl) (all-explained ss c e u P))
 
   -- a point whose squares are at most K is allowed by the sums, begun at 0, with the allowance K
@@ -160,9 +161,11 @@ module _ (X : ℕ → ℤ) (p : ℤ) (whole : pos 1 ≤ℤ p) where
 
   -- the order of the sums stays
   all-ordered : (ss : List Sample) (c : Constraint) → c .order ≡ factorCount → gatheredAll ss c .order ≡ factorCount
-  unfolding gatheredAll sumsAfter addedBy
+  unfolding gatheredAll sumsAfter
   all-ordered [] c e = e
-  all-ordered (s ∷ ss) c e = by-outcome s (pos factorCount) true c (λ (t : Outcome). gatheredAll ss (sumsAfter c t) .order ≡ factorCount) (λ q w. all-ordered ss (mendedWith s c) refl) (λ r. all-ordered ss c e)
+  all-ordered (s ∷ ss) c e =
+      by-outcome s (pos factorCount) true c (λ (t : Outcome). gatheredAll ss (sumsAfter c t) .order ≡ factorCount)
+      (λ q d f. all-ordered ss d (fitted-ordered (gainsOf s) (mendedConstraint c) f ∙ e)) (λ r. all-ordered ss c e)
 
   -- so it lies in every box of them that is given, around any centre, and where the answer is 'empty' there is no such point
   pub gathered-boxed : (ss : List Sample) (K : ℤ) → squares ss noSums X p ≤ℤ (K *ℤ Z) → (sized : Bool) (centre sides : List ℤ) →

@@ -11,11 +11,10 @@ use Rattle.tables.specs.Answers.{after}
 use Rattle.tables.specs.Problem.{constraintEntered}
 use Rattle.tables.specs.declared.problem.Constraint.{Constraint}
 use Rattle.enclosure.specs.Points.{Allowed}
+use Rattle.sums.specs.Sums.{termsIn, sumsChecks, allowing}
+use Rattle.sums.specs.Explaining.{Explained}
 use Rattle.rides.specs.declared.reading.Reading.{Reading}
 use Rattle.rides.specs.declared.reading.Reading.the-variants as Reading
-use Rattle.samples.specs.Gathering.{termsIn, sumsChecks}
-use Rattle.samples.specs.Explaining.{Explained}
-use Rattle.rides.specs.Rides.{allowing}
 
 -- K is from 0 to this
 abbrev pub allowanceRange : ℕ

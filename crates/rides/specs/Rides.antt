@@ -1,4 +1,4 @@
--- R23 of docs/RULES.md: samples gathered one after the other, and the constraint that running sums give with an allowance K.
+-- R23 of docs/RULES.md: samples gathered one after the other.
 use mathlib.Core.List.{List, [], _∷_}
 use Prim.Native.Nat.{ℕ}
 use lib.IntN.{ℤ, pos, _+ℤ_, _*ℤ_}
@@ -6,9 +6,10 @@ use mathlib.Core.Bool.{true}
 use Rattle.tables.specs.Matrix.{table, tabulate}
 use Rattle.tables.specs.Problem.{constraintOf}
 use Rattle.tables.specs.declared.problem.Constraint.{Constraint}
+use Rattle.sums.specs.Sums.{Outcome, taken, refused}
 use Rattle.samples.specs.declared.sample.Sample.{Sample}
 use Rattle.samples.specs.Samples.{factorCount}
-use Rattle.samples.specs.Gathering.{Outcome, taken, refused, gathering}
+use Rattle.samples.specs.Gathering.{gathering}
 use Rattle.samples.specs.Explaining.{misfit}
 
 -- sums of no sample
@@ -42,7 +43,3 @@ ifTaken (refused r) x = pos 0
 unfoldable pub squares : List Sample → Constraint → (ℕ → ℤ) → ℤ → ℤ
 squares [] c X p = pos 0
 squares (s ∷ ss) c X p = ifTaken (gathered s c) (misfit s X p *ℤ misfit s X p) +ℤ squares ss (sumsAfter c (gathered s c)) X p
-
--- R23.2: the constraint that sums give with the allowance K: its limit is K and the running limit
-abbrev pub allowing : ℤ → Constraint → Constraint
-allowing K c = constraintOf (c .order) (c .low) (c .high) (c .linear .low) (c .linear .high) (K +ℤ c .limit)

@@ -8,9 +8,9 @@ ghost use Rattle.tables.specs.Checks.{orderOf};
 ghost use Rattle.tables.specs.Problem.{constraintOf, lengthsOf};
 ghost use Rattle.samples.specs.Samples.{factorOf};
 ghost use Rattle.samples.specs.Gathering.{sumsSized, enteredSums};
-ghost use Rattle.samples.specs.Contracts.{MeasuresNear, Rooms};
-ghost use Rattle.rides.specs.Act.{Lent, Left, laidSums, sumsOf, gather, gatheredCode, Meaning};
-use samples::adding::Summed;
+ghost use Rattle.samples.specs.Contracts.{MeasuresNear};
+ghost use Rattle.sums.specs.Lent.{Left, laidSums, sumsOf};
+ghost use Rattle.rides.specs.Act.{gather, Meaning};
 use samples::adding::add_checked;
 use samples::checking::sums_sized;
 use samples::sample::FACTOR_COUNT;
@@ -19,47 +19,12 @@ use samples::sample::Measures;
 use samples::sample::PRODUCT_COUNT;
 use samples::sample::Sample;
 use samples::sample::measure;
+use sums::Gathered;
+use sums::Summed;
+use sums::copying::copy_sums;
 use tables::Refusal;
-use tables::copy_numbers;
 use tables::entering::order_of;
 use tables::problem::lengths_of;
-
-// What gathering answers: the sample is in the sums, or it is refused and they are as they were.
-pub enum Gathered {
-    Taken,
-    Refused(Refusal),
-}
-
-// An answer's number at a C entry: 0 taken, else the refusal's.
-pub fn gathered_code(a: Gathered) -> i64
-    ensures { λ r. ⌜ r ≡ gatheredCode a ⌝ }
-{
-    match a {
-        Gathered::Taken => 0,
-        Gathered::Refused(r) => tables::refusal_number(r) as i64,
-    }
-}
-
-// Bounds and linear terms of a sample's order, from four slices into four others.
-fn copy_sums(
-    low: &[i64],
-    high: &[i64],
-    from: &[i64],
-    to: &[i64],
-    l: &mut [i64],
-    u: &mut [i64],
-    a: &mut [i64],
-    b: &mut [i64],
-)
-    requires { ⌜ Rooms (now low) (now high) (now from) (now to) × Rooms (now l) (now u) (now a) (now b) ⌝ }
-    ensures { λ _. ⌜ (now (l .exit) ≡ now (low .entry)) × (now (u .exit) ≡ now (high .entry)) × (now (a .exit) ≡ now (from .entry))
-        × (now (b .exit) ≡ now (to .entry)) ⌝ }
-{
-    copy_numbers(PRODUCT_COUNT, low, l);
-    copy_numbers(PRODUCT_COUNT, high, u);
-    copy_numbers(FACTOR_COUNT, from, a);
-    copy_numbers(FACTOR_COUNT, to, b);
-}
 
 // The checks behind 17, and the addition, of a sample whose numbers lie between those of m.
 fn gather_measured(
@@ -105,11 +70,21 @@ fn gather_measured(
     let mut u = [0i64; PRODUCT_COUNT];
     let mut a = [0i64; FACTOR_COUNT];
     let mut b = [0i64; FACTOR_COUNT];
-    copy_sums(low, high, from, to, &mut l, &mut u, &mut a, &mut b);
+    copy_sums(
+        FACTOR_COUNT,
+        low,
+        high,
+        from,
+        to,
+        &mut l,
+        &mut u,
+        &mut a,
+        &mut b,
+    );
     let summed = add_checked(m, limit[0], &mut l, &mut u, &mut a, &mut b);
     match summed {
         Summed::Within(sum) => {
-            copy_sums(&l, &u, &a, &b, low, high, from, to);
+            copy_sums(FACTOR_COUNT, &l, &u, &a, &b, low, high, from, to);
             limit[0] = sum;
             Gathered::Taken
         }
@@ -118,8 +93,8 @@ fn gather_measured(
 }
 
 // Gathers a sample into running sums, of any numbers at all: n is an order or not, and each slice has any length; the running limit is the
-// one number of limit. The bounds are mended first (R2.10). Refused by the first of the checks 17, 1 to 5, 16 and 18 that fails, with every
-// sum kept.
+// one number of limit. The bounds are mended first (R2.10), and where a sum would leave its range all are halved before the sample is added
+// (R23.6). Refused by the first of the checks 17, 1 to 5 and 16 that fails, with every sum kept.
 pub fn gather(
     sample: Sample,
     n: i64,

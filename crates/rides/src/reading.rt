@@ -6,7 +6,7 @@ ghost use Rattle.tables.specs.Ranges.{greatestOrder};
 ghost use Rattle.tables.specs.Checks.{orderOf};
 ghost use Rattle.tables.specs.Problem.{constraintOf, lengthsOf, constraintSized};
 ghost use Rattle.rides.specs.Reading.{limitsIn, checkedReading, readSums, readingCode, ReadingMeaning};
-use samples::checking::check_sums;
+use sums::checking::check_sums;
 use tables::Checked;
 use tables::LIMIT_RANGE;
 use tables::Refusal;

@@ -1,30 +1,33 @@
--- What the sums explain after a sample: before it they explain X over p up to u over v, and after it up to u over v and the square of how far the sample is.
-use mathlib.Core.Path.{_≡_}
+-- What a sample explains, R23.3 of docs/RULES.md: at X over p the square of how far it is; and so do sums with the sample in them, beside what they did.
+use mathlib.Core.Path.{_≡_, refl, sym, ap, _∙_}
 use mathlib.Core.Logic.{_⊎_, inl, inr}
 use mathlib.Core.List.{[], _∷_}
-use Prim.Native.Nat.{ℕ, _<_}
+use Prim.Native.Nat.{ℕ}
 use native.Mathlib.Omega.{arith}
-use lib.IntN.{ℤ, pos, _+ℤ_, _-ℤ_, _*ℤ_}
+use lib.IntN.{ℤ, pos, _+ℤ_, _-ℤ_, _*ℤ_, *ℤ-comm}
 use lib.Signed.{_≤ℤ_, leZ-yes}
 use Rattle.integers.specs.Numbers.{minℤ}
-use Rattle.integers.proofs.Parts.{≤ℤ-trans, *ℤ-nonneg, gap-nonneg, pos-nonneg}
-use Rattle.integers.proofs.Solver.{_&_, order, solver}
+use Rattle.integers.specs.Sum.{sum}
+use Rattle.integers.proofs.Parts.{≤ℤ-trans, *ℤ-nonneg, gap-nonneg, square-nonneg, pos-nonneg}
+use Rattle.integers.proofs.Solver.{_&_, ring, order, solver}
 use Rattle.integers.proofs.Order.{≤ℤ-total, ≤-unless, <-suc, *ℤ-mono, product-mono, min-≤ˡ, min-≤ʳ}
+use Rattle.integers.proofs.Sums.{sum-ext, sum-*, sum-product}
 use Rattle.integers.proofs.Division.{IsFloor, IsCeil}
-use Rattle.tables.specs.Matrix.{at}
-use Rattle.tables.specs.Problem.{mendedConstraint}
+use Rattle.tables.specs.Matrix.{form}
 use Rattle.tables.specs.declared.problem.Constraint.{Constraint}
 use Rattle.tables.proofs.Matrix.{at-table, nth-tabulate}
-use Rattle.tables.proofs.MendedTables.{member-mended}
 use Rattle.floats.specs.Brackets.{sixteenth, wholeNextTo}
 use Rattle.floats.specs.declared.Neighbours.{Neighbours}
 use Rattle.floats.proofs.Next.{NextTo, next-to}
+use Rattle.sums.specs.Sums.{taken}
+use Rattle.sums.specs.Halving.{fitted}
+use Rattle.sums.specs.Explaining.{Explained}
+use Rattle.sums.proofs.Explained.{whole-*, fitted-explains}
 use Rattle.samples.specs.declared.sample.Sample.{Sample}
 use Rattle.samples.specs.Samples.{factorCount, factorUnits, drawUnits, factorNext, drawNext}
-use Rattle.samples.specs.Sums.{leastProduct, greatestProduct, leastSquare, lowWith, highWith, fromWith, toWith, addedBy, added}
-use Rattle.samples.specs.Explaining.{Explains, Explained, misfit}
+use Rattle.samples.specs.Gains.{leastProduct, greatestProduct, leastSquare, lowGain, highGain, fromGain, toGain, gains, gainsOf}
+use Rattle.samples.specs.Explaining.{misfit}
 use Rattle.samples.proofs.Products.{product-low, product-high}
-use Rattle.samples.proofs.Step.{step}
 
 abbrev w : ℤ
 w = sixteenth
@@ -77,20 +80,8 @@ module _ (l h x : ℤ) (f : IsFloor x w l) (c : IsCeil x w h) where
           order (w ∷ h ∷ x ∷ minℤ (l *ℤ l) (h *ℤ h) ∷ []) (product-mono z z k k & *ℤ-mono (*ℤ-nonneg nonneg nonneg) (min-≤ʳ (l *ℤ l) (h *ℤ h)))
           (search solver depth 40 fits 20000) (omega arith)
 
--- ---- what sums explain, the mended ones explain: they have the same members
-pub mended-explains : (c : Constraint) {u v : ℤ} {X : ℕ → ℤ} {p : ℤ} → Explained c u v X p → Explained (mendedConstraint c) u v X p
-mended-explains c P = record {
-  matrix = P .matrix;
-  denominator = P .denominator;
-  member = member-mended (c .order) (c .low) (c .high) (P .member);
-  terms = P .terms;
-  scale = P .scale;
-  between = P .between;
-  under = P .under;
-}
-
--- ---- a sample in the sums
-module _ (s : Sample) (c : Constraint) (ordered : c .order ≡ factorCount) {u v : ℤ} {X : ℕ → ℤ} {p : ℤ} (whole : pos 1 ≤ℤ v) (P : Explained c u v X p) where
+-- ---- what a sample explains
+module _ (s : Sample) (X : ℕ → ℤ) (p : ℤ) where
   abbrev n : ℕ
   n = factorCount
 
@@ -106,35 +97,55 @@ module _ (s : Sample) (c : Constraint) (ordered : c .order ≡ factorCount) {u v
   abbrev draw : Neighbours
   draw = drawNext s
 
-  -- over matrices and functions
-  stepped : Explains n (lowWith ends draw c) (highWith ends draw c) (record { low = fromWith ends draw c; high = toWith ends draw c }) (c .limit -ℤ leastSquare draw)
-      (u *ℤ (p *ℤ p *ℤ (w *ℤ w)) +ℤ misfit s X p *ℤ misfit s X p *ℤ v) (v *ℤ (p *ℤ p *ℤ (w *ℤ w))) X p
-  unfolding misfit
-  stepped =
-      step (rw ordered at P) w one F D (λ i j. leastProduct (ends i) (ends j)) (λ i j. greatestProduct (ends i) (ends j)) (λ i. leastProduct (ends i) draw) (λ i. greatestProduct (ends i) draw) (leastSquare draw)
-      (λ i j h k. least-is (F i) (F j)) (λ i j h k. greatest-is (F i) (F j)) (λ i h. least-is (F i) D) (λ i h. greatest-is (F i) D)
-      (square-low _ _ D (next D .below) (next D .above)) whole
+  abbrev Q : ℤ
+  Q = w *ℤ w
 
-  -- over the lists of the sums
-  pub added-explains : Explained (added s c) (u *ℤ (p *ℤ p *ℤ (w *ℤ w)) +ℤ misfit s X p *ℤ misfit s X p *ℤ v) (v *ℤ (p *ℤ p *ℤ (w *ℤ w))) X p
-  unfolding addedBy
-  added-explains =
-      let e = stepped in
+  -- Σ F(i) X(i)
+  abbrev φ : ℤ
+  φ = sum n (λ i. F i *ℤ X i)
+
+  -- X'(FF')X = φ²
+  outer : form n (λ i j. F i *ℤ F j) X ≡ φ *ℤ φ
+  unfolding form
+  outer =
+      sum-ext n _ _ (λ i h. sum-ext n _ _ (λ j k. ring (X i ∷ F i ∷ F j ∷ X j ∷ []) (search solver depth 40 fits 20000) refl))
+      ∙ sym (sum-product n n (λ i. F i *ℤ X i) (λ j. F j *ℤ X j))
+
+  linear : sum n (λ i. (pos 0 -ℤ F i *ℤ D) *ℤ X i) ≡ (pos 0 -ℤ D) *ℤ φ
+  linear = sum-ext n _ _ (λ i h. ring (F i ∷ D ∷ X i ∷ []) (search solver depth 40 fits 20000) refl) ∙ sum-* n (pos 0 -ℤ D) _
+
+  -- the member FF' over w², the terms −F·D over w²
+  pub sample-explains : Explained (gainsOf s) (misfit s X p *ℤ misfit s X p) (p *ℤ p *ℤ (sixteenth *ℤ sixteenth)) X p
+  unfolding gains misfit
+  sample-explains =
+      let m = leastSquare draw in
+      let Q-nonneg = *ℤ-nonneg nonneg nonneg in
       record {
-        matrix = e .matrix;
-        denominator = e .denominator;
+        nonneg = square-nonneg (p *ℤ D -ℤ φ);
+        matrix = λ i j. F i *ℤ F j;
+        denominator = Q;
         member = record {
-          whole = e .member .whole;
-          symmetric = e .member .symmetric;
-          low = λ i j h k. rw (at-table n (lowWith ends draw c) i j h k) (e .member .low i j h k);
-          high = λ i j h k. rw (at-table n (highWith ends draw c) i j h k) (e .member .high i j h k);
+          whole = whole-* one one;
+          symmetric = λ i j h k. *ℤ-comm (F i) (F j);
+          low = λ i j h k. rw (at-table n (lowGain ends draw) i j h k) (least-is (F i) (F j));
+          high = λ i j h k. rw (at-table n (highGain ends draw) i j h k) (greatest-is (F i) (F j));
         };
-        terms = e .terms;
-        scale = e .scale;
+        terms = λ i. pos 0 -ℤ F i *ℤ D;
+        scale = Q;
         between = record {
-          whole = e .between .whole;
-          low = λ i h. rw (nth-tabulate n (fromWith ends draw c) i h) (e .between .low i h);
-          high = λ i h. rw (nth-tabulate n (toWith ends draw c) i h) (e .between .high i h);
+          whole = whole-* one one;
+          low = λ i h. rw (nth-tabulate n (fromGain ends draw) i h) (order (w ∷ F i ∷ D ∷ greatestProduct (ends i) draw ∷ []) (greatest-is (F i) D) (search solver depth 40 fits 20000) (omega arith));
+          high = λ i h. rw (nth-tabulate n (toGain ends draw) i h) (order (w ∷ F i ∷ D ∷ leastProduct (ends i) draw ∷ []) (least-is (F i) D) (search solver depth 40 fits 20000) (omega arith));
         };
-        under = e .under;
+        under =
+            order (w ∷ p ∷ D ∷ φ ∷ m ∷ form n (λ i j. F i *ℤ F j) X ∷ sum n (λ i. (pos 0 -ℤ F i *ℤ D) *ℤ X i) ∷ [])
+            (ap (λ (z : ℤ). p *ℤ p *ℤ Q *ℤ Q *ℤ z) outer & ap (λ (z : ℤ). p *ℤ p *ℤ Q *ℤ (pos 2 *ℤ p *ℤ Q) *ℤ z) linear
+            & *ℤ-mono (*ℤ-nonneg (square-nonneg (p *ℤ p)) (*ℤ-nonneg Q-nonneg Q-nonneg)) (square-low _ _ D (next D .below) (next D .above)))
+            (search solver depth 40 fits 20000) (omega arith);
       }
+
+  -- sums with the sample in them explain, beside what they did, the square of how far it is
+  pub added-explains : (c : Constraint) → c .order ≡ factorCount → {u v : ℤ} → pos 0 ≤ℤ v → Explained c u v X p → {d : Constraint} → fitted (gainsOf s) c ≡ taken d →
+      (let z = p *ℤ p *ℤ (sixteenth *ℤ sixteenth) in Explained d (u *ℤ z +ℤ misfit s X p *ℤ misfit s X p *ℤ v) (v *ℤ z) X p)
+  unfolding gains
+  added-explains c ordered h P = fitted-explains (gainsOf s) c (sym ordered) h (*ℤ-nonneg (square-nonneg p) (*ℤ-nonneg nonneg nonneg)) P sample-explains

@@ -2,51 +2,51 @@
 use mathlib.Core.Path.{_≡_, refl, ap, ap₂, subst, _∙_}
 use mathlib.Core.List.{_∷_}
 use mathlib.Core.Bool.{Bool, true, false, false≢true}
-use Prim.Native.Nat.{ℕ, zero, suc, _*_, _/_, _%_, _<_}
+use Prim.Native.Nat.{ℕ, zero, suc, _*_, _<_}
 use native.Mathlib.Omega.{arith}
 use lib.Ieee.{Float, nan, binary32, fits}
-use lib.IntN.{ℤ, _+ℤ_, _-ℤ_}
+use lib.IntN.{ℤ, pos, _-ℤ_}
 use lib.ListN.{getD}
 use Rattle.integers.specs.Numbers.{Within}
 use Rattle.tables.specs.Ranges.{limitRange}
-use Rattle.tables.specs.Matrix.{nth, at, table}
+use Rattle.tables.specs.Matrix.{nth, table}
 use Rattle.tables.specs.Checks.{within}
 use Rattle.tables.specs.Problem.{constraintEntered, mendedConstraint}
-use Rattle.tables.specs.declared.Refusal.the-variants.{Sample, Full}
+use Rattle.tables.specs.declared.Refusal.the-variants.{Sample}
 use Rattle.tables.specs.declared.problem.Constraint.{Constraint}
 use Rattle.tables.proofs.Checks.{of-true, all-at}
 use Rattle.tables.proofs.Matrix.{row-inside, column-inside, tabulate-ext}
 use Rattle.floats.specs.Brackets.{inRange}
 use Rattle.floats.proofs.Meaning.{inside, Bracket, Means, bracket-means}
 use Rattle.floats.specs.declared.Neighbours.{Neighbours}
+use Rattle.sums.specs.Sums.{refused, termsIn}
+use Rattle.sums.specs.Halving.{fitted}
 use Rattle.samples.specs.declared.sample.Sample as Declared
 use Rattle.samples.specs.declared.sample.Measures.{Measures}
 use Rattle.samples.specs.declared.sample.Measured.the-variants.{Inside, Outside}
 use Rattle.samples.specs.Samples.{factorsIn, factorCount, numberCount, nextTo, factorNext, drawNext, sampleFits, measuresOf, measured, lowsOf, highsOf, factorOf}
-use Rattle.samples.specs.Sums.{leastProduct, greatestProduct, addedBy, sumsWithin}
-use Rattle.samples.specs.Gathering.{taken, refused, termsIn, addedWithin, enteredSums, gathering}
+use Rattle.samples.specs.Gains.{leastProduct, greatestProduct, gains}
+use Rattle.samples.specs.Gathering.{enteredSums, gathering}
 use Rattle.samples.specs.Contracts.{measureRange, MeasuresNear}
 use Rattle.samples.proofs.Near.{constraint-by}
 
 -- ---- factors that are the same up to their count add the same
-module _ (F G : ℕ → Neighbours) (D : Neighbours) (same : (i : ℕ) → i < factorCount → F i ≡ G i) (c : Constraint) where
-  added-same : addedBy F D c ≡ addedBy G D c
-  unfolding addedBy table
-  added-same =
+module _ (F G : ℕ → Neighbours) (D : Neighbours) (same : (i : ℕ) → i < factorCount → F i ≡ G i) where
+  pub gains-same : gains F D ≡ gains G D
+  unfolding gains table
+  gains-same =
       let n : ℕ = factorCount in
       constraint-by
-      (tabulate-ext (n * n) _ _ (λ k h. ap₂ (λ (x y : Neighbours). at n (c .low) (k / n) (k % n) +ℤ leastProduct x y) (same _ (row-inside n k h)) (same _ (column-inside n k h))))
-      (tabulate-ext (n * n) _ _ (λ k h. ap₂ (λ (x y : Neighbours). at n (c .high) (k / n) (k % n) +ℤ greatestProduct x y) (same _ (row-inside n k h)) (same _ (column-inside n k h))))
-      (tabulate-ext n _ _ (λ i h. ap (λ (x : Neighbours). nth (c .linear .low) i -ℤ greatestProduct x D) (same i h)))
-      (tabulate-ext n _ _ (λ i h. ap (λ (x : Neighbours). nth (c .linear .high) i -ℤ leastProduct x D) (same i h)))
+      (tabulate-ext (n * n) _ _ (λ k h. ap₂ leastProduct (same _ (row-inside n k h)) (same _ (column-inside n k h))))
+      (tabulate-ext (n * n) _ _ (λ k h. ap₂ greatestProduct (same _ (row-inside n k h)) (same _ (column-inside n k h))))
+      (tabulate-ext n _ _ (λ i h. ap (λ (x : Neighbours). pos 0 -ℤ greatestProduct x D) (same i h)))
+      (tabulate-ext n _ _ (λ i h. ap (λ (x : Neighbours). pos 0 -ℤ leastProduct x D) (same i h)))
       refl
 
--- to the mended sums too
-pub entered-same : (F G : ℕ → Neighbours) (D : Neighbours) → ((i : ℕ) → i < factorCount → F i ≡ G i) → (c : Constraint) (n : ℤ) (sized : Bool) → enteredSums F D n sized c ≡ enteredSums G D n sized c
-unfolding addedWithin
-entered-same F G D same c n sized =
-    ap (λ (d : Constraint). constraintEntered refused n sized (termsIn (within limitRange (c .limit)) c) c (elim (sumsWithin d) [ true ↦ taken d | false ↦ refused Full ]))
-    (added-same F G D same (mendedConstraint c))
+  -- to the mended sums too
+  pub entered-same : (c : Constraint) (n : ℤ) (sized : Bool) → enteredSums F D n sized c ≡ enteredSums G D n sized c
+  entered-same c n sized =
+      ap (λ (g : Constraint). constraintEntered refused n sized (termsIn (within limitRange (c .limit)) c) c (fitted g (mendedConstraint c))) gains-same
 
 -- ---- a number of a sample, of 32 bits and in range, lies between small ones
 module _ (x : Float) (f : fits binary32 x ≡ true) (r : inRange x ≡ true) where
@@ -86,7 +86,7 @@ measures-near s n e = record { low-size = refl; high-size = refl; low = low; hig
 
 -- ---- the factors of a sample, from its measures
 module _ (s : Declared.Sample) where
-  factor-same : (i : ℕ) → i < factorCount → factorOf (measuresOf s) i ≡ factorNext s i
+  pub factor-same : (i : ℕ) → i < factorCount → factorOf (measuresOf s) i ≡ factorNext s i
   factor-same zero h = refl
   factor-same (suc zero) h = refl
   factor-same (suc (suc zero)) h = refl

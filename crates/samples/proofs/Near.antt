@@ -1,24 +1,19 @@
 -- Products of the ends of a sample's numbers, and sums that gain them: all fit 64 bits.
 use mathlib.Core.Path.{_≡_, ap, ap₂, _∙_}
 use mathlib.Core.List.{List, [], _∷_}
-use Prim.Native.Nat.{ℕ, _+_, _*_, _/_, _%_, _^_, _<_}
+use Prim.Native.Nat.{ℕ, _*_, _<_}
 use native.Mathlib.Omega.{arith}
-use lib.IntN.{ℤ, _+ℤ_, _-ℤ_, _*ℤ_}
+use lib.IntN.{ℤ, pos, _-ℤ_, _*ℤ_}
 use mir.Syntax.{w64}
 use mir.Val.{SFits, toZ, ofZ}
 use Rattle.integers.specs.Numbers.{Within}
-use Rattle.integers.proofs.Machine.{clean, within-+, within--, within-*, fits-within}
+use Rattle.integers.proofs.Machine.{clean, within--, within-*, fits-within}
 use Rattle.integers.proofs.Extremes.{within-min, within-max}
-use Rattle.tables.specs.Matrix.{Matrix, nth, at, table}
-use Rattle.tables.specs.Buffers.{Filled}
 use Rattle.tables.specs.Problem.{constraintOf}
-use Rattle.tables.proofs.Matrix.{nth-at, tabulate-ext}
-use Rattle.tables.proofs.Buffers.{filled-whole}
-use Rattle.tables.specs.declared.problem.Constraint.{Constraint}
 use Rattle.floats.specs.declared.Neighbours.{Neighbours}
 use Rattle.samples.specs.declared.sample.Measures.{Measures}
 use Rattle.samples.specs.Samples.{factorCount, numberCount, lowsOf, highsOf, between, factorOf}
-use Rattle.samples.specs.Sums.{leastProduct, greatestProduct, leastSquare, addedBy}
+use Rattle.samples.specs.Gains.{leastProduct, greatestProduct, leastSquare, gains}
 use Rattle.samples.specs.Contracts.{measureRange, NumbersNear, MeasuresNear}
 
 -- a product of two ends
@@ -28,12 +23,9 @@ productRange = measureRange * measureRange
 pub product-fits : {x y : ℤ} → Within measureRange x → Within measureRange y → SFits w64 (x *ℤ y)
 product-fits h k = fits-within (within-* h k) (omega arith)
 
--- sums that gain or lose a product
-pub gained-fits : {b : ℕ} {x y : ℤ} → b + productRange < 2 ^ 63 → Within b x → Within productRange y → SFits w64 (x +ℤ y)
-gained-fits l h k = fits-within (within-+ h k) l
-
-pub lost-fits : {b : ℕ} {x y : ℤ} → b + productRange < 2 ^ 63 → Within b x → Within productRange y → SFits w64 (x -ℤ y)
-lost-fits l h k = fits-within (within-- h k) l
+-- a product that is taken off 0
+pub negated-fits : {x : ℤ} → Within productRange x → SFits w64 (pos 0 -ℤ x)
+negated-fits h = let z : Within 0 (pos 0) = record { size = omega arith } in fits-within (within-- z h) (omega arith)
 
 -- the ends of a product, as they are read from what a call gave
 pub read-low : {x y : Neighbours} → x ≡ y → Within productRange (y .low) → toZ w64 (ofZ w64 (x .low)) ≡ y .low
@@ -56,14 +48,6 @@ module _ {a b : List ℤ} (n : NumbersNear a b) {i : ℕ} (h : i < numberCount) 
     greatest-within =
         within-max (within-max (within-* (n .low j k) (n .low i h)) (within-* (n .high j k) (n .low i h)))
         (within-max (within-* (n .low j k) (n .high i h)) (within-* (n .high j k) (n .high i h)))
-
--- a table that gained a product at each place, row by row
-pub gained-table : (t : List ℤ) (P : Matrix) (x : List ℤ) → Filled (factorCount * factorCount) (factorCount * factorCount) (λ k. nth t k +ℤ P (k / factorCount) (k % factorCount)) x →
-    x ≡ table factorCount (λ i j. at factorCount t i j +ℤ P i j)
-unfolding table
-gained-table t P x w =
-    filled-whole _ x w
-    ∙ tabulate-ext (factorCount * factorCount) _ _ (λ k h. ap (λ (z : ℤ). z +ℤ P (k / factorCount) (k % factorCount)) (nth-at factorCount k t))
 
 -- ---- the numbers of a sample, as the code reads them into two arrays
 abbrev pub read : ℤ → ℤ
@@ -89,8 +73,8 @@ module _ (m : Measures) (n : MeasuresNear m) where
   near-read = rw (lows-read, highs-read) n
 
   -- what these numbers add
-  pub added-read : (c : Constraint) → addedBy (between (readLows m) (readHighs m)) (between (readLows m) (readHighs m) factorCount) c ≡ addedBy (factorOf m) (m .draw) c
-  added-read c = ap₂ (λ (a b : List ℤ). addedBy (between a b) (between a b factorCount) c) lows-read highs-read
+  pub gains-read : gains (between (readLows m) (readHighs m)) (between (readLows m) (readHighs m) factorCount) ≡ gains (factorOf m) (m .draw)
+  gains-read = ap₂ (λ (a b : List ℤ). gains (between a b) (between a b factorCount)) lows-read highs-read
 
 -- sums of equal parts
 pub constraint-by : {n : ℕ} {l l′ u u′ a a′ b b′ : List ℤ} {α α′ : ℤ} → l ≡ l′ → u ≡ u′ → a ≡ a′ → b ≡ b′ → α ≡ α′ → constraintOf n l u a b α ≡ constraintOf n l′ u′ a′ b′ α′

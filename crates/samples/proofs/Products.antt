@@ -1,17 +1,12 @@
--- Products of two numbers that are each known between two whole numbers, and of denominators.
+-- Products of two numbers that are each known between two whole numbers.
 use mathlib.Core.List.{[], _∷_}
 use native.Mathlib.Omega.{arith}
 use lib.IntN.{ℤ, pos, _*ℤ_}
 use lib.Signed.{_≤ℤ_}
 use Rattle.integers.specs.Numbers.{minℤ, maxℤ}
 use Rattle.integers.proofs.Solver.{_&_, order, solver}
-use Rattle.integers.proofs.Parts.{pos-nonneg}
-use Rattle.integers.proofs.Order.{*ℤ-mono, min-by, max-by, min-≤ˡ, min-≤ʳ, ≤-maxˡ, ≤-maxʳ, product-mono}
+use Rattle.integers.proofs.Order.{*ℤ-mono, min-by, max-by, min-≤ˡ, min-≤ʳ, ≤-maxˡ, ≤-maxʳ}
 use Rattle.arithmetic.proofs.Between.{times-low, times-high}
-
--- a product of denominators is one
-pub whole-* : {x y : ℤ} → pos 1 ≤ℤ x → pos 1 ≤ℤ y → pos 1 ≤ℤ (x *ℤ y)
-whole-* h k = product-mono (pos-nonneg 1) (pos-nonneg 1) h k
 
 -- x from w a to w b, y from w c to w d
 module _ (w a b c d x y : ℤ) (nonneg : pos 0 ≤ℤ w) (xl : (w *ℤ a) ≤ℤ x) (xh : x ≤ℤ (w *ℤ b)) (yl : (w *ℤ c) ≤ℤ y) (yh : y ≤ℤ (w *ℤ d)) where

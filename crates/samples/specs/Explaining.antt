@@ -1,31 +1,9 @@
--- R23.3 of docs/RULES.md: which points the running sums explain, by how much.
+-- R23.3 of docs/RULES.md: how far a sample is from a point.
 use Prim.Native.Nat.{ℕ}
-use lib.IntN.{ℤ, pos, _+ℤ_, _-ℤ_, _*ℤ_}
-use lib.Signed.{_≤ℤ_}
+use lib.IntN.{ℤ, _-ℤ_, _*ℤ_}
 use Rattle.integers.specs.Sum.{sum}
-use Rattle.tables.specs.Matrix.{Matrix, at, form}
-use Rattle.tables.specs.Members.{Member, Ends, Between}
-use Rattle.tables.specs.Problem.{endsIn}
-use Rattle.tables.specs.declared.problem.Constraint.{Constraint}
 use Rattle.samples.specs.declared.sample.Sample.{Sample}
 use Rattle.samples.specs.Samples.{factorCount, factorUnits, drawUnits}
-
--- sums with bounds L and U, linear terms between the ends e and a running limit explain X over p up to u over v: some member M and some a
--- between the ends have x'Mx + 2a'x ≤ u/v + limit, multiplied out
-pub record Explains (n : ℕ) (L U : Matrix) (e : Ends) (limit u v : ℤ) (X : ℕ → ℤ) (p : ℤ) : Type 0 where
-  pub matrix : Matrix
-  pub denominator : ℤ
-  pub member : Member n L U matrix denominator
-  pub terms : ℕ → ℤ
-  pub scale : ℤ
-  pub between : Between n e terms scale
-  pub under :
-      (v *ℤ (scale *ℤ form n matrix X +ℤ pos 2 *ℤ p *ℤ denominator *ℤ sum n (λ k. terms k *ℤ X k)))
-      ≤ℤ ((u +ℤ limit *ℤ v) *ℤ (p *ℤ p) *ℤ denominator *ℤ scale)
-
--- the same of running sums
-abbrev pub Explained : Constraint → ℤ → ℤ → (ℕ → ℤ) → ℤ → Type 0
-Explained c u v X p = Explains (c .order) (at (c .order) (c .low)) (at (c .order) (c .high)) (endsIn c) (c .limit) u v X p
 
 -- how far a sample is from X over p: 16·draw − 16·factors·x, over `sixteenth` and p
 unfoldable pub misfit : Sample → (ℕ → ℤ) → ℤ → ℤ

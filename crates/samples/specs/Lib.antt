@@ -1,5 +1,5 @@
 pub mod Samples
-pub mod Sums
+pub mod Gains
 pub mod Gathering
 pub mod Contracts
 pub mod Explaining

@@ -1,17 +1,16 @@
-// R22.3 to R22.6 of docs/RULES.md: a sample added to running sums that were handed in.
+// R22.3 to R22.6 of docs/RULES.md: what a sample adds to running sums, and a sample added to sums that were handed in.
 ghost use mathlib.Core.Path.{_≡_};
 ghost use Prim.Native.Nat.{_*_, _<_};
-ghost use lib.IntN.{_+ℤ_, _-ℤ_};
-ghost use Rattle.integers.specs.Numbers.{Within};
-ghost use Rattle.tables.specs.Ranges.{entryRange, linearRange, limitRange};
-ghost use Rattle.tables.specs.Matrix.{nth, at, table, tabulate};
+ghost use lib.IntN.{pos, _-ℤ_};
+ghost use lib.ListN.{length};
+ghost use Rattle.tables.specs.Matrix.{table, tabulate};
 ghost use Rattle.tables.specs.Problem.{constraintOf};
 ghost use Rattle.tables.specs.declared.problem.Constraint.{Constraint};
+ghost use Rattle.sums.specs.Contracts.{Stated};
 ghost use Rattle.samples.specs.Samples.{factorCount, numberCount, between, factorOf};
-ghost use Rattle.samples.specs.Sums.{productEnds, leastProduct, greatestProduct, leastSquare, addedBy, sumsWithin};
+ghost use Rattle.samples.specs.Gains.{productEnds, leastProduct, greatestProduct, leastSquare, gains};
 ghost use Rattle.samples.specs.Gathering.{checkedSums};
-ghost use Rattle.samples.specs.Contracts.{NumbersNear, MeasuresNear, BothWithin, SumsIn, Rooms, Stated};
-use crate::checking::mend_sums;
+ghost use Rattle.samples.specs.Contracts.{NumbersNear, MeasuresNear, Arrays};
 use crate::sample::FACTOR_COUNT;
 use crate::sample::Factors;
 use crate::sample::Measures;
@@ -21,11 +20,11 @@ use crate::sample::Products;
 use floats::Neighbours;
 use integers::greater;
 use integers::smaller;
+use sums::Summed;
+use sums::adding::add_fitted;
+use sums::checking::mend_sums;
 use tables::Checked;
 use tables::LIMIT_RANGE;
-use tables::Refusal;
-use tables::entries_within;
-use tables::linear_within;
 use tables::within;
 
 // The least and the greatest of the four products of an end of number i and an end of number j of a sample: number i is from low(i) to
@@ -59,54 +58,54 @@ fn least_square(low: &Numbers, high: &Numbers, i: usize) -> i64
     smaller(a * a, b * b)
 }
 
-// Bounds that gain the products of a sample's factors, in place.
-fn add_products(low: &Numbers, high: &Numbers, l: &mut Products, u: &mut Products)
-    requires { ⌜ NumbersNear (now low) (now high) × BothWithin (factorCount * factorCount) entryRange (now l) (now u) ⌝ }
-    ensures { λ _. ⌜ (now (l .exit) ≡ table factorCount (λ i j. at factorCount (now (l .entry)) i j +ℤ
-        leastProduct (between (now (low .entry)) (now (high .entry)) i) (between (now (low .entry)) (now (high .entry)) j)))
-        × (now (u .exit) ≡ table factorCount (λ i j. at factorCount (now (u .entry)) i j +ℤ
-        greatestProduct (between (now (low .entry)) (now (high .entry)) i) (between (now (low .entry)) (now (high .entry)) j))) ⌝ }
+// What bounds gain: the products of a sample's factors.
+fn lay_products(low: &Numbers, high: &Numbers, l: &mut Products, u: &mut Products)
+    requires { ⌜ NumbersNear (now low) (now high) × (length (now l) ≡ factorCount * factorCount)
+        × (length (now u) ≡ factorCount * factorCount) ⌝ }
+    ensures { λ _. ⌜ (now (l .exit) ≡ table factorCount (λ i j. leastProduct (between (now (low .entry)) (now (high .entry)) i)
+        (between (now (low .entry)) (now (high .entry)) j)))
+        × (now (u .exit) ≡ table factorCount (λ i j. greatestProduct (between (now (low .entry)) (now (high .entry)) i)
+        (between (now (low .entry)) (now (high .entry)) j))) ⌝ }
 {
     let mut k = 0;
     while k < PRODUCT_COUNT {
         let gain = product_ends(low, high, k / FACTOR_COUNT, k % FACTOR_COUNT);
-        l[k] = l[k] + gain.low;
-        u[k] = u[k] + gain.high;
+        let least = gain.low;
+        let greatest = gain.high;
+        l[k] = least;
+        u[k] = greatest;
         k += 1;
     }
 }
 
-// The ends of linear terms, which lose the products of a sample's factors and its draw, in place.
-fn take_draws(low: &Numbers, high: &Numbers, a: &mut Factors, b: &mut Factors)
-    requires { ⌜ NumbersNear (now low) (now high) × BothWithin factorCount linearRange (now a) (now b) ⌝ }
-    ensures { λ _. ⌜ (now (a .exit) ≡ tabulate factorCount (λ i. nth (now (a .entry)) i -ℤ
+// What the ends of linear terms gain: less the products of a sample's factors and its draw.
+fn lay_draws(low: &Numbers, high: &Numbers, a: &mut Factors, b: &mut Factors)
+    requires { ⌜ NumbersNear (now low) (now high) × (length (now a) ≡ factorCount) × (length (now b) ≡ factorCount) ⌝ }
+    ensures { λ _. ⌜ (now (a .exit) ≡ tabulate factorCount (λ i. pos 0 -ℤ
         greatestProduct (between (now (low .entry)) (now (high .entry)) i) (between (now (low .entry)) (now (high .entry)) factorCount)))
-        × (now (b .exit) ≡ tabulate factorCount (λ i. nth (now (b .entry)) i -ℤ
+        × (now (b .exit) ≡ tabulate factorCount (λ i. pos 0 -ℤ
         leastProduct (between (now (low .entry)) (now (high .entry)) i) (between (now (low .entry)) (now (high .entry)) factorCount))) ⌝ }
 {
     let mut i = 0;
     while i < FACTOR_COUNT {
         let loss = product_ends(low, high, i, FACTOR_COUNT);
-        a[i] = a[i] - loss.high;
-        b[i] = b[i] - loss.low;
+        a[i] = -loss.high;
+        b[i] = -loss.low;
         i += 1;
     }
 }
 
-// Sums in their ranges, with a sample in them: the bounds l and u and the linear terms from a to b in place, and the running limit is
-// returned.
-fn add_sample(
+// What sums gain by a sample: bounds and linear terms go to arrays, and what the running limit gains is returned.
+fn lay_gains(
     m: Measures,
-    limit: i64,
     l: &mut Products,
     u: &mut Products,
     a: &mut Factors,
     b: &mut Factors,
 ) -> i64
-    requires { ⌜ MeasuresNear m × SumsIn (now l) (now u) (now a) (now b) × Within limitRange limit ⌝ }
+    requires { ⌜ MeasuresNear m × Arrays (now l) (now u) (now a) (now b) ⌝ }
     ensures { λ r. ⌜ _≡_ {A = Constraint} (constraintOf factorCount (now (l .exit)) (now (u .exit)) (now (a .exit)) (now (b .exit)) r)
-        (addedBy (factorOf m) (m .draw) (constraintOf factorCount (now (l .entry)) (now (u .entry)) (now (a .entry)) (now (b .entry))
-        limit)) ⌝ }
+        (gains (factorOf m) (m .draw)) ⌝ }
 {
     let rolling = m.rolling;
     let climb = m.climb;
@@ -115,53 +114,33 @@ fn add_sample(
     let draw = m.draw;
     let low = [rolling.low, climb.low, air.low, start.low, draw.low];
     let high = [rolling.high, climb.high, air.high, start.high, draw.high];
-    add_products(&low, &high, l, u);
-    take_draws(&low, &high, a, b);
-    limit - least_square(&low, &high, FACTOR_COUNT)
-}
-
-// Check 18: whether the sums are in their ranges.
-fn sums_within(l: &[i64], u: &[i64], a: &[i64], b: &[i64], limit: i64) -> bool
-    requires { ⌜ Rooms (now l) (now u) (now a) (now b) ⌝ }
-    ensures { λ r. ⌜ r ≡ sumsWithin (constraintOf factorCount (now (l .entry)) (now (u .entry)) (now (a .entry)) (now (b .entry))
-        limit) ⌝ }
-{
-    if !linear_within(FACTOR_COUNT, a, b) {
-        return false;
-    }
-    if !within(limit, LIMIT_RANGE) {
-        return false;
-    }
-    entries_within(l, u, PRODUCT_COUNT)
-}
-
-// What adding a sample to sums gives: the running limit, with the other sums in their arrays; or a refusal.
-pub enum Summed {
-    Within(i64),
-    Refused(Refusal),
+    lay_products(&low, &high, l, u);
+    lay_draws(&low, &high, a, b);
+    -least_square(&low, &high, FACTOR_COUNT)
 }
 
 // Checks 3, 4, 5 and 16 of sums of a sample's order, whose bounds and linear terms stand in l, u, a and b; then the bounds are mended
-// (R2.10) and the sample is added, all in place; then check 18 of these sums.
+// (R2.10) and the sample is added, with at most one halving (R23.6), all in place.
 pub fn add_checked(
     m: Measures,
     limit: i64,
-    l: &mut Products,
-    u: &mut Products,
-    a: &mut Factors,
-    b: &mut Factors,
+    l: &mut [i64],
+    u: &mut [i64],
+    a: &mut [i64],
+    b: &mut [i64],
 ) -> Summed
-    requires { ⌜ MeasuresNear m × Rooms (now l) (now u) (now a) (now b) ⌝ }
-    ensures { λ r. ⌜ Stated (checkedSums (factorOf m) (m .draw) (constraintOf factorCount (now (l .entry)) (now (u .entry)) (now (a .entry))
-        (now (b .entry)) limit)) r (now (l .exit)) (now (u .exit)) (now (a .exit)) (now (b .exit)) ⌝ }
+    requires { ⌜ MeasuresNear m × Arrays (now l) (now u) (now a) (now b) ⌝ }
+    ensures { λ r. ⌜ Stated factorCount (checkedSums (factorOf m) (m .draw) (constraintOf factorCount (now (l .entry)) (now
+        (u .entry)) (now (a .entry)) (now (b .entry)) limit)) r (now (l .exit)) (now (u .exit)) (now (a .exit)) (now (b .exit)) ⌝ }
 {
     let checked = mend_sums(FACTOR_COUNT, within(limit, LIMIT_RANGE), l, u, a, b);
     if let Checked::Refused(r) = checked {
         return Summed::Refused(r);
     }
-    let sum = add_sample(m, limit, l, u, a, b);
-    if sums_within(l, u, a, b, sum) {
-        return Summed::Within(sum);
-    }
-    Summed::Refused(Refusal::Full)
+    let mut gl = [0i64; PRODUCT_COUNT];
+    let mut gu = [0i64; PRODUCT_COUNT];
+    let mut ga = [0i64; FACTOR_COUNT];
+    let mut gb = [0i64; FACTOR_COUNT];
+    let more = lay_gains(m, &mut gl, &mut gu, &mut ga, &mut gb);
+    add_fitted(FACTOR_COUNT, more, &gl, &gu, &ga, &gb, limit, l, u, a, b)
 }

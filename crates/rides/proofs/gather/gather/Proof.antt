@@ -12,8 +12,10 @@ use Rattle.tables.specs.declared.problem.Constraint.{Constraint}
 use Rattle.tables.proofs.Answers.{exactly}
 use Rattle.samples.specs.declared.sample.Measured.the-variants.{Inside}
 use Rattle.samples.specs.Samples.{measured}
-use Rattle.samples.specs.Gathering.{Outcome, sumsSized}
-use Rattle.rides.specs.Act.{Lent, Left, laidSums, sumsOf, gather, Meaning}
+use Rattle.samples.specs.Gathering.{sumsSized}
+use Rattle.sums.specs.Sums.{Outcome}
+use Rattle.sums.specs.Lent.{Lent, Left, laidSums, sumsOf}
+use Rattle.rides.specs.Act.{gather, Meaning}
 use Rattle.samples.proofs.Measuring.{Narrow, inside-near, gathering-inside, gathering-outside}
 use Rattle.rides.proofs.Meaning.{gather-means}
 use Rattle.rides.proofs.gather.gather.Statement.{statement}
@@ -63,9 +65,9 @@ gather-spec =
     let g = c .before .before .before .before .before in
     let d = g .before .before .before .before .before .before .before in
     let s = d .before .before .before in
-    exactly (means s) (gather-means (s .args .sample) (s .args .n) (lent s)) _
+    exactly (means s) (gather-means (s .args .sample) (narrow s) (s .args .n) (lent s)) _
     ((rw (clean (s .fits .n)) at (g .gather-measured .ensures)) ∙ ap (given s) (gathering-inside (s .args .sample) (s .args .n) (sized s) (posed s) (inside d))))
     (λ c.
     let s = c .before .before .before in
-    exactly (means s) (gather-means (s .args .sample) (s .args .n) (lent s)) _
+    exactly (means s) (gather-means (s .args .sample) (narrow s) (s .args .n) (lent s)) _
     (ap (given s) (gathering-outside (s .args .sample) (s .args .n) (sized s) (posed s) (sym (c .enum-told .given .1) ∙ c .before .before .measure .ensures)))))

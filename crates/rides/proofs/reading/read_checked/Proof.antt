@@ -8,10 +8,10 @@ use Rattle.tables.specs.declared.Checked.the-variants.{Passed}
 use Rattle.tables.specs.declared.problem.Constraint.{Constraint}
 use Rattle.tables.proofs.Answers.{after-refused, after-passed}
 use Rattle.rides.specs.declared.reading.Reading.the-variants as Reading
-use Rattle.samples.specs.Gathering.{sumsChecks}
+use Rattle.sums.specs.Sums.{sumsChecks}
 use Rattle.rides.specs.Reading.{limitsIn, checkedReading}
 use Rattle.rides.proofs.Readings.{limit-fits}
-use Rattle.samples.proofs.SumsChecks.{limits-passed}
+use Rattle.sums.proofs.Checked.{limits-passed}
 use Rattle.rides.proofs.reading.read_checked.Statement.{statement}
 use Rattle.rides.proofs.reading.read_checked.Tie as tie
 

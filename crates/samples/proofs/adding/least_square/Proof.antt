@@ -1,9 +1,5 @@
-use mathlib.Core.Path.{_≡_}
 use native.Mathlib.Omega.{arith}
 use borrow.Author.Needs.{needs}
-use lib.IntN.{_*ℤ_}
-use mir.Syntax.{w64}
-use mir.Val.{SFits, toZ, ofZ}
 use Rattle.integers.proofs.Machine.{clean, clean-element, clean-result}
 use Rattle.tables.specs.Matrix.{nth}
 use Rattle.samples.proofs.Near.{product-fits}

@@ -1,0 +1,20 @@
+use mathlib.Core.Path.{ap, _∙_}
+use native.Mathlib.Omega.{arith}
+use borrow.Author.Needs.{needs}
+use lib.IntN.{pos}
+use Rattle.integers.proofs.Machine.{read-i64}
+use Rattle.sums.specs.Lent.{gatheredCode}
+use Rattle.sums.proofs.gathered_code.Statement.{statement}
+use Rattle.sums.proofs.gathered_code.Tie as tie
+
+pub gathered-code-spec : {M : Type 1} → statement M
+unfolding gatheredCode
+gathered-code-spec =
+    tie.close
+    (tie.spec
+    (λ c. search needs)
+    (λ c. search needs)
+    (λ c κs. search needs)
+    (λ c. search needs)
+    (λ c. rw (c .enum-told .given .1))
+    (λ c. rw (c .before .before .a .given .1) (read-i64 (c .refusal-number .result) (omega arith) ∙ ap pos (c .refusal-number .ensures))))

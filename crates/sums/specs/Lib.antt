@@ -1,0 +1,5 @@
+pub mod Sums
+pub mod Halving
+pub mod Lent
+pub mod Explaining
+pub mod Contracts
