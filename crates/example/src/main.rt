@@ -329,7 +329,7 @@ fn gathered() {
         &mut to,
         &mut limit,
     );
-    print_number(b"gather", rides::gather::gathered_code(taken));
+    print_number(b"gather", sums::gathered_code(taken));
     let beyond = Sample {
         rolling: 1.0,
         climb: 0.03125,
@@ -346,11 +346,62 @@ fn gathered() {
         &mut to,
         &mut limit,
     );
-    print_number(b"gather", rides::gather::gathered_code(refused));
+    print_number(b"gather", sums::gathered_code(refused));
     print_four(b"from", &from);
     print_four(b"to", &to);
     print_number(b"running", limit[0]);
     let reading = rides::reading::read_sums(4, &low, &high, &from, &to, limit[0], 2000);
+    match reading {
+        SumsReading::Limit(alpha) => print_number(b"read_sums", alpha),
+        SumsReading::Refused(r) => print_number(b"refused", tables::refusal_number(r) as i64),
+    }
+}
+
+// Two problems, [4] with linear term -8 and limit 1 each, pooled into sums of zeros; then one of another order, which is refused by 2 with
+// every sum kept; and the pool read with no allowance.
+fn pooled() {
+    let mut low = [0i64; 1];
+    let mut high = [0i64; 1];
+    let mut from = [0i64; 1];
+    let mut to = [0i64; 1];
+    let mut limit = [0i64; 1];
+    let orders = [1i64, 1];
+    let matrices = [4i64, 4];
+    let linear = [-8i64, -8];
+    let limits = [1i64, 1];
+    let taken = pool::pool::pool(
+        1,
+        &mut low,
+        &mut high,
+        &mut from,
+        &mut to,
+        &mut limit,
+        &orders,
+        &matrices,
+        &matrices,
+        &linear,
+        &linear,
+        &limits,
+    );
+    print_number(b"pool", sums::gathered_code(taken));
+    let others = [1i64, 2];
+    let refused = pool::pool::pool(
+        1,
+        &mut low,
+        &mut high,
+        &mut from,
+        &mut to,
+        &mut limit,
+        &others,
+        &matrices,
+        &matrices,
+        &linear,
+        &linear,
+        &limits,
+    );
+    print_number(b"pool", sums::gathered_code(refused));
+    print_number(b"from", from[0]);
+    let reading = rides::reading::read_sums(1, &low, &high, &from, &to, limit[0], 0);
     match reading {
         SumsReading::Limit(alpha) => print_number(b"read_sums", alpha),
         SumsReading::Refused(r) => print_number(b"refused", tables::refusal_number(r) as i64),
@@ -461,6 +512,7 @@ fn main() {
     bracketed();
     boxed();
     gathered();
+    pooled();
     promised();
     read_summary();
     write_summary();

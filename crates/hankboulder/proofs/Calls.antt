@@ -5,7 +5,7 @@ use mathlib.Core.List.{List, [], _∷_}
 use Prim.Native.Nat.{ℕ, _*_}
 use lib.IntN.{ℤ, pos, _*ℤ_}
 use lib.Signed.{_≤ℤ_}
-use lib.ListN.{length, replicate}
+use lib.ListN.{replicate}
 use mir.Syntax.{w64}
 use mir.Val.{bytes}
 use Rattle.words.specs.Numbers.{numbersOf, signedAt, unsignedAt, fromLeBytes}
@@ -16,16 +16,17 @@ use Rattle.tables.specs.Problem.{constraintSized, mendedConstraint}
 use Rattle.tables.specs.declared.problem.Constraint.{Constraint}
 use Rattle.enclosure.specs.Points.{Allowed}
 use Rattle.floats.specs.Brackets.{sixteenth}
+use Rattle.sums.specs.Sums.{Outcome, taken, allowing}
+use Rattle.sums.specs.Lent.{Lent}
 use Rattle.samples.specs.declared.sample.Sample.{Sample}
 use Rattle.samples.specs.Samples.{factorCount}
-use Rattle.samples.specs.Sums.{added}
-use Rattle.samples.specs.Gathering.{Outcome, taken, sumsSized, gathering}
-use Rattle.rides.specs.Act.{Lent}
-use Rattle.rides.specs.Rides.{noSums, gathered, sumsAfter, gatheredAll, squares, allowing}
+use Rattle.samples.specs.Gains.{gainsOf}
+use Rattle.samples.specs.Gathering.{sumsSized, gathering}
+use Rattle.rides.specs.Rides.{noSums, gathered, sumsAfter, gatheredAll, squares}
 use Rattle.rides.proofs.Wanted.{by-outcome, gathered-allows}
 use Rattle.sums_buffers.specs.SumsBuffers.{spelledSums, sumsBuffers, storedSums}
 use Rattle.hankboulder.specs.Entries.{gatherStored, gatherEntry}
-use Rattle.hankboulder.proofs.SumsGathered.{back}
+use Rattle.hankboulder.proofs.SumsGathered.{fitted-whole, back}
 
 -- the buffers as calls leave them, one for each sample, with the samples' order
 abbrev pub called : List Sample → Lent (List ℕ) → Lent (List ℕ)
@@ -54,18 +55,18 @@ module _ (s : Sample) (b : Lent (List ℕ)) (z : sumsBuffers factorCount b ≡ t
   c = spelledSums factorCount b
 
   -- what is left is what the outcome over the sums stores
-  left : gatherEntry s (pos factorCount) b .sums ≡ storedSums (gathered s c) b .sums
+  left : gatherEntry s (pos factorCount) b .sums ≡ storedSums factorCount (gathered s c) b .sums
   unfolding gatherEntry gatherStored orderOf orderOk
-  left = ap (λ (y : Bool). storedSums (gathering s (pos factorCount) y c) b .sums) z
+  left = ap (λ (y : Bool). storedSums factorCount (gathering s (pos factorCount) y c) b .sums) z
 
   -- the buffers keep their sizes
-  written-sized : sumsBuffers factorCount (storedSums (taken (added s (mendedConstraint c))) b .sums) ≡ true
+  written-sized : (d : Constraint) → sumsBuffers factorCount (storedSums factorCount (taken d) b .sums) ≡ true
   unfolding sumsSized constraintSized sizesOk
-  written-sized = simp (length-bytesOf, length-toLeBytes)
+  written-sized d = simp (length-bytesOf, length-toLeBytes)
 
-  stored-sized : sumsBuffers factorCount (storedSums (gathered s c) b .sums) ≡ true
+  stored-sized : sumsBuffers factorCount (storedSums factorCount (gathered s c) b .sums) ≡ true
   stored-sized =
-      by-outcome s (pos factorCount) true c (λ (o : Outcome). sumsBuffers factorCount (storedSums o b .sums) ≡ true) (λ q e. written-sized) (λ r. z)
+      by-outcome s (pos factorCount) true c (λ (o : Outcome). sumsBuffers factorCount (storedSums factorCount o b .sums) ≡ true) (λ q d e. written-sized d) (λ r. z)
 
   call-sized : sumsBuffers factorCount (gatherEntry s (pos factorCount) b .sums) ≡ true
   call-sized = ap (sumsBuffers factorCount) left ∙ stored-sized
@@ -75,7 +76,7 @@ module _ (s : Sample) (b : Lent (List ℕ)) (z : sumsBuffers factorCount b ≡ t
   unfolding sumsAfter
   call-spells =
       ap (spelledSums factorCount) left
-      ∙ by-outcome s (pos factorCount) true c (λ (o : Outcome). spelledSums factorCount (storedSums o b .sums) ≡ sumsAfter c o) (λ q e. back s (mendedConstraint c) b e) (λ r. refl)
+      ∙ by-outcome s (pos factorCount) true c (λ (o : Outcome). spelledSums factorCount (storedSums factorCount o b .sums) ≡ sumsAfter c o) (λ q d e. back factorCount d b (fitted-whole (gainsOf s) (mendedConstraint c) e)) (λ r. refl)
 
 -- ---- calls one after the other
 calls-spell : (ss : List Sample) (b : Lent (List ℕ)) → sumsBuffers factorCount b ≡ true →

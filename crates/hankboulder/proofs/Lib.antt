@@ -3,6 +3,7 @@ pub mod Judging
 pub mod Boxing
 pub mod SumsGathered
 pub mod Calls
+pub mod SumsPooled
 pub mod SumsRead
 pub mod SummaryRead
 pub mod SummaryWritten

@@ -13,13 +13,16 @@ use Rattle.verdict.specs.Judge.{judging, verdictCode}
 use Rattle.enclosure.specs.Box.{boxing}
 use Rattle.enclosure.specs.Act.{Enclosed, boxCode}
 use Rattle.stiffness.specs.Bracket.{bracketing, bracketCode}
+use Rattle.sums.specs.Lent.{Lent, Left, gatheredCode}
 use Rattle.samples.specs.declared.sample.Sample.{Sample}
+use Rattle.samples.specs.Samples.{factorCount}
 use Rattle.samples.specs.Gathering.{gathering}
-use Rattle.rides.specs.Act.{Lent, Left, gatheredCode}
 use Rattle.buffers.specs.Buffers.{tableOf, vectorOf, factorBuffers, vectorBuffers, judgeBuffers, boxBuffers}
 use Rattle.buffers.specs.Buffers.{StoredAnswer, storedOver, StoredVerdict, storedVerdict, storedSides}
 use Rattle.rides.specs.Reading.{readSums, readingCode}
+use Rattle.pool.specs.Pool.{Problems}
 use Rattle.sums_buffers.specs.SumsBuffers.{spelledSums, sumsBuffers, storedSums, readBuffers, ReadOut, storedLimit}
+use Rattle.pool_buffers.specs.PoolBuffers.{spelledPool}
 use Rattle.writer.specs.Writing.{Written}
 use Rattle.file_buffers.specs.Parts.{Parts, Handed, readSummary, checkedCode}
 use Rattle.file_buffers.specs.Filing.{writeSummary}
@@ -107,7 +110,7 @@ stiffnessEntry n l u s b x =
 unfoldable pub gatherStored : Sample → ℤ → Lent (List ℕ) → Left (List ℕ)
 gatherStored s n b =
     let k : ℕ = orderOf n in
-    storedSums (gathering s n (sumsBuffers k b) (spelledSums k b)) b
+    storedSums factorCount (gathering s n (sumsBuffers k b) (spelledSums k b)) b
 
 -- the number of the answer, and the buffers as they are left
 pub record GatherResult : Type 0 where
@@ -117,6 +120,15 @@ pub record GatherResult : Type 0 where
 unfoldable pub gatherEntry : Sample → ℤ → Lent (List ℕ) → GatherResult
 gatherEntry s n b =
     let j : Left (List ℕ) = gatherStored s n b in
+    record { number = gatheredCode (j .answer); sums = j .sums }
+
+-- ---- hb_pool: the problems that lists spell, pooled into the sums that five buffers spell
+unfoldable pub poolStored : ℤ → List ℕ → Problems (List ℕ) → Lent (List ℕ) → Left (List ℕ)
+poolStored n orders q b = storedSums (orderOf n) (spelledPool n orders q b) b
+
+unfoldable pub poolEntry : ℤ → List ℕ → Problems (List ℕ) → Lent (List ℕ) → GatherResult
+poolEntry n orders q b =
+    let j : Left (List ℕ) = poolStored n orders q b in
     record { number = gatheredCode (j .answer); sums = j .sums }
 
 -- ---- hb_read_sums: the sums that the buffers spell, with linear terms from a to b, a running limit α and an allowance K

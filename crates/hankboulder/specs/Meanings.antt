@@ -8,6 +8,7 @@ use lib.Signed.{_≤ℤ_, _<ℤ_}
 use lib.ListN.{length}
 use mir.Syntax.{w64}
 use mir.Val.{bytes}
+use Rattle.tables.specs.Refusals.{refusalNumber}
 use Rattle.tables.specs.Matrix.{Matrix, at, nth}
 use Rattle.tables.specs.Checks.{orderOf}
 use Rattle.tables.specs.Entering.{lowBounds, highBounds}
@@ -19,13 +20,18 @@ use Rattle.tried.specs.Tried.{tried}
 use Rattle.verdict.specs.Judge.{listed}
 use Rattle.enclosure.specs.Points.{Allowed, Contains}
 use Rattle.stiffness.specs.Bracket.{Stiffer}
+use Rattle.sums.specs.Lent.{Lent}
+use Rattle.sums.specs.Explaining.{Explained}
 use Rattle.samples.specs.declared.sample.Sample.{Sample}
-use Rattle.samples.specs.Explaining.{Explained}
-use Rattle.rides.specs.Act.{Lent, Explaining}
+use Rattle.pool.specs.Pool.{Problems}
+use Rattle.pool.specs.Act as Pooled
+use Rattle.rides.specs.Act.{Explaining}
+use Rattle.tables.specs.declared.Refusal.the-variants.{Full}
 use Rattle.tables.specs.declared.Checked.the-variants.{Passed}
 use Rattle.summary.specs.Problems.{fileOf, reading, LetThrough, spelledBy, SymmetricTables}
 use Rattle.buffers.specs.Buffers.{tableOf, vectorOf, sidesOf, numberOf}
 use Rattle.sums_buffers.specs.SumsBuffers.{spelledSums}
+use Rattle.pool_buffers.specs.PoolBuffers.{poolCount, spelledProblems}
 use Rattle.file_buffers.specs.Parts.{Parts, partsRoomy, spelled, orderIn, problemIn}
 use Rattle.file_buffers.specs.Filing.{front, laidOut}
 use Rattle.hankboulder.specs.Entries.{testFactorEntry, testVectorEntry, spelledWith, readSummaryEntry, writeSummaryEntry}
@@ -112,6 +118,17 @@ pub record GatherMeaning (s : Sample) (n : ℤ) (b d : Lent (List ℕ)) (r : ℤ
   -- 0, the sample is taken: what the sums explain they explain with the sample in them, and the square of 16·draw − 16·factors·x
   -- besides
   pub explains : r ≡ pos 0 → Explaining s (spelledSums (orderOf n) b) (spelledSums (orderOf n) d)
+  -- never 18 (R23.7)
+  pub room : r ≡ pos (refusalNumber Full) → ⊥
+
+-- of problems that lists spell, pooled into the sums that b spells; d: the buffers as they are left
+pub record PoolMeaning (n : ℤ) (orders : List ℕ) (q : Problems (List ℕ)) (b d : Lent (List ℕ)) (r : ℤ) : Type 0 where
+  -- 0, the problems are taken (D3.10): what the sums explain at a point that every problem allows, they explain after it
+  pub explains : r ≡ pos 0 → let k : ℕ = orderOf n in let m : ℕ = poolCount orders in
+      Pooled.Explaining (spelledProblems k m q) m (spelledSums k b) (spelledSums k d)
+  -- a point that every problem, and the sums read with K, allow, the sums read with K allow after it
+  pub allows : r ≡ pos 0 → let k : ℕ = orderOf n in let m : ℕ = poolCount orders in
+      Pooled.Allowing (spelledProblems k m q) m (spelledSums k b) (spelledSums k d)
 
 -- of sums with linear terms between a and b and a running limit α, read with the allowance K; s: the limit's buffer as it is left
 pub record ReadMeaning (n : ℤ) (l u a b : List ℕ) (α K r : ℤ) (s : List ℕ) : Type 0 where

@@ -2,8 +2,8 @@
 ghost use mathlib.Core.Path.{_≡_};
 ghost use Rattle.hankboulder.specs.Entries.{GatherResult, gatherEntry};
 ghost use Rattle.hankboulder.specs.Meanings.{GatherMeaning};
-use rides::gather::gathered_code;
 use samples::sample::Sample;
+use sums::gathered_code;
 
 // Gathers a sample into running sums of order 4: 0 with all five buffers written; else the refusal's number, with nothing written.
 #[no_mangle]

@@ -8,6 +8,7 @@ pub mod bracketing;
 pub mod file_reading;
 pub mod file_writing;
 pub mod gathering;
+pub mod pooling;
 pub mod reading;
 
 // Tests an offered factor: 0 accepted and -1 not accepted, with what the rows have over written; else the refusal's number, with nothing

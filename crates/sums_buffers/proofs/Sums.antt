@@ -1,13 +1,16 @@
--- Running sums that buffers spell, loaded over zeros: the checks look at the numbers alone.
+-- Running sums that buffers spell: loaded to the front of arrays, or over zeros, where the checks look at the numbers alone.
 use mathlib.Core.Path.{_≡_, refl, ap, _∙_}
 use mathlib.Core.Bool.{Bool, true}
-use mathlib.Core.List.{List}
+use mathlib.Core.List.{List, _++_}
 use Prim.Native.Nat.{ℕ, _*_, _≤_}
+use native.Mathlib.Omega.{arith}
 use lib.Dec.{eqb}
-use lib.IntN.{ℤ, _+ℤ_}
+use lib.IntN.{ℤ, pos, _+ℤ_}
+use lib.ListN.{List·getD-append}
 use borrow.Author.Tests.{eqb-true}
 use mir.Syntax.{w64}
 use mir.Val.{bytes}
+use Rattle.words.specs.Numbers.{numbersOf}
 use Rattle.words.proofs.Laws.{length-numbersOf}
 use Rattle.tables.specs.Ranges.{greatestOrder, linearRange}
 use Rattle.tables.specs.Checks.{Check, linearWithin, endsChecks, firstRefusal}
@@ -19,12 +22,21 @@ use Rattle.tables.proofs.Checks.{and-left, and-right}
 use Rattle.tables.proofs.Matrix.{table-fits}
 use Rattle.tables.proofs.Admission.{over-padded, checks-padded, range-same, crossed-same}
 use Rattle.tables.proofs.Problems.{constraint-sizes-of}
+use Rattle.sums.specs.Sums.{sumsChecks}
+use Rattle.sums.specs.Contracts.{front}
+use Rattle.sums.proofs.Fronts.{front-is}
 use Rattle.rides.specs.declared.reading.Reading.{Reading}
 use Rattle.rides.specs.declared.reading.Reading.the-variants as Reading
-use Rattle.samples.specs.Gathering.{sumsChecks}
 use Rattle.rides.specs.Reading.{limitsIn, checkedReading}
 use Rattle.buffers.specs.Buffers.{tableOf, vectorOf, Terms}
 use Rattle.sums_buffers.specs.SumsBuffers.{readBuffers}
+
+-- k numbers that were loaded to the front of an array
+pub loaded-front : (s : List ℕ) (k : ℕ) (t : List ℤ) → front k (numbersOf w64 s k ++ t) ≡ numbersOf w64 s k
+loaded-front s k t =
+    let y = numbersOf w64 s k in
+    let e = length-numbersOf w64 s k in
+    front-is k (y ++ t) y e (λ i h. List·getD-append y t (pos 0) i (omega (arith, e, h)))
 
 -- where check 2 of reading passes each buffer has its size
 pub read-sizes-of : (n : ℕ) (b : Lengths) (s : ℕ) → readBuffers n b s ≡ true →

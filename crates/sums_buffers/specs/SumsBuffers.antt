@@ -11,11 +11,11 @@ use Rattle.words.specs.Numbers.{bytesOf}
 use Rattle.tables.specs.Problem.{constraintOf, lengthsOf, constraintSized}
 use Rattle.tables.specs.declared.problem.Constraint.{Constraint}
 use Rattle.tables.specs.declared.problem.Lengths.{Lengths}
+use Rattle.sums.specs.Sums.{Outcome}
+use Rattle.sums.specs.Lent.{Lent, Left, laidSums}
+use Rattle.samples.specs.Gathering.{sumsSized}
 use Rattle.rides.specs.declared.reading.Reading.{Reading}
 use Rattle.rides.specs.declared.reading.Reading.the-variants as Reading
-use Rattle.samples.specs.Samples.{factorCount}
-use Rattle.samples.specs.Gathering.{Outcome, sumsSized}
-use Rattle.rides.specs.Act.{Lent, Left, laidSums}
 use Rattle.buffers.specs.Buffers.{tableOf, vectorOf, numberOf, bytesOfNumber}
 
 -- the sums of order n that five buffers spell
@@ -29,16 +29,16 @@ sumsBuffers n b =
     let lengths : Lengths = lengthsOf (length (b .low)) (length (b .high)) (length (b .from)) (length (b .to)) in
     sumsSized (bytes w64) n lengths (length (b .limit))
 
--- the sums are written, 8 bytes for each number, or all five buffers are kept
-abbrev pub storedSums : Outcome → Lent (List ℕ) → Left (List ℕ)
-storedSums = laidSums (λ t. bytesOf w64 t (factorCount * factorCount)) (λ x. bytesOf w64 x factorCount) bytesOfNumber
+-- the sums of order n are written, 8 bytes for each number, or all five buffers are kept
+abbrev pub storedSums : ℕ → Outcome → Lent (List ℕ) → Left (List ℕ)
+storedSums n = laidSums (λ t. bytesOf w64 t (n * n)) (λ x. bytesOf w64 x n) bytesOfNumber
 
--- buffers of the sizes of a sample's order
-pub record SumsBytes (l u a b : List ℕ) : Type 0 where
-  pub low : length l ≡ factorCount * factorCount * bytes w64
-  pub high : length u ≡ factorCount * factorCount * bytes w64
-  pub linear-low : length a ≡ factorCount * bytes w64
-  pub linear-high : length b ≡ factorCount * bytes w64
+-- buffers of the sizes of order n
+pub record SumsBytes (n : ℕ) (l u a b : List ℕ) : Type 0 where
+  pub low : length l ≡ n * n * bytes w64
+  pub high : length u ≡ n * n * bytes w64
+  pub linear-low : length a ≡ n * bytes w64
+  pub linear-high : length b ≡ n * bytes w64
 
 -- 2 of reading, over bytes: `limit` is the size of the buffer for the limit
 unfoldable pub readBuffers : ℕ → Lengths → ℕ → Bool

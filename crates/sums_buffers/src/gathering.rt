@@ -2,77 +2,53 @@
 ghost use mathlib.Core.Path.{_≡_};
 ghost use mathlib.Core.List.{List};
 ghost use Prim.Native.Nat.{ℕ, _*_};
-ghost use mir.Syntax.{w64};
-ghost use Rattle.words.specs.Numbers.{bytesOf};
 ghost use Rattle.tables.specs.Checks.{orderOf};
+ghost use Rattle.sums.specs.Lent.{Left};
+ghost use Rattle.sums.specs.Contracts.{front, Rooms};
 ghost use Rattle.samples.specs.Samples.{factorCount, factorOf};
 ghost use Rattle.samples.specs.Gathering.{enteredSums, gathering};
-ghost use Rattle.samples.specs.Contracts.{MeasuresNear, Rooms};
-ghost use Rattle.rides.specs.Act.{Lent, Left};
+ghost use Rattle.samples.specs.Contracts.{MeasuresNear};
 ghost use Rattle.buffers.specs.Buffers.{tableOf, vectorOf};
 ghost use Rattle.sums_buffers.specs.SumsBuffers.{SumsBytes, spelledSums, sumsBuffers, storedSums};
-use rides::gather::Gathered;
-use samples::adding::Summed;
+use crate::storing::store_sums;
 use samples::adding::add_checked;
 use samples::checking::sums_sized;
 use samples::sample::FACTOR_COUNT;
-use samples::sample::Factors;
 use samples::sample::Measured;
 use samples::sample::Measures;
 use samples::sample::PRODUCT_COUNT;
-use samples::sample::Products;
 use samples::sample::Sample;
 use samples::sample::measure;
+use sums::Gathered;
+use sums::Summed;
 use tables::Refusal;
 use tables::entering::order_of;
 use tables::problem::lengths_of;
 use words::SIZE;
 use words::load_numbers;
-use words::store_numbers;
 
-// The bounds and linear terms that four buffers of a sample's order spell, into arrays.
-fn load_sums(
+// The bounds and linear terms of a sample's order that four buffers spell, to the front of arrays. It has one caller, and so its loops are
+// compiled with these sizes.
+fn load_sample(
     low: &[u8],
     high: &[u8],
     from: &[u8],
     to: &[u8],
-    l: &mut Products,
-    u: &mut Products,
-    a: &mut Factors,
-    b: &mut Factors,
+    l: &mut [i64],
+    u: &mut [i64],
+    a: &mut [i64],
+    b: &mut [i64],
 )
-    requires { ⌜ SumsBytes (now low) (now high) (now from) (now to) × Rooms (now l) (now u) (now a) (now b) ⌝ }
-    ensures { λ _. ⌜ (now (l .exit) ≡ tableOf factorCount (now (low .entry)))
-        × (now (u .exit) ≡ tableOf factorCount (now (high .entry)))
-        × (now (a .exit) ≡ vectorOf factorCount (now (from .entry))) × (now (b .exit) ≡ vectorOf factorCount (now (to .entry))) ⌝ }
+    requires { ⌜ SumsBytes factorCount (now low) (now high) (now from) (now to) × Rooms factorCount (now l) (now u) (now a) (now b) ⌝ }
+    ensures { λ _. ⌜ (front (factorCount * factorCount) (now (l .exit)) ≡ tableOf factorCount (now (low .entry)))
+        × (front (factorCount * factorCount) (now (u .exit)) ≡ tableOf factorCount (now (high .entry)))
+        × (front factorCount (now (a .exit)) ≡ vectorOf factorCount (now (from .entry)))
+        × (front factorCount (now (b .exit)) ≡ vectorOf factorCount (now (to .entry))) ⌝ }
 {
     load_numbers(low, l, PRODUCT_COUNT, SIZE);
     load_numbers(high, u, PRODUCT_COUNT, SIZE);
     load_numbers(from, a, FACTOR_COUNT, SIZE);
     load_numbers(to, b, FACTOR_COUNT, SIZE);
-}
-
-// Bounds and linear terms of a sample's order into four buffers.
-fn store_sums(
-    l: &Products,
-    u: &Products,
-    a: &Factors,
-    b: &Factors,
-    low: &mut [u8],
-    high: &mut [u8],
-    from: &mut [u8],
-    to: &mut [u8],
-)
-    requires { ⌜ Rooms (now l) (now u) (now a) (now b) × SumsBytes (now low) (now high) (now from) (now to) ⌝ }
-    ensures { λ _. ⌜ (now (low .exit) ≡ bytesOf w64 (now (l .entry)) (factorCount * factorCount))
-        × (now (high .exit) ≡ bytesOf w64 (now (u .entry)) (factorCount * factorCount))
-        × (now (from .exit) ≡ bytesOf w64 (now (a .entry)) factorCount)
-        × (now (to .exit) ≡ bytesOf w64 (now (b .entry)) factorCount) ⌝ }
-{
-    store_numbers(l, low, PRODUCT_COUNT, SIZE);
-    store_numbers(u, high, PRODUCT_COUNT, SIZE);
-    store_numbers(a, from, FACTOR_COUNT, SIZE);
-    store_numbers(b, to, FACTOR_COUNT, SIZE);
 }
 
 // The checks behind 17, and the addition, of a sample whose numbers lie between those of m.
@@ -95,7 +71,7 @@ fn gather_measured(
         to = now (to .exit);
         limit = now (limit .exit);
       };
-    }) (storedSums (enteredSums (factorOf m) (m .draw) n
+    }) (storedSums factorCount (enteredSums (factorOf m) (m .draw) n
         (sumsBuffers (orderOf n) (record {
           low = now (low .entry);
           high = now (high .entry);
@@ -130,12 +106,12 @@ fn gather_measured(
     let mut u = [0i64; PRODUCT_COUNT];
     let mut a = [0i64; FACTOR_COUNT];
     let mut b = [0i64; FACTOR_COUNT];
-    load_sums(low, high, from, to, &mut l, &mut u, &mut a, &mut b);
+    load_sample(low, high, from, to, &mut l, &mut u, &mut a, &mut b);
     let running = words::load_signed(limit, 0, SIZE);
     let summed = add_checked(m, running, &mut l, &mut u, &mut a, &mut b);
     match summed {
         Summed::Within(sum) => {
-            store_sums(&l, &u, &a, &b, low, high, from, to);
+            store_sums(FACTOR_COUNT, &l, &u, &a, &b, low, high, from, to);
             words::store_signed(limit, 0, SIZE, sum);
             Gathered::Taken
         }
@@ -162,7 +138,7 @@ pub fn gather(
         to = now (to .exit);
         limit = now (limit .exit);
       };
-    }) (storedSums (gathering sample n
+    }) (storedSums factorCount (gathering sample n
         (sumsBuffers (orderOf n) (record {
           low = now (low .entry);
           high = now (high .entry);

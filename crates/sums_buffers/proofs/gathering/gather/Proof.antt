@@ -6,10 +6,10 @@ use borrow.Author.Needs.{needs}
 use Rattle.integers.proofs.Machine.{clean}
 use Rattle.tables.specs.Checks.{orderOf}
 use Rattle.tables.specs.declared.problem.Constraint.{Constraint}
+use Rattle.sums.specs.Sums.{Outcome}
+use Rattle.sums.specs.Lent.{Lent, Left}
 use Rattle.samples.specs.declared.sample.Measured.the-variants.{Inside}
-use Rattle.samples.specs.Samples.{measured}
-use Rattle.samples.specs.Gathering.{Outcome}
-use Rattle.rides.specs.Act.{Lent, Left}
+use Rattle.samples.specs.Samples.{factorCount, measured}
 use Rattle.samples.proofs.Measuring.{Narrow, inside-near, gathering-inside, gathering-outside}
 use Rattle.sums_buffers.specs.SumsBuffers.{spelledSums, sumsBuffers, storedSums}
 use Rattle.sums_buffers.proofs.gathering.gather.Statement.{statement}
@@ -32,7 +32,7 @@ abbrev posed : tie.Start → Constraint
 posed s = spelledSums (orderOf (s .args .n)) (lent s)
 
 abbrev given : tie.Start → Outcome → Left (List ℕ)
-given s o = storedSums o (lent s)
+given s o = storedSums factorCount o (lent s)
 
 -- what was measured
 abbrev begun : tie.After-measure → tie.Start

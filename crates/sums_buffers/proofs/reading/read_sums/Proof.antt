@@ -19,7 +19,7 @@ use Rattle.tables.proofs.Checks.{call-true, call-false}
 use Rattle.tables.proofs.Admission.{order-small, order-fits, order-given, no-order, no-sizes}
 use Rattle.rides.specs.declared.reading.Reading.{Reading}
 use Rattle.rides.specs.declared.reading.Reading.the-variants as Reading
-use Rattle.samples.specs.Gathering.{termsIn}
+use Rattle.sums.specs.Sums.{termsIn}
 use Rattle.rides.specs.Reading.{limitsIn, readLimit, readSums}
 use Rattle.rides.proofs.Readings.{reading-sized}
 use Rattle.buffers.specs.Buffers.{tableOf, vectorOf}

@@ -1,0 +1,5 @@
+pub mod Examples
+pub mod Passing
+pub mod Counting
+pub mod Meanings
+pub mod Going
