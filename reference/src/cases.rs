@@ -1,4 +1,4 @@
-//! The worked cases W1 to W60, and cases for the mistakes that docs/RULES.md remarks
+//! The worked cases W1 to W72, and cases for the mistakes that docs/RULES.md remarks
 //! on. Expected answers are literals.
 
 use std::fmt;
@@ -9,7 +9,9 @@ use crate::problem::{square, Bounds, Problem};
 use crate::program::{box_lines, output, verdict_lines};
 use crate::refusal::Refusal;
 use crate::residual::rows_over;
+use crate::rides::Sample;
 use crate::summary::{decode, encode, read_problem, NUMBER_WIDTH};
+use crate::sums::Sums;
 use crate::vectors::least_value;
 use crate::writer::file_of;
 
@@ -47,7 +49,7 @@ impl fmt::Display for Case {
     }
 }
 
-/// Every case: W1 to W20, W21 (case P), W24 to W60, then those for the mistakes, W22
+/// Every case: W1 to W20, W21 (case P), W24 to W72, then those for the mistakes, W22
 /// and W23 among them.
 pub fn listed_cases() -> Vec<Case> {
     [
@@ -62,6 +64,10 @@ pub fn listed_cases() -> Vec<Case> {
         lopsided_files(),
         offered_factors(),
         brackets(),
+        halved_sums(),
+        pools(),
+        refused_pools(),
+        vec![halved_for_a_sample()],
         wrong_turns(),
     ]
     .concat()
@@ -290,6 +296,123 @@ fn brackets() -> Vec<Case> {
     ]
 }
 
+/// Sums of order 1, halved.
+fn halved_sums() -> Vec<Case> {
+    let case = |low: i64, high: i64, (least, most): (i64, i64), limit: i64, expected: &str| {
+        let subject = format!(
+            "halving L [{low}], U [{high}], a from {least} to {most}, running limit {limit}"
+        );
+        let sums = Sums::read(1, &[low], &[high], &[least], &[most], limit);
+        let got = sums.map(|sums| {
+            let half = sums.halved();
+            let [low, high] = [half.low[0], half.high[0]];
+            let [least, most] = [half.linear_low[0], half.linear_high[0]];
+            sums_line(&low, &high, (&least, &most), &half.running_limit)
+        });
+        Case::new(&subject, expected, answer(got))
+    };
+    vec![
+        case(-3, 3, (-5, 5), 7, "L -2; U 2; a -3 to 3; running limit 4"),
+        case(
+            -1,
+            -1,
+            (-1, -1),
+            -7,
+            "L -1; U 0; a -1 to 0; running limit -3",
+        ),
+    ]
+}
+
+/// Pools of order 1 that are taken, and one of order 2, both tables mended.
+fn pools() -> Vec<Case> {
+    let apart = pooled(
+        2,
+        (&[0, 0, -1, 0], &[0, 2, 1, 0], (&[0, 0], &[0, 0]), 0),
+        &[2],
+        (&[2, 1, 0, 2], &[3, 2, 3, 3], &[0, 0], &[0]),
+    );
+    let expected = "L 2 1 1 2; U 3 3 3 3; a 0 0 to 0 0; running limit 0";
+    vec![
+        pool_of(
+            0,
+            (0, 0),
+            0,
+            &[(4, -8, 1); 2],
+            "L 8; U 8; a -16 to -16; running limit 2",
+        ),
+        pool_of(
+            FULL,
+            (-1, 1),
+            3,
+            &[(1, 0, 1)],
+            "L 524289; U 524289; a -1 to 1; running limit 3",
+        ),
+        pool_of(
+            FULL,
+            (0, 0),
+            0,
+            &[(FULL / 2, 0, 0)],
+            "L 1048576; U 1048576; a 0 to 0; running limit 0",
+        ),
+        pool_of(
+            FULL,
+            (0, 0),
+            0,
+            &[(FULL / 2, 0, 0), (1, 0, 0)],
+            "L 524289; U 524289; a 0 to 0; running limit 0",
+        ),
+        Case::new("pool, halves apart", expected, apart),
+    ]
+}
+
+/// Pools that are refused. Their sums stay.
+fn refused_pools() -> Vec<Case> {
+    let zeros: LentCase = (&[0], &[0], (&[0], &[0]), 0);
+    let refused = |subject: &str, orders: &[i64], lists: ListsCase, expected: &str| {
+        let got = pooled(1, zeros, orders, lists);
+        Case::new(&format!("pool, {subject}"), expected, got)
+    };
+    let two: ListsCase = (&[0, 0], &[0, 0], &[0, 0], &[0, 0]);
+    let many: ListsCase = (&[0; 65], &[0; 65], &[0; 65], &[0; 65]);
+    let beyond = FULL + 1;
+    vec![
+        pool_of(FULL, (0, 0), 0, &[(FULL, 0, 0)], "refused 18"),
+        pool_of(FULL, (0, 0), 0, &[(1, 0, 0), (FULL, 0, 0)], "refused 18"),
+        refused("orders 1, 9", &[1, 9], two, "refused 1"),
+        refused("orders 1, 2", &[1, 2], two, "refused 2"),
+        refused("65 orders of 9", &[9; 65], many, "refused 2"),
+        refused(
+            "L [2], U [1], then [2^20 + 1]",
+            &[1, 1],
+            (&[2, beyond], &[1, beyond], &[0, 0], &[0, 0]),
+            "refused 3",
+        ),
+    ]
+}
+
+/// A sample that sums at the end of a range are halved for.
+fn halved_for_a_sample() -> Case {
+    let corner = |number: i64| -> Vec<u8> {
+        let mut table = [0; 16];
+        table[0] = number;
+        encode(&table, NUMBER_WIDTH)
+    };
+    let [mut low, mut high] = [corner(FULL), corner(FULL)];
+    let ([mut least, mut most], mut limit) = ([[0; 32]; 2], [0; 8]);
+    let one = Sample::of([1.0_f32.to_bits(), 0, 0, 0, 0]);
+    let code = entries::gather(
+        &one, 4, &mut low, &mut high, &mut least, &mut most, &mut limit,
+    );
+    let others = [&least[..], &most, &limit].concat();
+    let got = match (code, low == high, others.iter().all(|byte| *byte == 0)) {
+        (entries::POSITIVE, true, true) if low == corner(524_544) => "L(1,1) = U(1,1) = 524544",
+        (entries::POSITIVE, _, _) => "other sums",
+        _ => "refused",
+    };
+    let expected = "L(1,1) = U(1,1) = 524544";
+    Case::new("sample, L(1,1) = U(1,1) = 2^20", expected, got.to_string())
+}
+
 fn wrong_turns() -> Vec<Case> {
     vec![
         factor_entry("[2 -1; -1 2]", (0, 1), "-47862"),
@@ -361,6 +484,68 @@ fn bracketed(low: &str, high: &str, expected: &str) -> Case {
         _ => format!("answer {code}"),
     };
     Case::new(&subject, expected, got)
+}
+
+/// The end of the range of entries.
+const FULL: i64 = 1 << 20;
+
+/// L, U, the two ends and the running limit of sums that are lent.
+type LentCase<'a> = (&'a [i64], &'a [i64], (&'a [i64], &'a [i64]), i64);
+/// The lists of L, of U, of linear terms with equal ends, and of limits.
+type ListsCase<'a> = (&'a [i64], &'a [i64], &'a [i64], &'a [i64]);
+
+/// Thin problems [m], a, α of order 1, pooled into thin sums.
+fn pool_of(
+    sum: i64,
+    (least, most): (i64, i64),
+    limit: i64,
+    problems: &[(i64, i64, i64)],
+    expected: &str,
+) -> Case {
+    let subject = format!(
+        "pool {problems:?} into L = U = [{sum}], a from {least} to {most}, running limit {limit}"
+    );
+    let orders = vec![1; problems.len()];
+    let list =
+        |part: fn(&(i64, i64, i64)) -> i64| -> Vec<i64> { problems.iter().map(part).collect() };
+    let (tables, terms, limits) = (list(|p| p.0), list(|p| p.1), list(|p| p.2));
+    let sums = (&[sum][..], &[sum][..], (&[least][..], &[most][..]), limit);
+    let got = pooled(1, sums, &orders, (&tables, &tables, &terms, &limits));
+    Case::new(&subject, expected, got)
+}
+
+/// What pooling leaves, over bytes, or its refusal, where every sum stays.
+fn pooled(n: i64, sums: LentCase, orders: &[i64], lists: ListsCase) -> String {
+    let bytes = |list: &[i64]| encode(list, NUMBER_WIDTH);
+    let (low, high, (least, most), limit) = sums;
+    let mut lent = [low, high, least, most, &[limit]].map(bytes);
+    let before = lent.clone();
+    let (lows, highs, terms, limits) = lists;
+    let lists = [orders, lows, highs, terms, terms, limits].map(bytes);
+    let [low, high, least, most, limit] = &mut lent;
+    let [orders, lows, highs, leasts, mosts, limits] = &lists;
+    let code = entries::pool(
+        n, low, high, least, most, limit, orders, lows, highs, leasts, mosts, limits,
+    );
+    let list = |bytes: &[u8]| {
+        let numbers = decode(bytes, NUMBER_WIDTH).into_iter();
+        let words: Vec<String> = numbers.map(|number| number.to_string()).collect();
+        words.join(" ")
+    };
+    match (code, before == lent) {
+        (entries::POSITIVE, _) => {
+            let [low, high, least, most, limit] = lent.map(|bytes| list(&bytes));
+            sums_line(&low, &high, (&least, &most), &limit)
+        }
+        (refusal, true) => format!("refused {refusal}"),
+        (refusal, false) => format!("refused {refusal}, with other sums"),
+    }
+}
+
+/// A line of sums: numbers, or lists of them.
+fn sums_line<T: fmt::Display>(low: &T, high: &T, ends: (&T, &T), running_limit: &T) -> String {
+    let (least, most) = ends;
+    format!("L {low}; U {high}; a {least} to {most}; running limit {running_limit}")
 }
 
 /// What each row of a thin matrix has over with an offered factor.

@@ -1,22 +1,24 @@
-//! The acts over bytes, as the C entries have them: R15 and R22 to R26.
+//! The acts over bytes, as the C entries have them: R15 and R22 to R27.
 //!
 //! Numbers take up 8 bytes (R15.2); what is returned is that of R15.4.
 
 use crate::enclosure::{self, Enclosure};
 use crate::judge::{self as judging, Verdict};
+use crate::pool::{self as pooling, Lists};
 use crate::problem::{
     check_lengths, check_order, sides_size, table_size, write_numbers, MAX_ORDER,
 };
-use crate::refusal::Refusal;
+use crate::refusal::{require, Refusal};
 use crate::residual::{self, FactorAnswer};
 use crate::rides::{self, Sample};
 use crate::stiffness::{self, Bracket};
 use crate::summary::{decode, encode, read_problem, NUMBER_WIDTH};
+use crate::sums::LentSums;
 use crate::vectors;
 use crate::writer;
 
-/// 'definite', 'accepted', 'yes', a box, a bracket with its step, a sample taken, a
-/// limit written, a file written, a problem written
+/// 'definite', 'accepted', 'yes', a box, a bracket with its step, a sample taken,
+/// problems taken, a limit written, a file written, a problem written
 pub const POSITIVE: i64 = 0;
 /// 'not definite', 'not accepted', 'no', 'empty', a bound alone
 pub const NEGATIVE: i64 = -1;
@@ -255,18 +257,76 @@ pub fn gather(
 fn gathered(sample: &Sample, n: i64, lent: [&mut [u8]; 5]) -> Result<(), Refusal> {
     // R22.6: 17 comes before 1.
     sample.check()?;
+    on_sums(n, lent, |sums| rides::gather(sample, n, sums).map(|_| ()))
+}
+
+/// Checks 1 and 2 of sums over bytes, then an act on their numbers. What it leaves of them
+/// is written, unless it refuses.
+fn on_sums(
+    n: i64,
+    mut lent: [&mut [u8]; 5],
+    act: impl FnOnce(LentSums) -> Result<(), Refusal>,
+) -> Result<(), Refusal> {
     let counts = [table_size as Count, table_size, LIST, LIST, SINGLE];
-    let [low, high, linear_low, linear_high, running] = lent;
-    let bytes = [&*low, &*high, &*linear_low, &*linear_high, &*running];
-    let buffers = std::array::from_fn(|k| (bytes[k], counts[k]));
-    let [mut l, mut h, mut least, mut most, mut sum] = read(n, buffers)?;
-    rides::gather(sample, n, &mut l, &mut h, &mut least, &mut most, &mut sum)?;
-    write(&l, low);
-    write(&h, high);
-    write(&least, linear_low);
-    write(&most, linear_high);
-    write(&sum, running);
+    let buffers = std::array::from_fn(|k| (&*lent[k], counts[k]));
+    let mut numbers = read(n, buffers)?;
+    let [low, high, linear_low, linear_high, running_limit] = &mut numbers;
+    act(LentSums {
+        low,
+        high,
+        linear_low,
+        linear_high,
+        running_limit,
+    })?;
+    for (buffer, list) in lent.iter_mut().zip(&numbers) {
+        write(list, buffer);
+    }
     Ok(())
+}
+
+/// Pooling: the sums are read and written, and the six lists read.
+#[allow(clippy::too_many_arguments)]
+pub fn pool(
+    n: i64,
+    low: &mut [u8],
+    high: &mut [u8],
+    linear_low: &mut [u8],
+    linear_high: &mut [u8],
+    running_limit: &mut [u8],
+    orders: &[u8],
+    lows: &[u8],
+    highs: &[u8],
+    linear_lows: &[u8],
+    linear_highs: &[u8],
+    limits: &[u8],
+) -> i64 {
+    let sums = [low, high, linear_low, linear_high, running_limit];
+    let lists = [lows, highs, linear_lows, linear_highs, limits];
+    taken_code(pooled(n, sums, orders, lists))
+}
+
+fn pooled(n: i64, lent: [&mut [u8]; 5], orders: &[u8], lists: [&[u8]; 5]) -> Result<(), Refusal> {
+    // R27.2: bytes that are no whole numbers have no order that 1 would be asked of.
+    check_order(n)?;
+    require(orders.len().is_multiple_of(NUMBER_WIDTH), Refusal::Length)?;
+    let orders = decode(orders, NUMBER_WIDTH);
+    let order = pooling::check_orders(n, &orders)?;
+    // R15.3
+    let counts = [table_size as Count, table_size, LIST, LIST, SINGLE];
+    let size = |count: Count| NUMBER_WIDTH * orders.len() * count(order);
+    let lengths: [_; 5] = std::array::from_fn(|k| (lists[k].len(), size(counts[k])));
+    check_lengths(&lengths)?;
+    let [lows, highs, linear_lows, linear_highs, limits] =
+        &lists.map(|list| decode(list, NUMBER_WIDTH));
+    let lists = Lists {
+        orders: &orders,
+        lows,
+        highs,
+        linear_lows,
+        linear_highs,
+        limits,
+    };
+    on_sums(n, lent, |sums| pooling::pool(n, sums, &lists))
 }
 
 /// Reading the sums.

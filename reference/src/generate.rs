@@ -8,6 +8,7 @@ mod files;
 mod lopsided;
 pub mod numbers;
 mod points;
+mod pools;
 mod problems;
 mod rides;
 mod simulated;
@@ -15,11 +16,13 @@ mod simulated;
 pub use calls::{BoxCall, FactorCall, JudgeCall, StiffnessCall, VectorCall, WriteCall};
 pub use files::{DrawnFile, Field, ReadCall};
 pub use points::{Fractions, Point};
+pub use pools::{PoolCall, RawPool};
 pub use rides::{GatherCall, SumsCall, EDGES};
 pub use simulated::{Ride, Road};
 
 use crate::problem::Bounds;
 use crate::random::Random;
+use crate::sums::LentSums;
 
 /// The kinds of problem, each thin (L = U) or wide.
 #[derive(Clone, Copy, Debug, PartialEq, Eq)]
@@ -68,6 +71,17 @@ impl RawProblem {
     /// The bounds, where checks 3 to 5 let them through.
     fn bounds(&self) -> Option<Bounds> {
         Bounds::read(self.order, &self.low, &self.high).ok()
+    }
+
+    /// The same as running sums that are lent, the limit as a running limit.
+    pub fn lend(&mut self) -> LentSums<'_> {
+        LentSums {
+            low: &mut self.low,
+            high: &mut self.high,
+            linear_low: &mut self.linear_low,
+            linear_high: &mut self.linear_high,
+            running_limit: std::slice::from_mut(&mut self.limit),
+        }
     }
 }
 

@@ -37,7 +37,7 @@ pub enum Refusal {
     Reversed,
     /// 17: a number of a sample that is not finite, or outside of ±8
     Sample,
-    /// 18: a sum that would leave its range
+    /// 18: a sum that would leave its range though all sums were halved once
     Full,
     /// 19, file: a tag below the one before it
     Falling,

@@ -1,11 +1,9 @@
-//! Rides gathered into running sums, and the sums read: R22 and R23.
+//! Rides gathered into running sums, and the sums read: R22 and R23.2 to R23.4.
 
 use crate::floats::{bracket, Bracket};
-use crate::problem::{
-    check_lengths, check_order, pairs, table_size, write_numbers, Problem, ENTRY_RANGE,
-    LIMIT_RANGE, LINEAR_RANGE,
-};
+use crate::problem::{check_lengths, check_order, pairs, table_size, write_numbers, LIMIT_RANGE};
 use crate::refusal::{require, Refusal};
+use crate::sums::{LentSums, Sums};
 
 /// R22.3: the order of the sums that take a sample.
 pub const SAMPLE_ORDER: usize = 4;
@@ -73,96 +71,45 @@ fn end_products(x: Bracket, y: Bracket) -> Bracket {
     }
 }
 
-/// Adds a sample to sums of order 4: R22.3 to R22.5.
-fn add(sums: &mut Problem, sample: &Brackets) {
-    let Brackets { factors, draw } = sample;
-    // R22.3
-    for (i, j) in pairs(SAMPLE_ORDER) {
-        let product = end_products(factors[i], factors[j]);
-        sums.bounds.low[i][j] += product.low;
-        sums.bounds.high[i][j] += product.high;
+impl Brackets {
+    /// What a sample adds to sums of order 4: R22.3 to R22.5.
+    fn gains(&self) -> Sums {
+        let Brackets { factors, draw } = self;
+        // R22.3
+        let entries: Vec<Bracket> = pairs(SAMPLE_ORDER)
+            .map(|(i, j)| end_products(factors[i], factors[j]))
+            .collect();
+        // R22.4: what the linear terms lose
+        let terms = factors.map(|factor| end_products(factor, *draw));
+        Sums {
+            low: entries.iter().map(|product| product.low).collect(),
+            high: entries.iter().map(|product| product.high).collect(),
+            linear_low: terms.iter().map(|product| -product.high).collect(),
+            linear_high: terms.iter().map(|product| -product.low).collect(),
+            // R22.5
+            running_limit: -(draw.low * draw.low).min(draw.high * draw.high),
+        }
     }
-    // R22.4
-    for (i, factor) in factors.iter().enumerate() {
-        let product = end_products(*factor, *draw);
-        sums.linear_low[i] -= product.high;
-        sums.linear_high[i] -= product.low;
-    }
-    // R22.5
-    sums.limit -= (draw.low * draw.low).min(draw.high * draw.high);
 }
 
-/// Check 18: all sums are within their ranges (R4.18).
-fn check_room(sums: &Problem) -> Result<(), Refusal> {
-    let within = |list: &[i128], range: i128| list.iter().all(|sum| sum.abs() <= range);
-    let tables = [&sums.bounds.low, &sums.bounds.high];
-    let ends = [&sums.linear_low, &sums.linear_high];
-    let room = tables.iter().all(|t| within(&t.concat(), ENTRY_RANGE))
-        && ends.iter().all(|end| within(end, LINEAR_RANGE))
-        && within(&[sums.limit], LIMIT_RANGE);
-    require(room, Refusal::Full)
-}
-
-/// Checks 3, 4, 5 and 16 of sums, then the sums, mended. They have a running limit
-/// for a limit and no centre: one of zeros stands in for it, and passes every check.
-fn read(
-    order: usize,
-    low: &[i64],
-    high: &[i64],
-    linear_low: &[i64],
-    linear_high: &[i64],
-    running_limit: i64,
-) -> Result<Problem, Refusal> {
-    let centre = vec![0; order];
-    let (least, most) = (linear_low, linear_high);
-    Problem::read(order, low, high, least, most, running_limit, &centre)
-}
-
-/// The sums, mended, with a sample in them, whether or not there is room: checks 17,
-/// 1, 2, 3, 4, 5 and 16 (R22.6). `running_limit` is lent as one number.
-pub fn with_sample(
-    sample: &Sample,
-    n: i64,
-    low: &[i64],
-    high: &[i64],
-    linear_low: &[i64],
-    linear_high: &[i64],
-    running_limit: &[i64],
-) -> Result<Problem, Refusal> {
+/// Checks 17, 1, 2, 3, 4, 5 and 16 (R22.6), then the sums, mended, and what the sample
+/// adds to them.
+pub fn read(sample: &Sample, n: i64, sums: &LentSums) -> Result<(Sums, Sums), Refusal> {
     let brackets = sample.check()?;
     let order = check_order(n)?;
-    check_lengths(&[
-        (order, SAMPLE_ORDER),
-        (low.len(), table_size(order)),
-        (high.len(), table_size(order)),
-        (linear_low.len(), order),
-        (linear_high.len(), order),
-        (running_limit.len(), 1),
-    ])?;
-    let mut sums = read(order, low, high, linear_low, linear_high, running_limit[0])?;
-    add(&mut sums, &brackets);
-    Ok(sums)
+    check_lengths(&[(order, SAMPLE_ORDER)])?;
+    check_lengths(&sums.sizes(order))?;
+    Ok((sums.read(order)?, brackets.gains()))
 }
 
-/// Gathers a sample: the same checks, then 18. A sample that is taken leaves the mended
-/// sums with it in them; a refusal leaves the sums as they were.
-pub fn gather(
-    sample: &Sample,
-    n: i64,
-    low: &mut [i64],
-    high: &mut [i64],
-    linear_low: &mut [i64],
-    linear_high: &mut [i64],
-    running_limit: &mut [i64],
-) -> Result<(), Refusal> {
-    let sums = with_sample(sample, n, low, high, linear_low, linear_high, running_limit)?;
-    check_room(&sums)?;
-    write_numbers(&sums.bounds.low.concat(), low);
-    write_numbers(&sums.bounds.high.concat(), high);
-    write_numbers(&sums.linear_low, linear_low);
-    write_numbers(&sums.linear_high, linear_high);
-    write_numbers(&[sums.limit], running_limit);
-    Ok(())
+/// Gathers a sample: the same checks, then 18 (R23.6), and says whether the sums were
+/// halved for it. A sample that is taken leaves the sums with it in them; a refusal leaves
+/// the sums as they were.
+pub fn gather(sample: &Sample, n: i64, lent: LentSums) -> Result<bool, Refusal> {
+    let (sums, gains) = read(sample, n, &lent)?;
+    let (after, halved) = sums.with(&gains)?;
+    after.write(lent);
+    Ok(halved)
 }
 
 /// Reads the sums with an allowance K: checks 1, 2, 3, 4, 5 and 16, then the limit
@@ -189,7 +136,7 @@ pub fn read_sums(
     require((0..=MOST_ALLOWANCE).contains(&allowance), Refusal::Range)?;
     let alpha = i128::from(allowance) + i128::from(running_limit);
     require(alpha.abs() <= LIMIT_RANGE, Refusal::Range)?;
-    read(order, low, high, linear_low, linear_high, running_limit)?;
+    Sums::read(order, low, high, linear_low, linear_high, running_limit)?;
     write_numbers(&[alpha], limit);
     Ok(())
 }

@@ -67,37 +67,57 @@ static int rounded_outward(int64_t low, int64_t high, int64_t half_low, int64_t 
     return 2 * half_low <= low && low <= 2 * half_low + 1 && 2 * half_high >= high && high >= 2 * half_high - 1;
 }
 
+/* Random bounds and, between them, a symmetric matrix and linear terms. The entry (1,1) of the bounds is at the end of its range. */
+static void draw_full(struct sums *sums, int64_t *matrix, int64_t *linear)
+{
+    for (int i = 0; i < ORDER; i++)
+        for (int j = 0; j <= i; j++) {
+            int64_t low = between(-HB_ENTRY_RANGE, HB_ENTRY_RANGE - 1000), high = low + between(0, 1000), entry = between(low, high);
+            const int places[] = {i * ORDER + j, j * ORDER + i};
+            for (int k = 0; k < 2; k++) {
+                put(sums->low, places[k], low);
+                put(sums->high, places[k], high);
+                matrix[places[k]] = entry;
+            }
+        }
+    put(sums->low, 0, HB_ENTRY_RANGE);
+    put(sums->high, 0, HB_ENTRY_RANGE);
+    matrix[0] = HB_ENTRY_RANGE;
+    for (int k = 0; k < ORDER; k++) {
+        put(sums->linear_low, k, between(-HB_LINEAR_RANGE, HB_LINEAR_RANGE - 1000));
+        put(sums->linear_high, k, get(sums->linear_low, k) + between(0, 1000));
+        linear[k] = between(get(sums->linear_low, k), get(sums->linear_high, k));
+    }
+}
+
 /*
- * Whether halved sums are right for those before: M/2 and a/2 are between the bounds for each M and a that were, by less than 1 more on
- * either side; an x that had x'Mx + 2a'x = allowance + running limit less some rest is within their halves still; and both are greater by at most 1/2.
+ * Whether sums that a sample halves are right for those before, the 1 taken off again that it adds to the entry (1,1): M/2 and a/2 are
+ * between the bounds for each M and a that were, by less than 1 more on either side; an x that had x'Mx + 2a'x = allowance + running limit
+ * less some rest has it still, with the same allowance; and the running limit is greater by at most 1/2.
  */
 static int halved_well(void)
 {
+    const hb_sample one = {0.0625f, 0, 0, 0, 0};
     struct sums sums, before;
-    int64_t matrix[ORDER * ORDER], linear[ORDER], x[ORDER], limit, halved;
+    int64_t matrix[ORDER * ORDER], linear[ORDER], x[ORDER], limit, running, halved;
     int well = 1;
-    for (int k = 0; k < ORDER * ORDER; k++) {
-        put(sums.low, k, between(-HB_ENTRY_RANGE, HB_ENTRY_RANGE - 1000));
-        put(sums.high, k, get(sums.low, k) + between(0, 1000));
-        matrix[k] = between(get(sums.low, k), get(sums.high, k));
-    }
-    for (int k = 0; k < ORDER; k++) {
-        put(sums.linear_low, k, between(-HB_LINEAR_RANGE, HB_LINEAR_RANGE - 1000));
-        put(sums.linear_high, k, get(sums.linear_low, k) + between(0, 1000));
-        linear[k] = between(get(sums.linear_low, k), get(sums.linear_high, k));
+    draw_full(&sums, matrix, linear);
+    for (int k = 0; k < ORDER; k++)
         x[k] = between(-HB_CENTRE_RANGE, HB_CENTRE_RANGE);
-    }
     sums.allowance = between(0, HB_MAX_ALLOWANCE);
     limit = value(matrix, linear, x) + between(0, 1);
-    put(sums.running_limit, 0, limit - sums.allowance);
+    running = limit - sums.allowance;
+    put(sums.running_limit, 0, running);
     before = sums;
-    halve(&sums);
+    gather(&sums, one, 0);
+    put(sums.low, 0, get(sums.low, 0) - 1);
+    put(sums.high, 0, get(sums.high, 0) - 1);
     for (int k = 0; k < ORDER * ORDER; k++)
         well = well && rounded_outward(get(before.low, k), get(before.high, k), get(sums.low, k), get(sums.high, k));
     for (int k = 0; k < ORDER; k++)
         well = well && rounded_outward(get(before.linear_low, k), get(before.linear_high, k), get(sums.linear_low, k), get(sums.linear_high, k));
-    halved = get(sums.running_limit, 0) + sums.allowance;
-    return well && value(matrix, linear, x) <= 2 * halved && 2 * halved <= limit + 2;
+    halved = get(sums.running_limit, 0);
+    return well && value(matrix, linear, x) <= 2 * (halved + sums.allowance) && running <= 2 * halved && 2 * halved <= running + 1;
 }
 
 static void test_halving(void)
@@ -140,6 +160,17 @@ static int draw_stretch(const int64_t *x, int64_t size, int64_t noise, hb_sample
     return magnitude(quarters) <= 64 * HB_SAMPLE_RANGE;
 }
 
+/* Gathers a sample. Returns 1 where the sums are halved: then a diagonal entry, which a sample makes no smaller, is smaller than it was. */
+static int gather_counted(struct sums *sums, hb_sample sample, int64_t miss)
+{
+    const struct sums before = *sums;
+    int halved = 0;
+    gather(sums, sample, miss);
+    for (int k = 0; k < ORDER; k++)
+        halved = halved || get(sums->high, k * ORDER + k) < get(before.high, k * ORDER + k);
+    return halved;
+}
+
 /* A season of stretches with coefficients x. Returns how often its sums are halved, or -1 where there is no box or x is not in it. */
 static int boxed_season(void)
 {
@@ -152,7 +183,7 @@ static int boxed_season(void)
         x[k] = size > 6 ? between(-2, 2) : between(-20, 20);
     while (count > 0) {
         if (draw_stretch(x, size, noise, &sample)) {
-            halvings += gather(&sums, sample, miss);
+            halvings += gather_counted(&sums, sample, miss);
             count--;
         }
     }
@@ -355,9 +386,9 @@ static void test_samples(void)
         int64_t counts[4], halvings = 0;
         count_samples(samples[k][0], samples[k][1], counts);
         for (int64_t taken = 0; taken < counts[3]; taken++)
-            halvings += gather(&sums, sample, 0);
+            halvings += gather_counted(&sums, sample, 0);
         expect("as many samples as are said fit", -halvings, 0);
-        expect("one more does not, and has room after one halving", gather(&sums, sample, 0) == 1, 1);
+        expect("one more does not, and the sums are halved for it", gather_counted(&sums, sample, 0), 1);
     }
 }
 

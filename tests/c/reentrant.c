@@ -27,12 +27,13 @@ struct problem {
     int64_t centre[N];
 };
 
-/* Samples that are gathered one after the other */
+/* Samples that are gathered one after the other, and how often a problem is pooled */
 #define SAMPLES 70
+#define POOLED 3
 
 /* All that the functions answer and write for a problem: the answers of gathering are added up */
 struct result {
-    int64_t answers[9];
+    int64_t answers[10];
     int64_t low[HB_SAMPLE_ORDER * HB_SAMPLE_ORDER];
     int64_t high[HB_SAMPLE_ORDER * HB_SAMPLE_ORDER];
     int64_t linear_low[HB_SAMPLE_ORDER];
@@ -46,6 +47,11 @@ struct result {
     int64_t step;
     int64_t bound;
     int64_t shown[N];
+    int64_t pooled_low[N * N];
+    int64_t pooled_high[N * N];
+    int64_t pooled_linear_low[N];
+    int64_t pooled_linear_high[N];
+    int64_t pooled_running_limit;
     int64_t sides[2 * N];
     uint8_t file[HB_SUMMARY_BYTES(N)];
     int64_t order;
@@ -64,6 +70,25 @@ static volatile sig_atomic_t interrupts, differing_interrupts;
 static const uint8_t *bytes(const int64_t *numbers)
 {
     return (const uint8_t *)numbers;
+}
+
+/* Pools a problem POOLED times over into sums of 0 */
+static void call_pool(const struct problem *problem, struct result *result)
+{
+    int64_t orders[POOLED], tables[POOLED * N * N], linear_lows[POOLED * N], linear_highs[POOLED * N], limits[POOLED];
+    for (int k = 0; k < POOLED; k++) {
+        orders[k] = N;
+        limits[k] = 100000;
+        memcpy(&tables[k * N * N], problem->table, sizeof problem->table);
+        memcpy(&linear_lows[k * N], problem->linear_low, sizeof problem->linear_low);
+        memcpy(&linear_highs[k * N], problem->linear_high, sizeof problem->linear_high);
+    }
+    result->answers[9] = hb_pool(N, (uint8_t *)result->pooled_low, sizeof result->pooled_low, (uint8_t *)result->pooled_high,
+                                 sizeof result->pooled_high, (uint8_t *)result->pooled_linear_low, sizeof result->pooled_linear_low,
+                                 (uint8_t *)result->pooled_linear_high, sizeof result->pooled_linear_high,
+                                 (uint8_t *)&result->pooled_running_limit, sizeof result->pooled_running_limit, bytes(orders),
+                                 sizeof orders, bytes(tables), sizeof tables, bytes(tables), sizeof tables, bytes(linear_lows),
+                                 sizeof linear_lows, bytes(linear_highs), sizeof linear_highs, bytes(limits), sizeof limits);
 }
 
 static void call(const struct problem *problem, struct result *result)
@@ -99,6 +124,7 @@ static void call(const struct problem *problem, struct result *result)
                                          sizeof result->read_centre);
     result->answers[8] = hb_stiffness(N, table, size, table, size, (uint8_t *)&result->step, sizeof result->step, (uint8_t *)&result->bound,
                                       sizeof result->bound, (uint8_t *)result->shown, sizeof result->shown);
+    call_pool(problem, result);
 }
 
 /* Whether a problem's calls give what they gave alone */
@@ -127,8 +153,8 @@ static void *work(void *differing)
 }
 
 /*
- * A definite table, one that is undecided and one that is not definite, so that all of the code is run; a sample that is always taken, one that fills the
- * sums, and one that is refused
+ * A definite table, one that is undecided and one that is not definite, so that all of the code is run; a sample that has room, one that
+ * the sums are halved for, and one that is refused
  */
 static void make_problems(void)
 {
@@ -180,8 +206,13 @@ int main(void)
     expect("a bound alone, above 0 and at it", alone[1].answers[8] == HB_AT_MOST && alone[1].step == 0 && alone[1].bound == 1 &&
                                                    alone[2].answers[8] == HB_AT_MOST && alone[2].step == 0 && alone[2].bound == 0);
     expect("gathered, and read", alone[0].answers[4] == HB_TAKEN && alone[0].answers[5] == HB_WRITTEN);
-    expect("64 gathered, and 6 too many", alone[1].answers[4] == 6 * HB_REFUSED_FULL && alone[1].answers[5] == HB_WRITTEN);
+    /* 64 fill the sums; halved they have 32 of them, and 6 more behind */
+    expect("64 gathered, and 6 into halves",
+           alone[1].answers[4] == HB_TAKEN && alone[1].high[0] == (32 + 6) * 16384 && alone[1].answers[5] == HB_WRITTEN);
     expect("all samples refused", alone[2].answers[4] == SAMPLES * HB_REFUSED_SAMPLE && alone[2].limit == 1000000);
+    /* Twice the greatest entry has room, and is halved for a third time. */
+    expect("pooled, and halved", alone[0].answers[9] == HB_TAKEN && alone[0].pooled_low[0] == 3000 && alone[1].answers[9] == HB_TAKEN &&
+                                     alone[1].pooled_high[0] == 1000000 && alone[1].pooled_running_limit == 200000);
     for (int k = 0; k < PROBLEMS; k++)
         expect("written, and read", alone[k].answers[6] == HB_WRITTEN && alone[k].answers[7] == HB_WRITTEN &&
                                         memcmp(alone[k].read_low, problems[k].table, sizeof problems[k].table) == 0 &&

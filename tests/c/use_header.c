@@ -1,6 +1,7 @@
 /* Uses the library through its header alone, as C99, C11 and C++. The last line printed is 'N passed, M failed'. */
 #include "hankboulder.h"
 
+#include <stddef.h>
 #include <stdio.h>
 #include <string.h>
 
@@ -678,7 +679,6 @@ static void run_gather_refused(void)
     for (k = 0; k < 64; k++)
         expect("gather the greatest sample", gather(&sums, greatest), HB_TAKEN);
     before = sums;
-    expect("gather one more", gather(&sums, greatest), HB_REFUSED_FULL);
     for (k = 0; k < sizeof refused / sizeof refused[0]; k++) {
         hb_sample other = sample;
         (k % 2 ? &other.rolling : &other.draw)[0] = of_bits(refused[k]);
@@ -702,6 +702,35 @@ static void run_gather_refused(void)
     expect("gather into crossed sums", gather(&sums, sample), HB_REFUSED_CROSSED);
     expect("read them", read_sums(&sums, 0, &limit), HB_REFUSED_CROSSED);
     expect("they are as they were", memcmp(&sums, &before, sizeof sums), 0);
+}
+
+/* Whether all entries, linear terms and the running limit of sums are these */
+static int all_are(const struct sums *sums, int64_t entry, int64_t term, int64_t running_limit)
+{
+    size_t k;
+    int well = hb_load_number(sums->running_limit) == running_limit;
+    for (k = 0; k < SUM_ENTRIES; k++)
+        well = well && hb_load_number(sums->low + HB_NUMBER_BYTES * k) == entry &&
+               hb_load_number(sums->high + HB_NUMBER_BYTES * k) == entry;
+    for (k = 0; k < HB_SAMPLE_ORDER; k++)
+        well = well && hb_load_number(sums->linear_low + HB_NUMBER_BYTES * k) == term &&
+               hb_load_number(sums->linear_high + HB_NUMBER_BYTES * k) == term;
+    return well;
+}
+
+/* 64 of the greatest sample fill the entries. The next halves all sums, and so does every 32nd behind it; none is refused. */
+static void run_gather_halved(void)
+{
+    const hb_sample greatest = {8, 8, 8, 8, 8};
+    struct sums sums;
+    int64_t held = 0;
+    int k;
+    memset(&sums, 0, sizeof sums);
+    for (k = 0; k < 200; k++) {
+        expect("gather it again", gather(&sums, greatest), HB_TAKEN);
+        held = held == 64 ? 33 : held + 1;
+        expect("the sums", all_are(&sums, held << 14, -held * (1 << 14), -held * (1 << 14)), 1);
+    }
 }
 
 /* Orders and sizes that gathering and reading the sums refuse */
@@ -751,19 +780,339 @@ static void run_gather_lopsided(void)
     expect("they are mended, with the sample in them", memcmp(&sums, &expected, sizeof sums), 0);
     put_half(&sums, 0, -7, HB_ENTRY_RANGE);
     put_half(&sums, 1, -9, HB_ENTRY_RANGE);
-    expected = sums;
-    expect("gather into sums without room in both halves", gather(&sums, one), HB_REFUSED_FULL);
-    expect("they are as they were", memcmp(&sums, &expected, sizeof sums), 0);
+    put_half(&expected, 0, -3, HB_ENTRY_RANGE / 2 + 1);
+    put_half(&expected, 1, -3, HB_ENTRY_RANGE / 2 + 1);
+    hb_store_number(expected.high, 2);
+    hb_store_number(expected.high + (HB_SAMPLE_ORDER + 1) * HB_NUMBER_BYTES, 2);
+    expect("gather into sums without room in both halves", gather(&sums, one), HB_TAKEN);
+    expect("they are mended and halved, with the sample in them", memcmp(&sums, &expected, sizeof sums), 0);
+    put_half(&sums, 0, -7, HB_ENTRY_RANGE);
     put_half(&sums, 1, -9, HB_ENTRY_RANGE - 1);
+    put_half(&expected, 0, -6, HB_ENTRY_RANGE);
+    put_half(&expected, 1, -6, HB_ENTRY_RANGE);
+    hb_store_number(expected.low, 2);
+    hb_store_number(expected.high, 3);
+    hb_store_number(expected.low + (HB_SAMPLE_ORDER + 1) * HB_NUMBER_BYTES, 2);
+    hb_store_number(expected.high + (HB_SAMPLE_ORDER + 1) * HB_NUMBER_BYTES, 3);
     expect("gather into sums with room in one", gather(&sums, one), HB_TAKEN);
+    expect("they are not halved", memcmp(&sums, &expected, sizeof sums), 0);
+}
+
+/* Sums of order 1 or 2 that problems are pooled into, with 8 bytes more, and problems */
+#define PROBLEMS 3
+#define MORE 8
+
+struct pool {
+    uint8_t low[WHOLE + MORE], high[WHOLE + MORE], linear_low[WHOLE_VECTOR + MORE], linear_high[WHOLE_VECTOR + MORE];
+    uint8_t running_limit[HB_NUMBER_BYTES + MORE], orders[HB_NUMBERS_BYTES(PROBLEMS)];
+    uint8_t lows[HB_TABLES_BYTES(ORDER, PROBLEMS)], highs[HB_TABLES_BYTES(ORDER, PROBLEMS)];
+    uint8_t linear_lows[HB_VECTORS_BYTES(ORDER, PROBLEMS)], linear_highs[HB_VECTORS_BYTES(ORDER, PROBLEMS)];
+    uint8_t limits[HB_NUMBERS_BYTES(PROBLEMS)];
+};
+
+/* The eleven buffers of a call */
+#define BUFFERS 11
+#define ORDERS 5
+
+/* Pools so many problems of an order, handed over as n, with the length of one buffer greater by more, or less. */
+static int64_t pool_sized(struct pool *pool, int64_t n, int order, size_t count, int which, int more)
+{
+    size_t sizes[BUFFERS];
+    sizes[0] = sizes[1] = HB_TABLE_BYTES(order);
+    sizes[2] = sizes[3] = HB_VECTOR_BYTES(order);
+    sizes[4] = HB_NUMBER_BYTES;
+    sizes[5] = sizes[10] = HB_NUMBERS_BYTES(count);
+    sizes[6] = sizes[7] = HB_TABLES_BYTES(order, count);
+    sizes[8] = sizes[9] = HB_VECTORS_BYTES(order, count);
+    sizes[which] = (size_t)((int64_t)sizes[which] + more);
+    return hb_pool(n, pool->low, sizes[0], pool->high, sizes[1], pool->linear_low, sizes[2], pool->linear_high, sizes[3],
+                   pool->running_limit, sizes[4], pool->orders, sizes[5], pool->lows, sizes[6], pool->highs, sizes[7], pool->linear_lows,
+                   sizes[8], pool->linear_highs, sizes[9], pool->limits, sizes[10]);
+}
+
+static int64_t pool_of(struct pool *pool, int order, size_t count)
+{
+    return pool_sized(pool, order, order, count, 0, 0);
+}
+
+/* All problems and sums of an order, 0 */
+static void begin(struct pool *pool, int64_t n)
+{
+    size_t k;
+    memset(pool, 0, sizeof *pool);
+    for (k = 0; k < PROBLEMS; k++)
+        hb_store_number(pool->orders + HB_NUMBERS_BYTES(k), n);
+}
+
+/* A problem of order 1, or sums of it */
+struct single {
+    int64_t low;
+    int64_t high;
+    int64_t linear_low;
+    int64_t linear_high;
+    int64_t limit;
+};
+
+/* Problems of order 1 that are pooled into sums, the expected answer, and the sums that are left where it is 0 */
+struct pool_case {
+    const char *what;
+    struct single sums;
+    struct single problems[2];
+    size_t count;
+    int64_t expected;
+    struct single left;
+};
+
+#define FULL HB_ENTRY_RANGE
+#define THIN(m, a, limit) {m, m, a, a, limit}
+#define NONE {0, 0, 0, 0, 0}
+
+static const struct pool_case pool_cases[] = {
+    {"pool [4] twice", NONE, {THIN(4, -8, 1), THIN(4, -8, 1)}, 2, HB_TAKEN, THIN(8, -16, 2)},
+    {"pool [4] once", NONE, {THIN(4, -8, 1), THIN(4, -8, 1)}, 1, HB_TAKEN, THIN(4, -8, 1)},
+    {"pool into full sums", {FULL, FULL, -1, 1, 3}, {THIN(1, 0, 1), NONE}, 1, HB_TAKEN, {FULL / 2 + 1, FULL / 2 + 1, -1, 1, 3}},
+    {"pool what halves have no room for", THIN(FULL, 0, 0), {THIN(FULL, 0, 0), NONE}, 1, HB_REFUSED_FULL, NONE},
+    {"pool it behind another one", THIN(FULL, 0, 0), {THIN(1, 0, 0), THIN(FULL, 0, 0)}, 2, HB_REFUSED_FULL, NONE},
+    {"pool what halves have room for", THIN(FULL, 0, 0), {THIN(FULL / 2, 0, 0), NONE}, 1, HB_TAKEN, THIN(FULL, 0, 0)},
+    {"pool it, and halve again", THIN(FULL, 0, 0), {THIN(FULL / 2, 0, 0), THIN(1, 0, 0)}, 2, HB_TAKEN, THIN(FULL / 2 + 1, 0, 0)},
+    {"halve odd sums", {-3, 3, -5, 5, -HB_LIMIT_RANGE}, {THIN(0, 0, -1), NONE}, 1, HB_TAKEN, {-2, 2, -3, 3, -HB_LIMIT_RANGE / 2 - 1}},
+    {"halve odd sums below 0", {-1, -1, -1, -1, HB_LIMIT_RANGE}, {THIN(0, 0, 1), NONE}, 1, HB_TAKEN,
+     {-1, 0, -1, 0, HB_LIMIT_RANGE / 2 + 1}},
+    {"halve an odd running limit", {0, 0, -HB_LINEAR_RANGE, 7, -7}, {THIN(0, -1, 0), NONE}, 1, HB_TAKEN,
+     {0, 0, -HB_LINEAR_RANGE / 2 - 1, 3, -3}},
+    {"pool an entry above the range", NONE, {NONE, THIN(FULL + 1, 0, 0)}, 2, HB_REFUSED_RANGE, NONE},
+    {"the same behind a crossed one", NONE, {{2, 1, 0, 0, 0}, THIN(FULL + 1, 0, 0)}, 2, HB_REFUSED_RANGE, NONE},
+    {"pool a limit below the range", NONE, {THIN(1, 0, -HB_LIMIT_RANGE - 1), NONE}, 1, HB_REFUSED_RANGE, NONE},
+    {"pool into a running limit above the range", THIN(0, 0, HB_LIMIT_RANGE + 1), {NONE, NONE}, 2, HB_REFUSED_RANGE, NONE},
+    {"pool a linear term below the range", NONE, {NONE, {0, 0, -HB_LINEAR_RANGE - 1, 0, 0}}, 2, HB_REFUSED_RANGE, NONE},
+    {"pool the least number", NONE, {THIN(0, 0, INT64_MIN), NONE}, 1, HB_REFUSED_RANGE, NONE},
+    {"pool crossed bounds", NONE, {NONE, {2, 1, 0, 0, 0}}, 2, HB_REFUSED_CROSSED, NONE},
+    {"the same behind reversed terms", NONE, {{0, 0, 1, 0, 0}, {2, 1, 0, 0, 0}}, 2, HB_REFUSED_CROSSED, NONE},
+    {"pool into crossed sums", {2, 1, 0, 0, 0}, {{0, 0, 1, 0, 0}, NONE}, 1, HB_REFUSED_CROSSED, NONE},
+    {"pool reversed terms", NONE, {NONE, {0, 0, 1, 0, 0}}, 2, HB_REFUSED_REVERSED, NONE},
+    {"the same into full sums", THIN(FULL, 0, 0), {THIN(FULL, 0, 0), {0, 0, 1, 0, 0}}, 2, HB_REFUSED_REVERSED, NONE},
+    {"pool into reversed sums", {0, 0, 1, 0, 0}, {NONE, NONE}, 2, HB_REFUSED_REVERSED, NONE},
+};
+
+static int is_left(const struct pool *pool, const struct single *left)
+{
+    return hb_load_number(pool->low) == left->low && hb_load_number(pool->high) == left->high &&
+           hb_load_number(pool->linear_low) == left->linear_low && hb_load_number(pool->linear_high) == left->linear_high &&
+           hb_load_number(pool->running_limit) == left->limit;
+}
+
+static void run_pool_case(const struct pool_case *test)
+{
+    struct pool pool, before;
+    size_t k;
+    int64_t answer;
+    begin(&pool, 1);
+    hb_store_number(pool.low, test->sums.low);
+    hb_store_number(pool.high, test->sums.high);
+    hb_store_number(pool.linear_low, test->sums.linear_low);
+    hb_store_number(pool.linear_high, test->sums.linear_high);
+    hb_store_number(pool.running_limit, test->sums.limit);
+    for (k = 0; k < 2; k++) {
+        hb_store_number(pool.lows + HB_TABLES_BYTES(1, k), test->problems[k].low);
+        hb_store_number(pool.highs + HB_TABLES_BYTES(1, k), test->problems[k].high);
+        hb_store_number(pool.linear_lows + HB_VECTORS_BYTES(1, k), test->problems[k].linear_low);
+        hb_store_number(pool.linear_highs + HB_VECTORS_BYTES(1, k), test->problems[k].linear_high);
+        hb_store_number(pool.limits + HB_NUMBERS_BYTES(k), test->problems[k].limit);
+    }
+    before = pool;
+    answer = pool_of(&pool, 1, test->count);
+    expect(test->what, answer, test->expected);
+    if (answer == HB_TAKEN) {
+        expect("the sums are left so", is_left(&pool, &test->left), 1);
+        expect("the lists are as they were", memcmp(pool.orders, before.orders, sizeof pool - offsetof(struct pool, orders)), 0);
+    } else {
+        expect("the sums are as they were", memcmp(&pool, &before, sizeof pool), 0);
+    }
+}
+
+/* Every other size of every buffer, the list of orders apart; n and the orders come before it, and the numbers behind it */
+static void run_pool_sizes(void)
+{
+    static const int others[] = {-8, -1, 1, 8};
+    struct pool pool, before;
+    size_t k;
+    int which;
+    expect("the most problems", HB_GREATEST_POOL, 64);
+    expect("the size of a list of numbers", (int64_t)HB_NUMBERS_BYTES(3), 24);
+    expect("the size of a list of tables", (int64_t)HB_TABLES_BYTES(2, 3), 96);
+    expect("the size of a list of ends", (int64_t)HB_VECTORS_BYTES(2, 3), 48);
+    begin(&pool, ORDER);
+    before = pool;
+    for (which = 0; which < BUFFERS; which++)
+        for (k = 0; k < sizeof others / sizeof others[0]; k++) {
+            expect("pool with another size", pool_sized(&pool, ORDER, ORDER, 2, which, others[k]), HB_REFUSED_LENGTH);
+            expect("the same and order 9", pool_sized(&pool, 9, ORDER, 2, which, others[k]), HB_REFUSED_ORDER);
+            hb_store_number(pool.limits, INT64_MAX);
+            expect("the same and a limit beyond its range", pool_sized(&pool, ORDER, ORDER, 2, which, others[k]), HB_REFUSED_LENGTH);
+            hb_store_number(pool.limits, 0);
+            if (which == ORDERS)
+                continue;
+            hb_store_number(pool.orders, 9);
+            expect("the same and a problem of order 9", pool_sized(&pool, ORDER, ORDER, 2, which, others[k]), HB_REFUSED_ORDER);
+            hb_store_number(pool.orders, ORDER);
+        }
+    expect("nothing is written", memcmp(&pool, &before, sizeof pool), 0);
+    expect("pool null buffers",
+           hb_pool(1, NULL, 0, NULL, 0, NULL, 0, NULL, 0, NULL, 0, NULL, 0, NULL, 0, NULL, 0, NULL, 0, NULL, 0, NULL, 0),
+           HB_REFUSED_LENGTH);
+    expect("the same and order 0",
+           hb_pool(0, NULL, 0, NULL, 0, NULL, 0, NULL, 0, NULL, 0, NULL, 0, NULL, 0, NULL, 0, NULL, 0, NULL, 0, NULL, 0),
+           HB_REFUSED_ORDER);
+}
+
+/* Orders in the list that are others, or none, at every place of it */
+static void run_pool_orders(void)
+{
+    static const int64_t none[] = {0, -1, 9, 258, ((int64_t)1 << 32) + 2, INT64_MIN, INT64_MAX};
+    struct pool pool;
+    size_t place, k;
+    begin(&pool, ORDER);
+    expect("pool at order 2", pool_of(&pool, ORDER, PROBLEMS), HB_TAKEN);
+    for (place = 0; place < PROBLEMS; place++) {
+        for (k = 0; k < sizeof none / sizeof none[0]; k++) {
+            hb_store_number(pool.orders + HB_NUMBERS_BYTES(place), none[k]);
+            expect("pool a problem of no order", pool_of(&pool, ORDER, PROBLEMS), HB_REFUSED_ORDER);
+        }
+        hb_store_number(pool.orders + HB_NUMBERS_BYTES(place), 1);
+        expect("pool a problem of another order", pool_of(&pool, ORDER, PROBLEMS), HB_REFUSED_LENGTH);
+        hb_store_number(pool.orders + HB_NUMBERS_BYTES(place), ORDER);
+    }
+    for (k = 0; k < sizeof none / sizeof none[0]; k++)
+        expect("pool at no order", pool_sized(&pool, none[k], ORDER, PROBLEMS, 0, 0), HB_REFUSED_ORDER);
+}
+
+/* No problem, 64 of them and 65, of order 1, from one list of tables and one of ends */
+static void run_pool_counts(void)
+{
+    static uint8_t orders[HB_NUMBERS_BYTES(HB_GREATEST_POOL + 1)], tables[HB_TABLES_BYTES(1, HB_GREATEST_POOL + 1)];
+    uint8_t low[HB_TABLE_BYTES(1)], high[HB_TABLE_BYTES(1)], linear_low[HB_VECTOR_BYTES(1)], linear_high[HB_VECTOR_BYTES(1)];
+    uint8_t running_limit[HB_NUMBER_BYTES];
+    size_t count, k;
+    for (count = 0; count <= HB_GREATEST_POOL + 1; count++) {
+        size_t size = HB_NUMBERS_BYTES(count);
+        int good = 1 <= count && count <= HB_GREATEST_POOL;
+        int64_t sum = good ? (int64_t)(count * (count + 1) / 2) : 7;
+        for (k = 0; k < count; k++) {
+            hb_store_number(orders + HB_NUMBERS_BYTES(k), good ? 1 : 9);
+            hb_store_number(tables + HB_TABLES_BYTES(1, k), (int64_t)k + 1);
+        }
+        for (k = 0; k < 5; k++)
+            hb_store_number(k == 0 ? low : k == 1 ? high : k == 2 ? linear_low : k == 3 ? linear_high : running_limit, good ? 0 : 7);
+        expect("pool so many problems",
+               hb_pool(1, low, sizeof low, high, sizeof high, linear_low, sizeof linear_low, linear_high, sizeof linear_high, running_limit,
+                       sizeof running_limit, orders, size, tables, size, tables, size, tables, size, tables, size, tables, size),
+               good ? HB_TAKEN : HB_REFUSED_LENGTH);
+        expect("the entry", hb_load_number(low) == sum && hb_load_number(high) == sum, 1);
+        expect("the linear term", hb_load_number(linear_low) == sum && hb_load_number(linear_high) == sum, 1);
+        expect("the running limit", hb_load_number(running_limit), sum);
+    }
+}
+
+/* Sums and a problem whose halves differ are both mended, and a pair that leaves no number is refused, in either. */
+static void run_pool_lopsided(void)
+{
+    static const int64_t low[ENTRIES] = {0, 0, -1, 0}, high[ENTRIES] = {0, 2, 1, 0};
+    static const int64_t lows[ENTRIES] = {2, 1, 0, 2}, highs[ENTRIES] = {3, 2, 3, 3};
+    static const int64_t left_low[ENTRIES] = {2, 1, 1, 2}, left_high[ENTRIES] = {3, 3, 3, 3};
+    struct pool pool, before;
+    begin(&pool, ORDER);
+    store(pool.low, low, ENTRIES);
+    store(pool.high, high, ENTRIES);
+    store(pool.lows + HB_TABLES_BYTES(ORDER, 1), lows, ENTRIES);
+    store(pool.highs + HB_TABLES_BYTES(ORDER, 1), highs, ENTRIES);
+    expect("pool lopsided problems", pool_of(&pool, ORDER, PROBLEMS), HB_TAKEN);
+    expect("both are mended", holds(pool.low, left_low, ENTRIES) && holds(pool.high, left_high, ENTRIES), 1);
+    expect("the problem is as it was", holds(pool.lows + HB_TABLES_BYTES(ORDER, 1), lows, ENTRIES), 1);
+    hb_store_number(pool.highs + HB_TABLES_BYTES(ORDER, 1) + 2 * HB_NUMBER_BYTES, 0);
+    before = pool;
+    expect("pool a pair that leaves no number", pool_of(&pool, ORDER, PROBLEMS), HB_REFUSED_LOPSIDED);
+    expect("nothing is written", memcmp(&pool, &before, sizeof pool), 0);
+    expect("without that problem", pool_of(&pool, ORDER, 1), HB_TAKEN);
+    hb_store_number(pool.high + 2 * HB_NUMBER_BYTES, 0);
+    hb_store_number(pool.low + 2 * HB_NUMBER_BYTES, 0);
+    before = pool;
+    expect("pool into a pair that leaves no number", pool_of(&pool, ORDER, 1), HB_REFUSED_LOPSIDED);
+    expect("nothing is written", memcmp(&pool, &before, sizeof pool), 0);
+}
+
+/* The box of sums of order 4 with a limit, around the coefficients 1, 2, 3 and 4 */
+static const int64_t truth[HB_SAMPLE_ORDER] = {1, 2, 3, 4};
+
+static int64_t box_sums(const struct sums *sums, int64_t limit, uint8_t *sides)
+{
+    uint8_t centre[HB_VECTOR_BYTES(HB_SAMPLE_ORDER)];
+    store(centre, truth, HB_SAMPLE_ORDER);
+    return hb_box(HB_SAMPLE_ORDER, sums->low, sizeof sums->low, sums->high, sizeof sums->high, sums->linear_low, sizeof sums->linear_low,
+                  sums->linear_high, sizeof sums->linear_high, limit, centre, sizeof centre, sides, HB_SIDES_BYTES(HB_SAMPLE_ORDER));
+}
+
+/* Two problems of order 4 in six lists */
+struct lists {
+    uint8_t orders[HB_NUMBERS_BYTES(2)];
+    uint8_t lows[HB_TABLES_BYTES(HB_SAMPLE_ORDER, 2)];
+    uint8_t highs[HB_TABLES_BYTES(HB_SAMPLE_ORDER, 2)];
+    uint8_t linear_lows[HB_VECTORS_BYTES(HB_SAMPLE_ORDER, 2)];
+    uint8_t linear_highs[HB_VECTORS_BYTES(HB_SAMPLE_ORDER, 2)];
+    uint8_t limits[HB_NUMBERS_BYTES(2)];
+};
+
+/* Puts a ride, which was read with a limit, to its place in the lists. */
+static void put_ride(struct lists *lists, size_t place, const struct sums *ride, int64_t limit)
+{
+    hb_store_number(lists->orders + HB_NUMBERS_BYTES(place), HB_SAMPLE_ORDER);
+    memcpy(lists->lows + HB_TABLES_BYTES(HB_SAMPLE_ORDER, place), ride->low, sizeof ride->low);
+    memcpy(lists->highs + HB_TABLES_BYTES(HB_SAMPLE_ORDER, place), ride->high, sizeof ride->high);
+    memcpy(lists->linear_lows + HB_VECTORS_BYTES(HB_SAMPLE_ORDER, place), ride->linear_low, sizeof ride->linear_low);
+    memcpy(lists->linear_highs + HB_VECTORS_BYTES(HB_SAMPLE_ORDER, place), ride->linear_high, sizeof ride->linear_high);
+    hb_store_number(lists->limits + HB_NUMBERS_BYTES(place), limit);
+}
+
+static int64_t pool_rides(struct sums *sums, const struct lists *lists)
+{
+    return hb_pool(HB_SAMPLE_ORDER, sums->low, sizeof sums->low, sums->high, sizeof sums->high, sums->linear_low, sizeof sums->linear_low,
+                   sums->linear_high, sizeof sums->linear_high, sums->running_limit, sizeof sums->running_limit, lists->orders,
+                   sizeof lists->orders, lists->lows, sizeof lists->lows, lists->highs, sizeof lists->highs, lists->linear_lows,
+                   sizeof lists->linear_lows, lists->linear_highs, sizeof lists->linear_highs, lists->limits, sizeof lists->limits);
+}
+
+/* Two rides of these coefficients, which leave some of them open alone: read, pooled and read again, these alone are left. */
+static void run_rides_to_box(void)
+{
+    static const hb_sample rides[2][2] = {{{5, 0, 0, 0, 5}, {0, 2, 0, 0, 4}}, {{0, 0, 2, 0, 6}, {0, 0, 0, 2, 8}}};
+    uint8_t sides[HB_SIDES_BYTES(HB_SAMPLE_ORDER)];
+    struct sums ride, season;
+    struct lists lists;
+    int64_t limit;
+    size_t k;
+    memset(&season, 0, sizeof season);
+    for (k = 0; k < 2; k++) {
+        memset(&ride, 0, sizeof ride);
+        expect("gather a ride", gather(&ride, rides[k][0]), HB_TAKEN);
+        expect("gather more of it", gather(&ride, rides[k][1]), HB_TAKEN);
+        expect("read it", read_sums(&ride, 0, &limit), HB_WRITTEN);
+        put_ride(&lists, k, &ride, limit);
+        expect("a ride alone is flat", box_sums(&ride, limit, sides), HB_REFUSED_FLAT);
+    }
+    expect("pool both", pool_rides(&season, &lists), HB_TAKEN);
+    expect("read the pool", read_sums(&season, 0, &limit), HB_WRITTEN);
+    expect("box it", box_sums(&season, limit, sides), HB_BOX);
+    for (k = 0; k < HB_SAMPLE_ORDER; k++) {
+        expect("the low of a side", hb_load_number(sides + 2 * k * HB_NUMBER_BYTES), truth[k]);
+        expect("its high", hb_load_number(sides + (2 * k + 1) * HB_NUMBER_BYTES), truth[k]);
+    }
+    expect("gather into the pool", gather(&season, rides[0][0]), HB_TAKEN);
 }
 
 /* From samples to a box without arithmetic: the draws are those of the coefficients 1, 2, 3 and 4, and these alone are left. */
 static void run_samples_to_box(void)
 {
     static const hb_sample samples[] = {{5, 0, 0, 0, 5}, {0, 2, 0, 0, 4}, {0, 0, 2, 0, 6}, {0, 0, 0, 2, 8}, {1, 1, 0, 1, 7}};
-    static const int64_t truth[HB_SAMPLE_ORDER] = {1, 2, 3, 4};
-    uint8_t centre[HB_VECTOR_BYTES(HB_SAMPLE_ORDER)], sides[HB_SIDES_BYTES(HB_SAMPLE_ORDER)];
+    uint8_t sides[HB_SIDES_BYTES(HB_SAMPLE_ORDER)];
     struct sums sums;
     int64_t limit;
     size_t k;
@@ -771,11 +1120,7 @@ static void run_samples_to_box(void)
     for (k = 0; k < sizeof samples / sizeof samples[0]; k++)
         expect("gather", gather(&sums, samples[k]), HB_TAKEN);
     expect("read", read_sums(&sums, 0, &limit), HB_WRITTEN);
-    store(centre, truth, HB_SAMPLE_ORDER);
-    expect("box",
-           hb_box(HB_SAMPLE_ORDER, sums.low, sizeof sums.low, sums.high, sizeof sums.high, sums.linear_low, sizeof sums.linear_low,
-                  sums.linear_high, sizeof sums.linear_high, limit, centre, sizeof centre, sides, sizeof sides),
-           HB_BOX);
+    expect("box", box_sums(&sums, limit, sides), HB_BOX);
     for (k = 0; k < HB_SAMPLE_ORDER; k++) {
         expect("the low of a side", hb_load_number(sides + 2 * k * HB_NUMBER_BYTES), truth[k]);
         expect("its high", hb_load_number(sides + (2 * k + 1) * HB_NUMBER_BYTES), truth[k]);
@@ -1018,9 +1363,17 @@ int main(void)
     run_numbers();
     run_gather();
     run_gather_refused();
+    run_gather_halved();
     run_gather_sizes();
     run_gather_lopsided();
     run_samples_to_box();
+    for (k = 0; k < sizeof pool_cases / sizeof pool_cases[0]; k++)
+        run_pool_case(&pool_cases[k]);
+    run_pool_sizes();
+    run_pool_orders();
+    run_pool_counts();
+    run_pool_lopsided();
+    run_rides_to_box();
     for (k = 0; k < sizeof write_cases / sizeof write_cases[0]; k++)
         run_write_case(&write_cases[k]);
     run_read_summary();

@@ -1,4 +1,4 @@
-/* The second implementation's output for a summary file, its bracket of the stiffness, and new files: the C side of src/lib.rs. */
+/* The second implementation's output for a summary file, its bracket, its pools, and new files: the C side of src/lib.rs. */
 #ifndef FUZZ_H
 #define FUZZ_H
 
@@ -13,6 +13,11 @@ int64_t fuzz_read(const uint8_t *file, size_t size, uint8_t *problem);
 size_t fuzz_again(const uint8_t *file, size_t size, uint8_t *again, size_t room);
 /* Writes the bracket of a problem into the three buffers of hb_stiffness, which have their sizes, one behind the other; the answer. */
 int64_t fuzz_bracket(int64_t n, const uint8_t *low, const uint8_t *high, uint8_t *bracket);
+/*
+ * Pools a problem of order 1 to 8, as often as there are orders, into the five sums of hb_pool, which have their sizes, one behind the
+ * other; the answer. The problem is its two tables, its two ends and its limit, one behind the other, too.
+ */
+int64_t fuzz_pool(int64_t n, uint8_t *sums, const uint8_t *problem, const uint8_t *orders, size_t count);
 /* Puts right what refuses a file; its new length, the old where it has no room. */
 size_t fuzz_repair(uint8_t *file, size_t size, size_t room);
 /* Writes a generated file; its length, 0 where it has no room. */

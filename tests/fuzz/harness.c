@@ -5,7 +5,7 @@
  * bytes; and what it reads hb_write_summary has to write as the file of the mended problem: the same file where its tables are symmetric.
  * hb_judge has to write the number that the program prints behind `over`, and to keep its buffer where it prints no such line.
  * hb_stiffness has to answer as the second implementation does and to leave the same bytes, with a step exactly where the program prints
- * `definite`.
+ * `definite`. hb_pool, handed what was read some times over and the same for its sums, or zeros, has to answer and to leave the same too.
  */
 #define _GNU_SOURCE
 #include <errno.h>
@@ -270,6 +270,51 @@ static bool same_bracket(const struct problem *read, const char *text) {
            (answer == HB_BETWEEN) == (text[0] == 'd');
 }
 
+/* Room for the five sums of the greatest order, or for a problem without its centre, one behind the other */
+#define SUMS_BYTES (2 * HB_TABLE_BYTES(HB_MAX_ORDER) + 2 * HB_VECTOR_BYTES(HB_MAX_ORDER) + HB_NUMBER_BYTES)
+
+/* Lays down what was read, without its centre, so many times over: each part is a list. */
+static void lay_lists(const struct problem *read, size_t table, size_t vector, size_t count, uint8_t *place) {
+    const uint8_t *parts[] = {read->low, read->high, read->linear_low, read->linear_high, read->limit};
+    const size_t sizes[] = {table, table, vector, vector, HB_NUMBER_BYTES};
+    for (size_t part = 0; part < 5; part++) {
+        for (size_t k = 0; k < count; k++) {
+            memcpy(place, parts[part], sizes[part]);
+            place += sizes[part];
+        }
+    }
+}
+
+/*
+ * Whether hb_pool pools what was read as the second implementation does: up to 3 times, and one time in eight 64 times, into sums of zeros
+ * or into the same numbers. Now and then the last order in the list is another, or none.
+ */
+static bool same_pool(const struct problem *read) {
+    static uint8_t lists[HB_GREATEST_POOL * SUMS_BYTES];
+    uint8_t sums[SUMS_BYTES] = {0}, expected[SUMS_BYTES] = {0}, problem[SUMS_BYTES], orders[HB_NUMBERS_BYTES(HB_GREATEST_POOL)];
+    int64_t n = hb_load_number(read->order);
+    size_t table = HB_TABLE_BYTES(n), vector = HB_VECTOR_BYTES(n);
+    size_t count = read->centre[0] % 8 == 3 ? HB_GREATEST_POOL : 1 + read->centre[0] % 3;
+    lay_lists(read, table, vector, 1, problem);
+    lay_lists(read, table, vector, count, lists);
+    for (size_t k = 0; k < count; k++) {
+        hb_store_number(orders + HB_NUMBERS_BYTES(k), n);
+    }
+    if (read->low[1] % 16 == 7) {
+        hb_store_number(orders + HB_NUMBERS_BYTES(count - 1), read->low[0] % 16);
+    }
+    if (read->low[0] % 2 == 1) {
+        memcpy(sums, problem, 2 * table + 2 * vector + HB_NUMBER_BYTES);
+        memcpy(expected, sums, sizeof sums);
+    }
+    uint8_t *high = sums + table, *linear_low = high + table, *linear_high = linear_low + vector, *running_limit = linear_high + vector;
+    uint8_t *highs = lists + count * table, *linear_lows = highs + count * table, *linear_highs = linear_lows + count * vector;
+    int64_t answer = hb_pool(n, sums, table, high, table, linear_low, vector, linear_high, vector, running_limit, HB_NUMBER_BYTES, orders,
+                             HB_NUMBERS_BYTES(count), lists, count * table, highs, count * table, linear_lows, count * vector, linear_highs,
+                             count * vector, linear_highs + count * vector, HB_NUMBERS_BYTES(count));
+    return answer == fuzz_pool(n, expected, problem, orders, count) && memcmp(sums, expected, sizeof sums) == 0;
+}
+
 static void compare_reading(const uint8_t *data, size_t size, const char *text) {
     struct problem read, expected;
     memset(&read, 0x5A, sizeof read);
@@ -293,6 +338,10 @@ static void compare_reading(const uint8_t *data, size_t size, const char *text) 
     }
     if (answer == HB_WRITTEN && !same_bracket(&read, text)) {
         fprintf(stderr, "DIFFERENCE on %zu bytes: hb_stiffness gives another bracket than the second implementation:\n%s", size, text);
+        abort();
+    }
+    if (answer == HB_WRITTEN && !same_pool(&read)) {
+        fprintf(stderr, "DIFFERENCE on %zu bytes: hb_pool answers or leaves otherwise than the second implementation\n", size);
         abort();
     }
 }

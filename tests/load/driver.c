@@ -48,7 +48,7 @@
 
 #define THREADS 2
 #define GUARD 32
-#define PAGE 12288 /* three of the processor's, so that a file which is twice too long has room */
+#define PAGE 36864 /* nine of the processor's, so that a list of 65 tables of the greatest order has room */
 /* Numbers are dealt to the threads in blocks of this many. */
 #define BLOCK 120
 #define PROGRESS 10 /* seconds */
@@ -88,8 +88,8 @@ static const struct act acts[LOAD_ACTS] = {
                      {{HB_TAKEN, "taken"},
                       {HB_REFUSED_SAMPLE, "sample"},
                       REFUSED_1_TO_5,
-                      {HB_REFUSED_REVERSED, "reversed"},
-                      {HB_REFUSED_FULL, "full"}}},
+                      {HB_REFUSED_REVERSED, "reversed"}}},
+    [LOAD_POOL] = {"hb_pool", {{HB_TAKEN, "taken"}, REFUSED_1_TO_5, {HB_REFUSED_REVERSED, "reversed"}, {HB_REFUSED_FULL, "full"}}},
     [LOAD_READ_SUMS] = {"hb_read_sums", {{HB_WRITTEN, "written"}, REFUSED_1_TO_5, {HB_REFUSED_REVERSED, "reversed"}}},
     [LOAD_WRITE_SUMMARY] = {"hb_write_summary", {{HB_WRITTEN, "written"}, REFUSED_1_TO_5, {HB_REFUSED_REVERSED, "reversed"}}},
     [LOAD_READ_SUMMARY] = {"hb_read_summary",
@@ -243,7 +243,7 @@ static int64_t answered(const struct load_call *call, const struct place *lent) 
     hb_sample sample;
     memcpy(&sample, call->sample, sizeof sample);
     const struct place *low = &lent[0], *high = &lent[1], *third = &lent[2], *fourth = &lent[3], *fifth = &lent[4], *sixth = &lent[5];
-    const struct place *seventh = &lent[6], *eighth = &lent[7];
+    const struct place *seventh = &lent[6], *eighth = &lent[7], *ninth = &lent[8], *tenth = &lent[9], *eleventh = &lent[10];
     switch (call->act) {
     case LOAD_JUDGE:
         return hb_judge(n, low->lent, low->length, high->lent, high->length, third->lent, third->length, fourth->lent, fourth->length,
@@ -259,6 +259,10 @@ static int64_t answered(const struct load_call *call, const struct place *lent) 
     case LOAD_GATHER:
         return hb_gather(sample, n, low->lent, low->length, high->lent, high->length, third->lent, third->length, fourth->lent, fourth->length,
                          fifth->lent, fifth->length);
+    case LOAD_POOL:
+        return hb_pool(n, low->lent, low->length, high->lent, high->length, third->lent, third->length, fourth->lent, fourth->length,
+                       fifth->lent, fifth->length, sixth->lent, sixth->length, seventh->lent, seventh->length, eighth->lent, eighth->length,
+                       ninth->lent, ninth->length, tenth->lent, tenth->length, eleventh->lent, eleventh->length);
     case LOAD_READ_SUMS:
         return hb_read_sums(n, low->lent, low->length, high->lent, high->length, third->lent, third->length, fourth->lent, fourth->length,
                             call->running_limit, call->allowance, fifth->lent, fifth->length);
@@ -286,8 +290,8 @@ static bool is_written(const struct load_call *call, size_t k) {
     if (call->act == LOAD_STIFFNESS) { /* the bound with its vector, and the step before them */
         return (call->answer == HB_BETWEEN && k >= 2) || (call->answer == HB_AT_MOST && k >= 3);
     }
-    if (call->act == LOAD_GATHER) {
-        return call->answer == HB_TAKEN;
+    if (call->act == LOAD_GATHER || call->act == LOAD_POOL) { /* the sums */
+        return call->answer == HB_TAKEN && k < 5;
     }
     if (call->act == LOAD_READ_SUMS) {
         return call->answer == HB_WRITTEN && k == 4;
@@ -305,7 +309,7 @@ static bool is_written(const struct load_call *call, size_t k) {
 static void lend(struct worker *worker, const struct load_call *call, struct place *lent, bool *sealed) {
     for (size_t k = 0; k < call->count; k++) {
         uint64_t bits = mixed(mixed(seed ^ (current << 3)) ^ k);
-        bool read_only = k < call->only_read;
+        bool read_only = k >= call->only_read_from && k < call->read;
         lent[k] = chosen(call->buffers[k].length, worker->pages[k], bits);
         lay(&lent[k], &call->buffers[k]);
         sealed[k] = read_only && !lent[k].heap && (bits >> 16) % 8 == 0;

@@ -12,6 +12,7 @@ enum {
     LOAD_BOX,
     LOAD_STIFFNESS,
     LOAD_GATHER,
+    LOAD_POOL,
     LOAD_READ_SUMS,
     LOAD_WRITE_SUMMARY,
     LOAD_READ_SUMMARY,
@@ -19,7 +20,7 @@ enum {
 };
 
 /* The most buffers that an act has. */
-#define LOAD_MOST 8
+#define LOAD_MOST 11
 
 /* A buffer: its bytes before the call and those expected after it. Both pointers are good if the length is 0 too, but have nothing to read. */
 struct load_buffer {
@@ -28,14 +29,14 @@ struct load_buffer {
 };
 
 /*
- * A call: the act, its numbers, the answer expected, the bits of a sample's floats in their order, how many of its buffers are read (the first ones) and
- * how many of these are only read, all or none, and its buffers in the entry's order. What an act does not take is 0, but n of a summary that is read is
- * the order that the file begins with.
+ * A call: the act, its numbers, the answer expected, the bits of a sample's floats in their order, how many of its buffers are read (the
+ * first ones), from which one on these are only read, and its buffers in the entry's order. What an act does not take is 0, but n of a
+ * summary that is read is the order that the file begins with.
  */
 struct load_call {
     int64_t act, n, limit, running_limit, allowance, answer;
     uint32_t sample[5];
-    size_t read, only_read, count;
+    size_t read, only_read_from, count;
     struct load_buffer buffers[LOAD_MOST];
 };
 

@@ -83,7 +83,7 @@ pub struct WriteCall {
 }
 
 /// Orders that check 1 refuses.
-const WRONG_ORDERS: [i64; 9] = [
+pub(super) const WRONG_ORDERS: [i64; 9] = [
     0,
     -1,
     9,

@@ -56,6 +56,29 @@ pub fn mirrored(place: usize, count: usize) -> usize {
     place % order * order + place / order
 }
 
+/// Changes one number of a list of tables of an order. In a symmetric pair of places the other
+/// is mostly changed with it.
+pub fn change_table(buffer: &mut [u8], order: usize, random: &mut Random) {
+    let (count, table) = (count(buffer), order * order);
+    if count == 0 {
+        return;
+    }
+    let place = random.index(count);
+    let before = read(buffer, place).expect("the place is in the buffer");
+    let after = changed(before, random);
+    write(buffer, place, after);
+    let first = place / table * table;
+    let mirrored = first + mirrored(place - first, table);
+    if read(buffer, mirrored) == Some(before) && !random.one_in(8) {
+        write(buffer, mirrored, after);
+    }
+}
+
+/// Changes one number of a list.
+pub fn change_list(buffer: &mut [u8], random: &mut Random) {
+    change_table(buffer, 1, random);
+}
+
 /// Whether a table is not symmetric. One that is not square is not looked at.
 pub fn is_lopsided(table: &[i64]) -> bool {
     let (count, order) = (table.len(), table.len().isqrt());

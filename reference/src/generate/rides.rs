@@ -2,7 +2,7 @@
 
 use super::{Generator, RawProblem};
 use crate::floats::bracket;
-use crate::problem::{ENTRY_RANGE, LIMIT_RANGE, LINEAR_RANGE};
+use crate::problem::LIMIT_RANGE;
 use crate::rides::{gather, Sample, MOST_ALLOWANCE, SAMPLE_ORDER};
 use crate::summary::{encode, NUMBER_WIDTH};
 
@@ -126,57 +126,15 @@ impl Generator {
             let wide = self.random.one_in(2);
             return self.problem(kind, SAMPLE_ORDER, wide);
         }
-        let mut sums = RawProblem {
-            order: SAMPLE_ORDER,
-            low: vec![0; SAMPLE_ORDER * SAMPLE_ORDER],
-            high: vec![0; SAMPLE_ORDER * SAMPLE_ORDER],
-            linear_low: vec![0; SAMPLE_ORDER],
-            linear_high: vec![0; SAMPLE_ORDER],
-            limit: 0,
-            centre: vec![0; SAMPLE_ORDER],
-        };
+        let mut sums = RawProblem::zeros(SAMPLE_ORDER);
         for _ in 0..self.random.pick(&[0, 1, 3, 30]) {
             let sample = self.good_sample();
-            let limit = std::slice::from_mut(&mut sums.limit);
-            let (low, high) = (&mut sums.low, &mut sums.high);
-            let (least, most) = (&mut sums.linear_low, &mut sums.linear_high);
-            gather(&sample, SAMPLE_ORDER as i64, low, high, least, most, limit)
-                .expect("so few samples have room");
+            gather(&sample, SAMPLE_ORDER as i64, sums.lend()).expect("18 never refuses a sample");
         }
         if self.random.one_in(2) {
             self.fill_up(&mut sums);
         }
         sums
-    }
-
-    /// Brings some sum to the end of its range, or near it.
-    fn fill_up(&mut self, sums: &mut RawProblem) {
-        let room = self.random.pick(&[0, 1, 200, 20_000]);
-        let room = self.random.between(0, room);
-        let sign = self.random.pick(&[-1, 1]);
-        let end = |range: i128| sign * (range as i64 - room);
-        let (i, j) = (
-            self.random.index(SAMPLE_ORDER),
-            self.random.index(SAMPLE_ORDER),
-        );
-        match self.random.index(3) {
-            0 => {
-                for (i, j) in [(i, j), (j, i)] {
-                    let place = i * SAMPLE_ORDER + j;
-                    stretch(
-                        &mut sums.low[place],
-                        &mut sums.high[place],
-                        end(ENTRY_RANGE),
-                    );
-                }
-            }
-            1 => stretch(
-                &mut sums.linear_low[i],
-                &mut sums.linear_high[i],
-                end(LINEAR_RANGE),
-            ),
-            _ => sums.limit = end(LIMIT_RANGE),
-        }
     }
 
     /// A call of gathering.
@@ -261,17 +219,6 @@ impl Generator {
         } else {
             self.random.between(0, range)
         }
-    }
-}
-
-/// Moves one end to a number, and the other with it where it would be crossed.
-fn stretch(low: &mut i64, high: &mut i64, number: i64) {
-    if number < 0 {
-        *low = number;
-        *high = number.max(*high);
-    } else {
-        *high = number;
-        *low = number.min(*low);
     }
 }
 

@@ -72,18 +72,31 @@ fn in_units(exact: Exact) -> i128 {
 impl Generator {
     /// A ride of so many samples, each draw off by up to `noise`.
     pub fn ride(&mut self, road: Road, count: usize, noise: f64) -> Ride {
-        let p = self.random.between(1, MOST);
         let size = self.random.pick(&[1, 10, 60]);
-        let truth = Fractions {
+        let truth = self.coefficients(size);
+        self.ride_of(&truth, road, count, noise)
+    }
+
+    /// Coefficients of up to this size, to be known.
+    pub fn coefficients(&mut self, size: i64) -> Fractions {
+        let p = self.random.between(1, MOST);
+        Fractions {
             numbers: (0..4)
                 .map(|_| i128::from(self.random.within(size * p)))
                 .collect(),
             denominator: i128::from(p),
-        };
+        }
+    }
+
+    /// A ride with these coefficients.
+    pub fn ride_of(&mut self, truth: &Fractions, road: Road, count: usize, noise: f64) -> Ride {
         let samples = (0..count)
-            .map(|_| self.simulated(road, &truth, noise))
+            .map(|_| self.simulated(road, truth, noise))
             .collect();
-        Ride { samples, truth }
+        Ride {
+            samples,
+            truth: truth.clone(),
+        }
     }
 
     /// A sample whose draw comes of the coefficients. Factors are made smaller

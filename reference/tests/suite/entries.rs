@@ -3,7 +3,9 @@
 use hankboulder_reference::entries;
 use hankboulder_reference::generate::Generator;
 
-use crate::support::{bytes, run_box, run_factor, run_gather, run_judge, run_stiffness, run_sums};
+use crate::support::{
+    bytes, run_box, run_factor, run_gather, run_judge, run_pool, run_stiffness, run_sums,
+};
 
 /// 'Definite' keeps the vector, 'not definite' the factor, all others both. What the
 /// rows have over is written with the factor.
@@ -101,6 +103,21 @@ fn gathering_writes_only_what_is_taken() {
         let before = generator.gather_call();
         let mut after = before.clone();
         let code = run_gather(&mut after);
+        assert!(code == 0 || after == before, "{code}");
+        changed += usize::from(after != before);
+    }
+    assert!(changed > 900, "{changed}");
+}
+
+/// The sums are written where the problems are taken and nowhere else, and no list is.
+#[test]
+fn pooling_writes_only_what_is_taken() {
+    let mut generator = Generator::new(15);
+    let mut changed = 0;
+    for _ in 0..3000 {
+        let before = generator.pool_call();
+        let mut after = before.clone();
+        let code = run_pool(&mut after);
         assert!(code == 0 || after == before, "{code}");
         changed += usize::from(after != before);
     }

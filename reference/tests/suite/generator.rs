@@ -6,16 +6,18 @@ use hankboulder_reference::entries;
 use hankboulder_reference::generate::numbers::is_lopsided;
 use hankboulder_reference::generate::{Generator, RawProblem, EDGES, KINDS};
 use hankboulder_reference::judge::{verdict, List, Verdict};
+use hankboulder_reference::pool::add_all;
 use hankboulder_reference::problem::Bounds;
 use hankboulder_reference::program::output;
 use hankboulder_reference::residual::{check_factor, over, rows_over};
 use hankboulder_reference::stiffness::{bracket_of, has_smaller_fraction};
 use hankboulder_reference::summary::read_problem;
+use hankboulder_reference::sums::Sums;
 use hankboulder_reference::writer::file_of;
 
 use crate::support::{
-    enclose_problem, judge, numbers, run_box, run_factor, run_gather, run_judge, run_read,
-    run_stiffness, run_sums, run_write,
+    enclose_problem, judge, numbers, run_box, run_factor, run_gather, run_judge, run_pool,
+    run_read, run_stiffness, run_sums, run_write,
 };
 
 /// How often each answer was met.
@@ -45,7 +47,11 @@ fn the_same_seed_gives_the_same_calls() {
             generator.box_call(),
             generator.stiffness_call(),
         );
-        let rides = (generator.gather_call(), generator.sums_call());
+        let rides = (
+            generator.gather_call(),
+            generator.sums_call(),
+            generator.pool_call(),
+        );
         let files = (generator.write_call(), generator.read_call());
         (
             problem,
@@ -213,7 +219,7 @@ fn brackets_of_every_kind_are_met_at_every_order() {
 fn calls_of_gathering_meet_every_answer() {
     let mut generator = Generator::new(61);
     let counts = count(3000, || run_gather(&mut generator.gather_call()));
-    assert_met(&counts, &[0, 1, 2, 3, 4, 5, 16, 17, 18]);
+    assert_met(&counts, &[0, 1, 2, 3, 4, 5, 16, 17]);
 }
 
 #[test]
@@ -221,6 +227,84 @@ fn calls_of_reading_the_sums_meet_every_answer() {
     let mut generator = Generator::new(62);
     let counts = count(3000, || run_sums(&mut generator.sums_call()));
     assert_met(&counts, &[0, 1, 2, 3, 4, 5, 16]);
+}
+
+/// At every order; at order 1 a table leaves a number.
+#[test]
+fn calls_of_pooling_meet_every_answer() {
+    let mut generator = Generator::new(75);
+    let mut met: BTreeMap<i64, Counts> = BTreeMap::new();
+    let mut counted: BTreeMap<usize, usize> = BTreeMap::new();
+    for _ in 0..20_000 {
+        let mut call = generator.pool_call();
+        let answer = run_pool(&mut call);
+        *met.entry(call.n).or_default().entry(answer).or_default() += 1;
+        *counted.entry(call.orders.len()).or_default() += 1;
+    }
+    for n in 1..=8 {
+        let fewer = [0, 1, 2, 3, 4, 16, 18];
+        let all = [0, 1, 2, 3, 4, 5, 16, 18];
+        assert_met(&met[&n], if n == 1 { &fewer } else { &all });
+        assert!(met[&n].values().all(|count| *count >= 10), "{n}: {met:?}");
+    }
+    for (n, counts) in met.iter().filter(|(n, _)| !(1..=8).contains(*n)) {
+        assert_met(counts, &[1]);
+        assert!(counts[&1] > 0, "{n}");
+    }
+    // Lists of no, one, two, 63, 64 and 65 orders, and of bytes beside them
+    for length in [0, 7, 8, 9, 16, 504, 512, 513, 520] {
+        let count = counted.get(&length).copied().unwrap_or(0);
+        assert!(count >= 40, "{count} lists of {length} bytes");
+    }
+}
+
+/// Which of the problems halve the sums: none, the first alone, a middle one alone, the last
+/// alone of several, and three in a row.
+fn halving_kind(halved: &[bool]) -> Option<usize> {
+    let places: Vec<usize> = (0..halved.len()).filter(|k| halved[*k]).collect();
+    if places.windows(3).any(|three| three[0] + 2 == three[2]) {
+        return Some(4);
+    }
+    match (&places[..], halved.len() - 1) {
+        ([], _) => Some(0),
+        ([0], _) => Some(1),
+        ([k], last) if *k == last => Some(3),
+        ([_], _) => Some(2),
+        _ => None,
+    }
+}
+
+/// Sums are halved, and 18 refuses, at the first, a middle and the last problem, at every
+/// order.
+#[test]
+fn pools_halve_and_refuse_at_every_place() {
+    let mut generator = Generator::new(76);
+    let mut halvings: BTreeMap<usize, [usize; 5]> = BTreeMap::new();
+    let mut full: BTreeMap<usize, [usize; 3]> = BTreeMap::new();
+    for _ in 0..12_000 {
+        let raw = generator.pool();
+        let problems: Vec<Sums> = raw.problems.iter().map(RawProblem::as_sums).collect();
+        let adding = add_all(raw.sums.as_sums(), &problems);
+        let order = raw.sums.order;
+        if adding.outcome.is_ok() {
+            let met = halvings.entry(order).or_default();
+            halving_kind(&adding.halved)
+                .into_iter()
+                .for_each(|kind| met[kind] += 1);
+        } else if problems.len() > 1 {
+            let place = match adding.halved.len() {
+                0 => 0,
+                k if k + 1 == problems.len() => 2,
+                _ => 1,
+            };
+            full.entry(order).or_default()[place] += 1;
+        }
+    }
+    for n in 1..=8 {
+        let met = (halvings[&n], full[&n]);
+        assert!(met.0.iter().all(|count| *count >= 20), "{n}: {met:?}");
+        assert!(met.1.iter().all(|count| *count >= 20), "{n}: {met:?}");
+    }
 }
 
 #[test]
@@ -295,7 +379,13 @@ fn lopsided_sums_and_summaries_meet_every_answer() {
         let lopsided = has_lopsided(&call.low, &call.high);
         (lopsided, run_gather(&mut call))
     });
-    assert_met(&counts, &[0, 1, 2, 3, 4, 5, 16, 17, 18]);
+    assert_met(&counts, &[0, 1, 2, 3, 4, 5, 16, 17]);
+    let counts = count_lopsided(|| {
+        let mut call = own.pool_call();
+        let sums = has_lopsided(&call.low, &call.high);
+        (sums, run_pool(&mut call))
+    });
+    assert_met(&counts, &[0, 1, 2, 3, 4, 5, 16, 18]);
     let counts = count_lopsided(|| {
         let mut call = own.sums_call();
         (has_lopsided(&call.low, &call.high), run_sums(&mut call))

@@ -7,6 +7,7 @@ mod generator;
 mod listed_cases;
 mod mended;
 mod over;
+mod pools;
 mod program_text;
 mod properties;
 mod readings;

@@ -11,7 +11,7 @@ use hankboulder_reference::program::output;
 use hankboulder_reference::random::Random;
 use hankboulder_reference::refusal::Refusal;
 use hankboulder_reference::residual::residual_tables;
-use hankboulder_reference::rides::Sample;
+use hankboulder_reference::rides::{gather, Sample};
 use hankboulder_reference::summary::{fields, read_problem};
 use hankboulder_reference::writer::file_of;
 
@@ -415,15 +415,7 @@ fn a_pair_that_leaves_no_number_of_every_kind_and_order() {
 
 /// Sums of order 4, zero but for these bounds at (1,2) and (2,1).
 fn sums(upper: (i64, i64), lower: (i64, i64)) -> RawProblem {
-    let mut sums = RawProblem {
-        order: 4,
-        low: vec![0; 16],
-        high: vec![0; 16],
-        linear_low: vec![0; 4],
-        linear_high: vec![0; 4],
-        limit: 0,
-        centre: vec![0; 4],
-    };
+    let mut sums = RawProblem::zeros(4);
     (sums.low[1], sums.high[1]) = upper;
     (sums.low[4], sums.high[4]) = lower;
     sums
@@ -455,7 +447,7 @@ fn sums_are_mended_before_a_sample_is_added() {
 }
 
 #[test]
-fn a_half_that_is_mended_away_plays_no_part_in_18() {
+fn a_half_that_is_mended_away_halves_nothing() {
     let (plus, minus) = (
         [0.0625, 0.0625, 0.0, 0.0, 0.0],
         [0.0625, -0.0625, 0.0, 0.0, 0.0],
@@ -468,19 +460,19 @@ fn a_half_that_is_mended_away_plays_no_part_in_18() {
     for (upper, lower) in [((-ENTRY, 0), (-4, 0)), ((-4, 0), (-ENTRY, 0))] {
         assert_eq!(gathered(upper, lower, minus), (0, [(-5, -1); 2]));
     }
-    // Where both halves are at the end there is no room, and the sums stay lopsided.
+    // Where both halves are at the end there is no room, and the mended sums are halved.
     let full = ((-7, ENTRY), (-9, ENTRY));
-    assert_eq!(gathered(full.0, full.1, plus), (18, [full.0, full.1]));
+    assert_eq!(gathered(full.0, full.1, plus), (0, [(-3, 524_289); 2]));
     let full = ((-ENTRY, 7), (-ENTRY, 9));
-    assert_eq!(gathered(full.0, full.1, minus), (18, [full.0, full.1]));
+    assert_eq!(gathered(full.0, full.1, minus), (0, [(-524_289, 3); 2]));
 }
 
-/// Any sample, into sums of any kind: what is taken leaves what the mended sums have with
-/// it, and every refusal, 18 too, leaves lopsided sums lopsided.
+/// Any sample, into sums of any kind: it is taken, and leaves what the mended sums have with
+/// it, halved or not.
 #[test]
 fn gathering_into_lopsided_sums_of_every_kind() {
     let mut generator = Generator::new(86);
-    let (mut taken, mut full) = (0, 0);
+    let mut counts = [0; 2];
     for _ in 0..6000 {
         let apart = generator.sums();
         if apart.is_symmetric() {
@@ -488,17 +480,13 @@ fn gathering_into_lopsided_sums_of_every_kind() {
         }
         let drawn = generator.good_sample();
         let [mut one, mut other] = [&apart, &apart.mended()].map(|s| gather_call(s, drawn));
-        let answer = run_gather(&mut one);
-        assert_eq!(answer, run_gather(&mut other));
-        if answer == 0 {
-            assert_eq!(one, other);
-            taken += 1;
-        } else {
-            assert_eq!(one, gather_call(&apart, drawn));
-            full += usize::from(answer == 18);
-        }
+        assert_eq!(run_gather(&mut one), 0);
+        assert_eq!(run_gather(&mut other), 0);
+        assert_eq!(one, other);
+        let halved = gather(&drawn, 4, apart.clone().lend());
+        counts[usize::from(halved.unwrap())] += 1;
     }
-    assert!(taken > 800 && full > 100, "{taken} {full}");
+    assert!(counts[0] > 800 && counts[1] > 100, "{counts:?}");
 }
 
 /// Order 2: L = [5 1; 0 6], U = [5 3; 2 6], and its terms 0.

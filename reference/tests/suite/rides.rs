@@ -5,6 +5,7 @@ use hankboulder_reference::floats::{bracket, sixteenfold, Exact};
 use hankboulder_reference::generate::{Generator, Road, EDGES};
 use hankboulder_reference::random::Random;
 use hankboulder_reference::rides::{gather, Sample};
+use hankboulder_reference::sums::LentSums;
 
 use crate::support::{bytes, numbers};
 
@@ -126,6 +127,18 @@ fn sample(numbers: [f32; 5]) -> Sample {
     Sample::of(numbers.map(f32::to_bits))
 }
 
+impl Sums {
+    fn lend(&mut self) -> LentSums<'_> {
+        LentSums {
+            low: &mut self.low,
+            high: &mut self.high,
+            linear_low: &mut self.linear_low,
+            linear_high: &mut self.linear_high,
+            running_limit: &mut self.running_limit,
+        }
+    }
+}
+
 /// Gathers over bytes, and holds what is answered and left to the numbers' own.
 fn take(sums: &mut Sums, sample: &Sample) -> i64 {
     let before = sums.clone();
@@ -139,16 +152,8 @@ fn take(sums: &mut Sums, sample: &Sample) -> i64 {
     .map(|list| bytes(list));
     let [low, high, least, most, limit] = &mut lent;
     let code = entries::gather(sample, sums.n, low, high, least, most, limit);
-    let answer = gather(
-        sample,
-        sums.n,
-        &mut sums.low,
-        &mut sums.high,
-        &mut sums.linear_low,
-        &mut sums.linear_high,
-        &mut sums.running_limit,
-    );
-    assert_eq!(answer.map_or_else(|r| r.number(), |()| 0), code);
+    let answer = gather(sample, sums.n, sums.lend());
+    assert_eq!(answer.map_or_else(|r| r.number(), |_| 0), code);
     assert_eq!(lent.map(|list| numbers(&list)).concat(), all(sums));
     assert!(code == 0 || *sums == before, "refusal {code} altered a sum");
     code
@@ -256,77 +261,156 @@ fn what_is_gained_holds_the_exact_products() {
 
 const GREATEST: [f32; 5] = [8.0; 5];
 
-/// Each adds 2^14 to every entry, so that 64 fill the tables.
+/// Each adds 2^14 to every entry, so that 64 fill the tables. The next one halves them, and
+/// so does every 32nd behind it.
 #[test]
-fn a_chain_of_samples_reaches_18() {
+fn a_chain_of_samples_halves_the_sums() {
     let mut sums = zeros(4);
-    for taken in 1..=64 {
+    let mut held = 0;
+    for _ in 0..500 {
         assert_eq!(take(&mut sums, &sample(GREATEST)), 0);
-        assert_eq!(sums.high, [taken << 14; 16]);
+        held = if held == 64 { 33 } else { held + 1 };
+        assert_eq!(
+            (&sums.low, &sums.high),
+            (&vec![held << 14; 16], &vec![held << 14; 16])
+        );
+        assert_eq!(
+            (&sums.linear_low, &sums.linear_high),
+            (&vec![-held << 14; 4], &vec![-held << 14; 4])
+        );
+        assert_eq!(sums.running_limit, [-held << 14]);
     }
+    while sums.high[0] < ENTRY {
+        assert_eq!(take(&mut sums, &sample(GREATEST)), 0);
+    }
+    // One that adds nothing to what is full halves nothing.
     let full = sums.clone();
-    for _ in 0..3 {
-        assert_eq!(take(&mut sums, &sample(GREATEST)), 18);
-    }
-    // A smaller one is refused too, and one that adds nothing is taken.
-    assert_eq!(take(&mut sums, &sample([0.0625; 5])), 18);
-    assert_eq!(sums, full);
     assert_eq!(take(&mut sums, &sample([0.0; 5])), 0);
-    // One of the other sign brings them back.
-    let (plus, minus) = (8.0, -8.0);
-    assert_eq!(take(&mut sums, &sample([plus, minus, 0.0, 0.0, 0.0])), 18);
+    assert_eq!(sums, full);
     assert_eq!(take(&mut sums, &sample([0.0, 0.0, 0.0, 0.0, 8.0])), 0);
     assert_eq!(sums.running_limit, [-65 << 14]);
+    assert_eq!(sums.high, full.high);
+    // The least that adds to it does.
+    assert_eq!(take(&mut sums, &sample([0.0, 0.0625, 0.0, 0.0, 0.0])), 0);
+    assert_eq!((sums.high[0], sums.high[5]), (ENTRY / 2, ENTRY / 2 + 1));
+    assert_eq!(sums.running_limit, [-65 << 13]);
 }
 
-/// A sample that adds 1 to a sum, or takes 1 off, where the sum is at that end or
-/// has room for 1.
+/// What a sample leaves of sums, halved for it or not: halves by a shift of bits, which
+/// rounds down, and what it adds to sums of 0.
+fn after(sums: &Sums, drawn: &Sample, halved: bool) -> Sums {
+    let mut gains = zeros(4);
+    assert_eq!(take(&mut gains, drawn), 0);
+    let shift = u32::from(halved);
+    let down = |list: &[i64], more: &[i64]| -> Vec<i64> {
+        let pairs = list.iter().zip(more);
+        pairs.map(|(sum, gain)| (sum >> shift) + gain).collect()
+    };
+    let up = |list: &[i64], more: &[i64]| -> Vec<i64> {
+        let pairs = list.iter().zip(more);
+        pairs.map(|(sum, gain)| gain - (-sum >> shift)).collect()
+    };
+    Sums {
+        n: 4,
+        low: down(&sums.low, &gains.low),
+        high: up(&sums.high, &gains.high),
+        linear_low: down(&sums.linear_low, &gains.linear_low),
+        linear_high: up(&sums.linear_high, &gains.linear_high),
+        running_limit: up(&sums.running_limit, &gains.running_limit),
+    }
+}
+
+fn in_range(sums: &Sums) -> bool {
+    let within = |list: &[i64], range: i64| list.iter().all(|sum| sum.abs() <= range);
+    within(&[&sums.low[..], &sums.high].concat(), ENTRY)
+        && within(&[&sums.linear_low[..], &sums.linear_high].concat(), LINEAR)
+        && within(&sums.running_limit, LIMIT)
+}
+
+/// Sums of odd numbers, all of them far from the ends of their ranges.
+fn odd() -> Sums {
+    Sums {
+        n: 4,
+        low: vec![-7; 16],
+        high: vec![5; 16],
+        linear_low: vec![-9; 4],
+        linear_high: vec![-3; 4],
+        running_limit: vec![-11],
+    }
+}
+
+/// A sample that brings a sum on by 1, where the sum is at its end, and where it has room
+/// for 1.
+fn expect_halved(numbers: [f32; 5], put: impl Fn(&mut Sums, i64), end: i64) {
+    let drawn = sample(numbers);
+    for (number, halved) in [(end, true), (end - end.signum(), false)] {
+        let mut sums = odd();
+        put(&mut sums, number);
+        let expected = after(&sums, &drawn, halved);
+        assert_eq!(take(&mut sums, &drawn), 0);
+        assert_eq!(sums, expected, "{number}");
+    }
+}
+
 #[test]
-fn refusal_18_of_every_sum_at_its_end() {
+fn every_sum_at_its_end_is_halved_with_all_others() {
     let one = 0.0625;
-    for i in 0..4 {
-        for j in 0..4 {
-            let mut factors = [0.0; 5];
-            factors[i] = one;
-            factors[j] = one;
-            let mut sums = zeros(4);
-            (sums.high[4 * i + j], sums.high[4 * j + i]) = (ENTRY, ENTRY);
-            assert_eq!(take(&mut sums, &sample(factors)), 18, "U({i},{j})");
-            (sums.high[4 * i + j], sums.high[4 * j + i]) = (ENTRY - 1, ENTRY - 1);
-            assert_eq!(take(&mut sums, &sample(factors)), 0);
-            assert_eq!(sums.high[4 * i + j], ENTRY);
-            if i == j {
-                continue;
-            }
-            factors[j] = -one;
-            let mut sums = zeros(4);
-            (sums.low[4 * i + j], sums.low[4 * j + i]) = (-ENTRY, -ENTRY);
-            assert_eq!(take(&mut sums, &sample(factors)), 18, "L({i},{j})");
-            (sums.low[4 * i + j], sums.low[4 * j + i]) = (1 - ENTRY, 1 - ENTRY);
-            assert_eq!(take(&mut sums, &sample(factors)), 0);
-            assert_eq!(sums.low[4 * i + j], -ENTRY);
+    for (i, j) in (0..4).flat_map(|i| (0..4).map(move |j| (i, j))) {
+        let places = [4 * i + j, 4 * j + i];
+        let mut numbers = [0.0; 5];
+        (numbers[i], numbers[j]) = (one, one);
+        let high = |sums: &mut Sums, end: i64| places.iter().for_each(|p| sums.high[*p] = end);
+        expect_halved(numbers, high, ENTRY);
+        if i != j {
+            numbers[j] = -one;
+            let low = |sums: &mut Sums, end: i64| places.iter().for_each(|p| sums.low[*p] = end);
+            expect_halved(numbers, low, -ENTRY);
         }
+    }
+    for i in 0..4 {
         let mut numbers = [0.0, 0.0, 0.0, 0.0, one];
         numbers[i] = one;
-        let mut sums = zeros(4);
-        sums.linear_low[i] = -LINEAR;
-        assert_eq!(take(&mut sums, &sample(numbers)), 18, "a_low({i})");
-        sums.linear_low[i] = 1 - LINEAR;
-        assert_eq!(take(&mut sums, &sample(numbers)), 0);
+        expect_halved(numbers, |sums, end| sums.linear_low[i] = end, -LINEAR);
         numbers[i] = -one;
-        let mut sums = zeros(4);
-        sums.linear_high[i] = LINEAR;
-        assert_eq!(take(&mut sums, &sample(numbers)), 18, "a_high({i})");
-        sums.linear_high[i] = LINEAR - 1;
-        assert_eq!(take(&mut sums, &sample(numbers)), 0);
+        expect_halved(numbers, |sums, end| sums.linear_high[i] = end, LINEAR);
     }
-    let mut sums = zeros(4);
-    sums.running_limit[0] = -LIMIT;
-    let drawn = sample([0.0, 0.0, 0.0, 0.0, one]);
-    assert_eq!(take(&mut sums, &drawn), 18);
-    sums.running_limit[0] = 1 - LIMIT;
-    assert_eq!(take(&mut sums, &drawn), 0);
-    assert_eq!(sums.running_limit[0], -LIMIT);
+    let drawn = [0.0, 0.0, 0.0, 0.0, one];
+    expect_halved(drawn, |sums, end| sums.running_limit[0] = end, -LIMIT);
+}
+
+/// R23.7: sums at the ends of all ranges, and the greatest samples of every sign.
+#[test]
+fn no_sample_is_refused_by_18() {
+    let ends = [(-1, -1), (-1, 1), (1, 1)];
+    let kinds = ends
+        .iter()
+        .flat_map(|tables| ends.map(|terms| (*tables, terms)));
+    for ((tables, terms), limit) in kinds.flat_map(|kind| [(kind, -LIMIT), (kind, LIMIT)]) {
+        for signs in 0..32 {
+            let of_sign = |k: usize| if signs >> k & 1 == 1 { -8.0 } else { 8.0 };
+            let mut sums = Sums {
+                n: 4,
+                low: vec![tables.0 * ENTRY; 16],
+                high: vec![tables.1 * ENTRY; 16],
+                linear_low: vec![terms.0 * LINEAR; 4],
+                linear_high: vec![terms.1 * LINEAR; 4],
+                running_limit: vec![limit],
+            };
+            let drawn = sample(std::array::from_fn(of_sign));
+            let plain = after(&sums, &drawn, false);
+            let halved = after(&sums, &drawn, true);
+            assert!(in_range(&halved));
+            assert_eq!(take(&mut sums, &drawn), 0);
+            let expected = if in_range(&plain) { plain } else { halved };
+            assert_eq!(sums, expected);
+        }
+    }
+    let mut generator = Generator::new(74);
+    for _ in 0..20_000 {
+        let mut sums = generator.sums();
+        let drawn = generator.good_sample();
+        assert!(gather(&drawn, 4, sums.lend()).is_ok(), "{sums:?} {drawn:?}");
+    }
 }
 
 #[test]
@@ -373,14 +457,13 @@ fn put_fault(sums: &mut Sums, drawn: &mut Sample, fault: i64) {
         4 => sums.low[5] = sums.high[5] + 1,
         5 => (sums.low[1], sums.high[1]) = (1, 1),
         16 => sums.linear_low[3] = 1,
-        18 => sums.high[15] = ENTRY,
         _ => unreachable!(),
     }
 }
 
 #[test]
 fn of_several_faults_the_first_in_the_order_of_checks_is_given() {
-    let checks = [17, 1, 2, 3, 4, 5, 16, 18];
+    let checks = [17, 1, 2, 3, 4, 5, 16];
     for chosen in 1..1_u32 << checks.len() {
         let faults: Vec<i64> = (0..checks.len())
             .filter(|place| chosen >> place & 1 == 1)

@@ -5,8 +5,8 @@ use std::collections::BTreeSet;
 
 use hankboulder_reference::entries;
 use hankboulder_reference::generate::{
-    BoxCall, FactorCall, GatherCall, JudgeCall, RawProblem, ReadCall, StiffnessCall, SumsCall,
-    WriteCall,
+    BoxCall, FactorCall, GatherCall, JudgeCall, PoolCall, RawProblem, ReadCall, StiffnessCall,
+    SumsCall, WriteCall,
 };
 use hankboulder_reference::writer::file_size;
 
@@ -145,6 +145,24 @@ pub fn run_gather(call: &mut GatherCall) -> i64 {
         &mut call.linear_low,
         &mut call.linear_high,
         &mut call.running_limit,
+    )
+}
+
+/// Runs a call of pooling.
+pub fn run_pool(call: &mut PoolCall) -> i64 {
+    entries::pool(
+        call.n,
+        &mut call.low,
+        &mut call.high,
+        &mut call.linear_low,
+        &mut call.linear_high,
+        &mut call.running_limit,
+        &call.orders,
+        &call.lows,
+        &call.highs,
+        &call.linear_lows,
+        &call.linear_highs,
+        &call.limits,
     )
 }
 

@@ -45,6 +45,8 @@ pub enum Inputs {
     Numbers(usize),
     /// The same, and those of the sample
     Sampled(usize),
+    /// The numbers of all buffers: the sums, and the lists of the problems
+    Pooled,
     /// The bytes of the first buffer
     File,
 }

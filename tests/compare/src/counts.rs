@@ -15,9 +15,15 @@ pub enum Detail {
     /// The call is refused by 3, and only numbers of this kind are beyond their
     /// range.
     Beyond(Kind),
-    /// The sample is refused by 18, and only sums of this kind would leave their
+    /// The sums are halved for the sample, since sums of this kind alone would leave their
     /// range.
-    Full(Kind),
+    Halved(Kind),
+    /// The problems are taken, and these of them halve the sums.
+    Pooled(Halvings),
+    /// The pool is refused by 18 at a problem of this place.
+    FullAt(Row),
+    /// The pool is refused, and this part of it alone has what refuses.
+    In(Part),
     /// The box is given, though t(k) = 0 for some k.
     Stepless,
     /// This row alone has the least over.
@@ -27,13 +33,32 @@ pub enum Detail {
     Bracketed(Given, bool),
 }
 
-/// Places of a row. The only row of order 1 is the first.
+/// Places of a row, or of a problem in a pool. The only one is the first.
 #[derive(Clone, Copy, Debug, PartialEq, Eq, PartialOrd, Ord)]
 #[allow(missing_docs)]
 pub enum Row {
     First,
     Middle,
     Last,
+}
+
+/// Which problems of a pool halve the sums: none, one at this place, or several, three in a
+/// row among them or not. The only problem is the first.
+#[derive(Clone, Copy, Debug, PartialEq, Eq, PartialOrd, Ord)]
+#[allow(missing_docs)]
+pub enum Halvings {
+    None,
+    One(Row),
+    Several,
+    InARow,
+}
+
+/// The sums, or a problem of a pool at this place.
+#[derive(Clone, Copy, Debug, PartialEq, Eq, PartialOrd, Ord)]
+#[allow(missing_docs)]
+pub enum Part {
+    Sums,
+    Problem(Row),
 }
 
 /// What a bracket gives: a step, or a bound alone.
@@ -47,7 +72,32 @@ pub enum Given {
     BoundAbove0,
 }
 
-/// The kinds of numbers that checks 3 and 18 ask.
+impl Row {
+    /// The place of one of so many.
+    pub fn of(place: usize, count: usize) -> Row {
+        match place {
+            0 => Row::First,
+            last if last + 1 == count => Row::Last,
+            _ => Row::Middle,
+        }
+    }
+}
+
+impl Halvings {
+    /// Of problems, one after the other, that halve the sums or not.
+    pub fn of(halved: &[bool]) -> Halvings {
+        let places: Vec<usize> = (0..halved.len()).filter(|k| halved[*k]).collect();
+        let in_a_row = halved.windows(3).any(|three| three == [true; 3]);
+        match places[..] {
+            _ if in_a_row => Halvings::InARow,
+            [] => Halvings::None,
+            [place] => Halvings::One(Row::of(place, halved.len())),
+            _ => Halvings::Several,
+        }
+    }
+}
+
+/// The kinds of numbers that check 3 asks, and that sums are halved for.
 #[derive(Clone, Copy, Debug, PartialEq, Eq, PartialOrd, Ord)]
 #[allow(missing_docs)]
 pub enum Kind {
@@ -59,6 +109,11 @@ pub enum Kind {
     Centre,
     RunningLimit,
     Allowance,
+    Lows,
+    Highs,
+    LinearLows,
+    LinearHighs,
+    Limits,
 }
 
 /// Numbers of a kind, and their range.
@@ -107,7 +162,10 @@ impl fmt::Display for Outcome {
             Some(Detail::From(List::Tried)) => write!(f, ", tried vector"),
             Some(Detail::From(List::Solved(s))) => write!(f, ", solved vector with s = {s}"),
             Some(Detail::Beyond(kind)) => write!(f, ", by {kind:?} alone"),
-            Some(Detail::Full(kind)) => write!(f, ", {kind:?} alone"),
+            Some(Detail::Halved(kind)) => write!(f, ", halved for {kind:?} alone"),
+            Some(Detail::Pooled(halvings)) => write!(f, ", halvings: {halvings:?}"),
+            Some(Detail::FullAt(row)) => write!(f, ", at the problem {row:?}"),
+            Some(Detail::In(part)) => write!(f, ", in {part:?} alone"),
             Some(Detail::Stepless) => write!(f, ", t(k) = 0 for some k"),
             Some(Detail::LeastIn(row)) => write!(f, ", {row:?} row the least"),
             Some(Detail::Bracketed(given, false)) => write!(f, ", {given:?}"),

@@ -2,13 +2,12 @@
 
 use hankboulder_reference::entries;
 use hankboulder_reference::generate::Generator;
-use hankboulder_reference::problem::{ENTRY_RANGE, LIMIT_RANGE, LINEAR_RANGE};
-use hankboulder_reference::rides::{with_sample, Sample};
+use hankboulder_reference::rides::{self, Sample};
 
 use crate::act::{Act, Call, Inputs};
-use crate::counts::{one_beyond, Detail, Kind, Outcome};
+use crate::counts::{Detail, Kind, Outcome};
 use crate::guarded::Lent;
-use crate::numbers;
+use crate::sums::{beyond, confirm_read, lists, with_lent};
 
 /// A sample as C passes it. The bits of its floats are passed as they are.
 #[repr(C)]
@@ -37,13 +36,13 @@ extern "C" {
     ) -> i64;
 }
 
+const TAKEN: i64 = 0;
 const REFUSED_RANGE: i64 = 3;
-const REFUSED_FULL: i64 = 18;
 
 /// Gathering.
 pub const GATHER: Act = Act {
     name: "hb_gather",
-    answers: &[0, 17, 1, 2, 3, 4, 5, 16, 18],
+    answers: &[0, 17, 1, 2, 3, 4, 5, 16],
     // An order other than 4 is refused, at the latest by 2.
     possible: |order, answer| order == 4 || answer == 17 || answer == 2,
     inputs: Inputs::Sampled(5),
@@ -76,47 +75,29 @@ fn reference(call: &mut Call) -> Outcome {
     let (n, sample) = (call.n, &call.sample);
     let answer = entries::gather(sample, n, low, high, linear_low, linear_high, running);
     let detail = match answer {
-        REFUSED_RANGE => beyond(&before).map(Detail::Beyond),
-        REFUSED_FULL => beyond_after(&before).map(Detail::Full),
+        TAKEN => halved_for(&before).map(Detail::Halved),
+        REFUSED_RANGE => beyond(&lists(&before)).map(Detail::Beyond),
         _ => None,
     };
     Outcome { answer, detail }
 }
 
-/// The kind of the sums that are beyond their range, where it is one alone.
-fn beyond(call: &Call) -> Option<Kind> {
-    let lists: Vec<Vec<i64>> = call.buffers.iter().map(|list| numbers(list)).collect();
-    kind_of(&lists)
-}
-
-/// The same of the sums with the sample in them.
-fn beyond_after(call: &Call) -> Option<Kind> {
-    let lists: Vec<Vec<i64>> = call.buffers.iter().map(|list| numbers(list)).collect();
-    let [low, high, least, most, running] = &lists[..] else {
-        unreachable!("gathering has five buffers");
-    };
-    let sums = with_sample(&call.sample, call.n, low, high, least, most, running).ok()?;
+/// The kind of the sums that would leave their range with the sample in them, where it is
+/// one alone.
+fn halved_for(call: &Call) -> Option<Kind> {
+    let read = with_lent(&mut lists(call), |lent| {
+        rides::read(&call.sample, call.n, &lent)
+    });
+    let (sums, gains) = read.expect("the sample is taken");
+    let whole = sums.plus(&gains);
     let narrow = |list: &[i128]| list.iter().map(|number| *number as i64).collect();
-    kind_of(&[
-        narrow(&sums.bounds.low.concat()),
-        narrow(&sums.bounds.high.concat()),
-        narrow(&sums.linear_low),
-        narrow(&sums.linear_high),
-        narrow(&[sums.limit]),
+    beyond(&[
+        narrow(&whole.low),
+        narrow(&whole.high),
+        narrow(&whole.linear_low),
+        narrow(&whole.linear_high),
+        narrow(&[whole.running_limit]),
     ])
-}
-
-fn kind_of(lists: &[Vec<i64>]) -> Option<Kind> {
-    let kinds = [
-        (Kind::Low, ENTRY_RANGE),
-        (Kind::High, ENTRY_RANGE),
-        (Kind::LinearLow, LINEAR_RANGE),
-        (Kind::LinearHigh, LINEAR_RANGE),
-        (Kind::RunningLimit, LIMIT_RANGE),
-    ];
-    let lists = lists.iter().zip(kinds);
-    let of_kinds: Vec<_> = lists.map(|(list, (k, r))| (k, list.clone(), r)).collect();
-    one_beyond(&of_kinds)
 }
 
 fn passed(sample: &Sample) -> HbSample {
@@ -156,14 +137,7 @@ fn library(call: &Call, lent: &[Lent]) -> i64 {
 
 /// Sums that have taken a sample are let through by reading, with no allowance.
 fn confirm(after: &Call, answer: i64) {
-    if answer != 0 {
-        return;
+    if answer == TAKEN {
+        confirm_read(after);
     }
-    let [low, high, linear_low, linear_high, running] = &after.buffers[..] else {
-        unreachable!("gathering has five buffers");
-    };
-    let running = numbers(running)[0];
-    let sums = [low, high, linear_low, linear_high].map(Vec::clone);
-    let limit = crate::read_sums::given(after.n, sums, running, 0);
-    assert_eq!(limit, Ok(running), "{after:?}");
 }

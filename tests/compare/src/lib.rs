@@ -14,16 +14,18 @@ pub mod gather;
 mod guarded;
 pub mod judge;
 mod lopsided;
+pub mod pool;
 pub mod read_summary;
 pub mod read_sums;
 pub mod stiffness;
+mod sums;
 pub mod test_factor;
 pub mod test_vector;
 mod variation;
 pub mod write_summary;
 
 pub use act::{Act, Call, Inputs};
-pub use counts::{Counts, Detail, Given, Kind, Outcome, Row};
+pub use counts::{Counts, Detail, Given, Halvings, Kind, Outcome, Part, Row};
 pub use guarded::Lent;
 pub use lopsided::has_lopsided;
 

@@ -5,6 +5,7 @@ use hankboulder_reference::problem;
 use hankboulder_reference::summary::{decode, fields, TABLE_WIDTH, TAG_HIGH, TAG_LOW};
 
 use crate::act::{Call, Inputs};
+use crate::pool::{HIGHS, LOWS};
 use crate::{bytes, numbers};
 
 /// The mended tables of two that are square, over bytes (R2.10).
@@ -25,6 +26,7 @@ pub fn mended(low: &[u8], high: &[u8]) -> [Vec<u8>; 2] {
 pub fn has_lopsided(call: &Call, inputs: Inputs) -> bool {
     let tables = match inputs {
         Inputs::File => tables_in(&call.buffers[0]),
+        Inputs::Pooled => tables_of_pool(call),
         _ => call.buffers[..2].iter().map(|t| whole_numbers(t)).collect(),
     };
     tables.iter().any(|table| is_lopsided(table))
@@ -32,6 +34,14 @@ pub fn has_lopsided(call: &Call, inputs: Inputs) -> bool {
 
 fn whole_numbers(bytes: &[u8]) -> Vec<i64> {
     numbers(&bytes[..bytes.len() / 8 * 8])
+}
+
+/// The tables of the sums, and of all problems of a pool.
+fn tables_of_pool(call: &Call) -> Vec<Vec<i64>> {
+    let size = call.n.clamp(1, 8).pow(2) as usize;
+    let lists = [0, 1, LOWS, HIGHS].map(|place| whole_numbers(&call.buffers[place]));
+    let tables = lists.iter().flat_map(|list| list.chunks_exact(size));
+    tables.map(<[i64]>::to_vec).collect()
 }
 
 /// The tables of a file whose fields can be told.

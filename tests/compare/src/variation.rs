@@ -1,12 +1,13 @@
 //! Small changes of a call.
 
 use hankboulder_reference::generate::numbers::{
-    changed, changed_float, count, mirrored, read, write,
+    change_list, change_table, changed, changed_float, count, mirrored, read, write,
 };
 use hankboulder_reference::random::Random;
 use hankboulder_reference::rides::Sample;
 
 use crate::act::{Call, Inputs};
+use crate::pool::{HIGHS, LOWS, ORDERS};
 use crate::read_summary::of_file;
 
 /// The call with one of its inputs changed.
@@ -14,6 +15,7 @@ pub fn varied(call: &Call, inputs: Inputs, random: &mut Random) -> Call {
     match inputs {
         Inputs::Numbers(count) => varied_number(call, count, false, random),
         Inputs::Sampled(count) => varied_number(call, count, true, random),
+        Inputs::Pooled => varied_pool(call, random),
         Inputs::File => varied_file(call, random),
     }
 }
@@ -38,6 +40,41 @@ fn varied_file(call: &Call, random: &mut Random) -> Call {
         _ => file[place] = file[place].wrapping_add(random.pick(&[1, 255])),
     }
     of_file(file, outputs)
+}
+
+/// The call with one number changed in the sums or in a list. In a symmetric pair of places
+/// of a table the other is mostly changed with it; now and then a problem is added or left
+/// out.
+fn varied_pool(call: &Call, random: &mut Random) -> Call {
+    let mut varied = call.clone();
+    let order = usize::try_from(call.n).ok().filter(|n| (1..=8).contains(n));
+    let order = order.unwrap_or(1);
+    if random.one_in(24) {
+        let more = random.one_in(2);
+        let sizes = [1, order * order, order * order, order, order, 1];
+        for (list, size) in varied.buffers[ORDERS..].iter_mut().zip(sizes) {
+            let length = if more {
+                list.extend_from_within(list.len().saturating_sub(8 * size)..);
+                list.len()
+            } else {
+                list.len().saturating_sub(8 * size)
+            };
+            list.truncate(length);
+        }
+        return varied;
+    }
+    // The list of orders is changed less often: most changes of it are refused.
+    let input = match random.index(varied.buffers.len()) {
+        ORDERS if !random.one_in(4) => LOWS,
+        input => input,
+    };
+    let buffer = &mut varied.buffers[input];
+    if [0, 1, LOWS, HIGHS].contains(&input) {
+        change_table(buffer, order, random);
+    } else {
+        change_list(buffer, random);
+    }
+    varied
 }
 
 /// The call with one number changed in one of its inputs: the first buffers, the

@@ -1,5 +1,6 @@
 //! The second implementation's output for a summary file, its bracket of the
-//! stiffness, and new files, for the fuzz harness in C. `fuzz.h` has the C side of what is here.
+//! stiffness, its pools, and new files, for the fuzz harness in C. `fuzz.h` has the C side of
+//! what is here.
 
 #![warn(missing_docs)]
 #![deny(unsafe_op_in_unsafe_fn)]
@@ -8,7 +9,7 @@ mod repair;
 
 use std::slice;
 
-use hankboulder_reference::entries::{read_summary, stiffness};
+use hankboulder_reference::entries::{pool, read_summary, stiffness};
 use hankboulder_reference::generate::Generator;
 use hankboulder_reference::program::output;
 use hankboulder_reference::summary::read_problem;
@@ -98,6 +99,50 @@ pub unsafe extern "C" fn fuzz_bracket(
     let (step, behind) = bracket.split_at_mut(number);
     let (bound, vector) = behind.split_at_mut(number);
     stiffness(n, low, high, step, bound, vector)
+}
+
+/// The numbers of the five sums, or of what a problem has of them, one behind the other.
+fn sizes_of_sums(order: usize) -> [usize; 5] {
+    let (table, vector) = (8 * order * order, 8 * order);
+    [table, table, vector, vector, 8]
+}
+
+/// Pools a problem, as often as there are orders, into the five sums, one behind the other;
+/// the answer. The problem is five buffers, one behind the other, too.
+///
+/// # Safety
+///
+/// The order is 1 to 8, as many bytes as a problem of this order and so many orders have can
+/// be read, and as many as its sums have be written.
+#[no_mangle]
+pub unsafe extern "C" fn fuzz_pool(
+    n: i64,
+    sums: *mut u8,
+    problem: *const u8,
+    orders: *const u8,
+    count: usize,
+) -> i64 {
+    let sizes = sizes_of_sums(n as usize);
+    let room = sizes.iter().sum();
+    // SAFETY: the caller's promise.
+    let (mut rest, problem) =
+        unsafe { (slice::from_raw_parts_mut(sums, room), read(problem, room)) };
+    // SAFETY: the caller's promise.
+    let orders = unsafe { read(orders, 8 * count) };
+    let [low, high, least, most, running] = sizes.map(|size| {
+        let (buffer, behind) = std::mem::take(&mut rest).split_at_mut(size);
+        rest = behind;
+        buffer
+    });
+    let mut behind = problem;
+    let [lows, highs, leasts, mosts, limits] = sizes.map(|size| {
+        let (part, after) = behind.split_at(size);
+        behind = after;
+        part.repeat(count)
+    });
+    pool(
+        n, low, high, least, most, running, orders, &lows, &highs, &leasts, &mosts, &limits,
+    )
 }
 
 /// Puts right what refuses a file; its new length, the old where it has no room.

@@ -15,10 +15,14 @@ pub enum Act {
     Box = 3,
     Stiffness = 4,
     Gather = 5,
-    ReadSums = 6,
-    WriteSummary = 7,
-    ReadSummary = 8,
+    Pool = 6,
+    ReadSums = 7,
+    WriteSummary = 8,
+    ReadSummary = 9,
 }
+
+/// How many buffers running sums have.
+pub const SUMS: usize = 5;
 
 impl Act {
     /// How many of the buffers are read: the first ones.
@@ -27,16 +31,17 @@ impl Act {
             Act::Judge | Act::Stiffness => 2,
             Act::TestFactor | Act::TestVector => 3,
             Act::Box | Act::Gather | Act::WriteSummary => 5,
+            Act::Pool => 11,
             Act::ReadSums => 4,
             Act::ReadSummary => 1,
         }
     }
 
-    /// How many of these are only read.
-    pub fn only_read(self) -> usize {
+    /// From which one on these are only read: the sums in front are written too.
+    pub fn only_read_from(self) -> usize {
         match self {
-            Act::Gather => 0,
-            _ => self.read(),
+            Act::Gather | Act::Pool => SUMS,
+            _ => 0,
         }
     }
 
@@ -117,6 +122,14 @@ impl Call {
                 let sums = [call.low, call.high, call.linear_low, call.linear_high];
                 sums.into_iter().chain([call.running_limit]).collect()
             }
+            Act::Pool => {
+                let call = generator.pool_call();
+                passed.n = call.n;
+                let sums = [call.low, call.high, call.linear_low, call.linear_high];
+                let sums = sums.into_iter().chain([call.running_limit, call.orders]);
+                let lists = [call.lows, call.highs, call.linear_lows, call.linear_highs];
+                sums.chain(lists).chain([call.limits]).collect()
+            }
             Act::ReadSums => {
                 let call = generator.sums_call();
                 (passed.n, passed.allowance) = (call.n, call.allowance);
@@ -174,6 +187,12 @@ impl Call {
             (Act::Gather, [low, high, least, most, running]) => {
                 entries::gather(&passed.sample, n, low, high, least, most, running)
             }
+            (
+                Act::Pool,
+                [low, high, least, most, running, orders, lows, highs, leasts, mosts, limits],
+            ) => entries::pool(
+                n, low, high, least, most, running, orders, lows, highs, leasts, mosts, limits,
+            ),
             (Act::ReadSums, [low, high, least, most, limit]) => {
                 let (running, allowance) = (passed.running_limit, passed.allowance);
                 entries::read_sums(n, low, high, least, most, running, allowance, limit)

@@ -17,7 +17,7 @@ use hankboulder_reference::floats::bracket;
 use source::Source;
 
 /// The most buffers that an act has.
-const MOST: usize = 8;
+const MOST: usize = 11;
 
 /// A buffer of a call.
 #[derive(Clone, Copy)]
@@ -39,7 +39,7 @@ pub struct LoadCall {
     answer: i64,
     sample: [u32; 5],
     read: usize,
-    only_read: usize,
+    only_read_from: usize,
     count: usize,
     buffers: [LoadBuffer; MOST],
 }
@@ -84,7 +84,7 @@ pub unsafe extern "C" fn load_call(source: *mut Source, number: u64, call: *mut 
         answer,
         sample: passed.sample.numbers(),
         read: before.act.read(),
-        only_read: before.act.only_read(),
+        only_read_from: before.act.only_read_from(),
         count: before.buffers.len(),
         buffers,
     };

@@ -10,13 +10,14 @@ use crate::variation::varied;
 const GROUP: u64 = 12;
 
 /// The acts in turn, one for each group.
-const TURNS: [Act; 9] = [
+const TURNS: [Act; 10] = [
     Act::Judge,
     Act::TestFactor,
     Act::TestVector,
     Act::Box,
     Act::Stiffness,
     Act::Gather,
+    Act::Pool,
     Act::ReadSums,
     Act::WriteSummary,
     Act::ReadSummary,

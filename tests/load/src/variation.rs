@@ -1,13 +1,13 @@
 //! Small changes of a call.
 
 use hankboulder_reference::generate::numbers::{
-    changed, changed_float, count, mirrored, read, write,
+    change_list, change_table, changed, changed_float, count, mirrored, read, write,
 };
 use hankboulder_reference::random::Random;
 use hankboulder_reference::rides::Sample;
 use hankboulder_reference::summary::NUMBER_WIDTH;
 
-use crate::call::{order_in, Act, Call};
+use crate::call::{order_in, Act, Call, SUMS};
 
 /// Low and high, the buffers whose mirrored entries belong together.
 const TABLES: usize = 2;
@@ -32,6 +32,7 @@ pub fn varied(call: &Call, random: &mut Random) -> Call {
             let length = call.buffers[input].len();
             varied.buffers[input] = random.bytes(length);
         }
+        _ if call.act == Act::Pool => change_pool(&mut varied, random),
         _ => change_number(&mut varied, random),
     }
     varied
@@ -104,6 +105,30 @@ fn change_passed(call: &mut Call, random: &mut Random) {
             numbers[place] = changed_float(numbers[place], random);
             passed.sample = Sample::of(numbers);
         }
+    }
+}
+
+/// Changes one number of the sums or of a list, more seldom an order; now and then a problem
+/// is left out.
+fn change_pool(call: &mut Call, random: &mut Random) {
+    let order = call.passed.n.clamp(1, 8) as usize;
+    let table = order * order;
+    let sizes = [1, table, table, order, order, 1];
+    if random.one_in(16) {
+        for (list, size) in call.buffers[SUMS..].iter_mut().zip(sizes) {
+            list.truncate(list.len().saturating_sub(NUMBER_WIDTH * size));
+        }
+        return;
+    }
+    let place = match random.index(call.buffers.len()) {
+        SUMS if !random.one_in(4) => SUMS + 1,
+        place => place,
+    };
+    let tables = place < TABLES || (SUMS + 1..SUMS + 1 + TABLES).contains(&place);
+    if tables {
+        change_table(&mut call.buffers[place], order, random);
+    } else {
+        change_list(&mut call.buffers[place], random);
     }
 }
 

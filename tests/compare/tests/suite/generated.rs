@@ -4,13 +4,14 @@
 use hankboulder_compare::enclosure::BOX;
 use hankboulder_compare::gather::GATHER;
 use hankboulder_compare::judge::JUDGE;
+use hankboulder_compare::pool::POOL;
 use hankboulder_compare::read_summary::READ_SUMMARY;
 use hankboulder_compare::read_sums::READ_SUMS;
 use hankboulder_compare::stiffness::STIFFNESS;
 use hankboulder_compare::test_factor::TEST_FACTOR;
 use hankboulder_compare::test_vector::TEST_VECTOR;
 use hankboulder_compare::write_summary::WRITE_SUMMARY;
-use hankboulder_compare::{Act, Counts, Detail, Given, Inputs, Kind, Outcome, Row};
+use hankboulder_compare::{Act, Counts, Detail, Given, Halvings, Inputs, Kind, Outcome, Part, Row};
 use hankboulder_reference::judge::List;
 
 /// The kinds of numbers that sums share with a problem.
@@ -63,7 +64,9 @@ fn agrees_on_generated_calls(act: &Act, seed: u64, answered: Answered) -> Counts
         for order in 1..=8 {
             let given = counts.of_answer_at(Some(order), *answer);
             let place = format!("order {order}: answer {answer}: {given} calls");
-            if *answer != 1 && (act.possible)(order, *answer) {
+            // 1 is about n alone, but in a pool about each order in the list too.
+            let asked = *answer != 1 || act.inputs == Inputs::Pooled;
+            if asked && (act.possible)(order, *answer) {
                 assert!(given >= AT_AN_ORDER, "{place}");
                 if after_the_tables(*answer) {
                     expect_both_shapes(&counts, order, *answer);
@@ -75,8 +78,8 @@ fn agrees_on_generated_calls(act: &Act, seed: u64, answered: Answered) -> Counts
     }
     if act.inputs != Inputs::File {
         // 17 comes before 1, where a sample is handed over.
-        let before = counts.of_answer_at(None, 17);
-        assert_eq!(counts.of_answer(1) + before, counts.of_order(None));
+        let refused = counts.of_answer_at(None, 1) + counts.of_answer_at(None, 17);
+        assert_eq!(refused, counts.of_order(None));
     }
     counts
 }
@@ -162,7 +165,51 @@ fn gathering_agrees_with_the_reference() {
     let counts = agrees_on_generated_calls(&GATHER, 5, answered);
     for kind in SUMS.into_iter().chain([Kind::RunningLimit]) {
         expect_way(&counts, 4, Detail::Beyond(kind), true);
-        expect_way(&counts, 4, Detail::Full(kind), true);
+        expect_way(&counts, 4, Detail::Halved(kind), true);
+    }
+}
+
+/// Sums that are halved for none, one and several of the problems, 18 at each place, numbers
+/// of every kind beyond their range, and 4, 5 and 16 in the sums and at each place.
+#[test]
+fn pooling_agrees_with_the_reference_at_every_order() {
+    let answered = Answered {
+        calls: 100_000,
+        least: &[(0, 100_000)],
+    };
+    let counts = agrees_on_generated_calls(&POOL, 10, answered);
+    let rows = [Row::First, Row::Middle, Row::Last];
+    let several = [Halvings::None, Halvings::Several, Halvings::InARow];
+    let lists = [
+        Kind::RunningLimit,
+        Kind::Lows,
+        Kind::Highs,
+        Kind::LinearLows,
+        Kind::LinearHighs,
+        Kind::Limits,
+    ];
+    for order in 1..=8 {
+        for halvings in several.into_iter().chain(rows.map(Halvings::One)) {
+            expect_way(&counts, order, Detail::Pooled(halvings), true);
+        }
+        for row in rows {
+            expect_way(&counts, order, Detail::FullAt(row), true);
+        }
+        for kind in SUMS.into_iter().chain(lists) {
+            expect_way(&counts, order, Detail::Beyond(kind), true);
+        }
+        for part in rows.map(Part::Problem).into_iter().chain([Part::Sums]) {
+            for answer in [4, 5, 16] {
+                let detail = Some(Detail::In(part));
+                let met = counts.of_outcome(Some(order), Outcome { answer, detail });
+                let enough = if answer == 5 && order == 1 {
+                    met == 0
+                } else {
+                    met >= 10
+                };
+                assert!(enough, "order {order}, {answer}, {part:?}: {met}");
+            }
+        }
     }
 }
 

@@ -6,6 +6,7 @@
 use hankboulder_compare::enclosure::BOX;
 use hankboulder_compare::gather::GATHER;
 use hankboulder_compare::judge::JUDGE;
+use hankboulder_compare::pool::{self, POOL};
 use hankboulder_compare::read_summary::{of_file, unwritten, writing_again, READ_SUMMARY};
 use hankboulder_compare::read_sums::READ_SUMS;
 use hankboulder_compare::stiffness::STIFFNESS;
@@ -14,7 +15,7 @@ use hankboulder_compare::test_vector::TEST_VECTOR;
 use hankboulder_compare::write_summary::WRITE_SUMMARY;
 use hankboulder_compare::{bytes, numbers, Act, Call, Lent};
 use hankboulder_reference::cases::{self, bytes as hexadecimal};
-use hankboulder_reference::generate::{Generator, ProblemKind, RawProblem, KINDS};
+use hankboulder_reference::generate::{Generator, ProblemKind, RawPool, RawProblem, KINDS};
 use hankboulder_reference::random::Random;
 use hankboulder_reference::rides::Sample;
 
@@ -37,7 +38,6 @@ const REFUSED_VECTOR: i64 = 7;
 const REFUSED_FLAT: i64 = 8;
 const REFUSED_FAR: i64 = 9;
 const REFUSED_REVERSED: i64 = 16;
-const REFUSED_FULL: i64 = 18;
 
 const END: i64 = ENTRY_RANGE;
 const LIMIT_RANGE: i128 = 1 << 54;
@@ -70,7 +70,7 @@ fn offered(problem: &RawProblem) -> Offered {
 type Caller = fn(&RawProblem, &Offered) -> Call;
 
 /// Every act. Those from the box on are handed linear terms.
-const ACTS: [(&Act, Caller); 9] = [
+const ACTS: [(&Act, Caller); 10] = [
     (&JUDGE, |p, _| judge_call(&p.low, &p.high)),
     (&TEST_FACTOR, |p, o| factor_call(&p.low, &p.high, &o.factor)),
     (&TEST_VECTOR, |p, o| {
@@ -81,6 +81,7 @@ const ACTS: [(&Act, Caller); 9] = [
     (&GATHER, |p, _| {
         gather_call(p, sample([0.5, -0.3, 0.0, 7.9, 1.0]))
     }),
+    (&POOL, |p, _| pool_call(p)),
     (&READ_SUMS, |p, _| sums_call(p)),
     (&WRITE_SUMMARY, |p, _| write_call(p)),
     (&READ_SUMMARY, |p, _| of_file(p.file(), unwritten())),
@@ -98,6 +99,21 @@ fn gather_call(problem: &RawProblem, sample: Sample) -> Call {
         sample,
         ..call_on(&problem.low, &problem.high, &others)
     }
+}
+
+/// A problem of ones, pooled into the sums of a problem, with its limit for a running limit.
+fn pool_call(problem: &RawProblem) -> Call {
+    let order = problem.order;
+    let ones = RawProblem {
+        low: square(order, 1, 1),
+        high: square(order, 1, 1),
+        ..RawProblem::zeros(order)
+    };
+    let pool = RawPool {
+        sums: problem.clone(),
+        problems: vec![ones],
+    };
+    pool::of(pool.call())
 }
 
 fn sums_call(problem: &RawProblem) -> Call {
@@ -118,7 +134,7 @@ fn expect_mended_by(act: &Act, apart: &Call, symmetric: &Call) {
     let (_, expected) = act.given(symmetric);
     // The tables come first, and a file stands for both.
     let first = if act.name == READ_SUMMARY.name { 1 } else { 2 };
-    if act.name == GATHER.name && outcome.answer == TAKEN {
+    if [GATHER.name, POOL.name].contains(&act.name) && outcome.answer == TAKEN {
         assert_eq!(after, expected, "{apart:?}");
     } else {
         assert_eq!(after[..first], apart.buffers[..first], "{}", act.name);
@@ -351,16 +367,7 @@ fn the_margin_is_asked_of_the_mended_tables() {
 
 /// Sums of order 4, zero but for these bounds at (i,j) and at (j,i).
 fn sums((i, j): (usize, usize), one: (i64, i64), other: (i64, i64), drawn: [f32; 5]) -> Call {
-    let zeros = square(ORDER, 0, 0);
-    let mut sums = RawProblem {
-        order: ORDER,
-        low: zeros.clone(),
-        high: zeros,
-        linear_low: vec![0; ORDER],
-        linear_high: vec![0; ORDER],
-        limit: 0,
-        centre: vec![0; ORDER],
-    };
+    let mut sums = RawProblem::zeros(ORDER);
     for (place, half) in [(i * ORDER + j, one), (j * ORDER + i, other)] {
         (sums.low[place], sums.high[place]) = half;
     }
@@ -405,7 +412,7 @@ fn sums_are_mended_before_a_sample_is_added() {
 }
 
 #[test]
-fn a_half_that_is_mended_away_plays_no_part_in_18() {
+fn a_half_that_is_mended_away_halves_nothing() {
     for at in places_of_sums() {
         let (plus, minus) = (of_one(at, 1.0), of_one(at, -1.0));
         for away in [(0, END), (-END, END)] {
@@ -420,18 +427,18 @@ fn a_half_that_is_mended_away_plays_no_part_in_18() {
     }
 }
 
-/// Both halves are at the end, so that there is no room.
+/// Both halves are at the end, so that there is no room: the mended sums are halved.
 #[test]
-fn refusal_18_leaves_lopsided_sums_lopsided() {
+fn lopsided_sums_are_mended_before_they_are_halved() {
     for at in places_of_sums() {
         let (plus, minus) = (of_one(at, 1.0), of_one(at, -1.0));
-        GATHER.expect(&sums(at, (-7, END), (-9, END), plus), REFUSED_FULL);
-        GATHER.expect(&sums(at, (-END, 7), (-END, 9), minus), REFUSED_FULL);
+        let half = END / 2;
+        expect_taken(&sums(at, (-7, END), (-9, END), plus), at, (-3, half + 1));
+        expect_taken(&sums(at, (-END, 7), (-END, 9), minus), at, (-half - 1, 3));
         // Or another sum is.
         let mut full = sums(at, (-3, 5), (-2, 7), [0.0, 0.0, 0.0, 0.0, 0.0625]);
         full.buffers[4] = bytes(&[-(1 << 54)]);
-        GATHER.expect(&full, REFUSED_FULL);
-        assert_eq!(GATHER.agree(&full, 4).answer, REFUSED_FULL);
+        expect_taken(&full, at, (-1, 3));
     }
 }
 
@@ -546,7 +553,7 @@ fn one_lopsided_table_lent_as_both_is_refused_by_5() {
         lopsided.high = lopsided.low.clone();
         let offered = offered(&thin);
         let read_only = ACTS.iter().filter(|(act, _)| {
-            let written = [GATHER.name, READ_SUMMARY.name];
+            let written = [GATHER.name, POOL.name, READ_SUMMARY.name];
             !written.contains(&act.name)
         });
         for (act, call) in read_only {

@@ -1,5 +1,5 @@
 //! Gathering and reading the sums: every check at every place, floats of every
-//! exponent, chains that reach 18, allowances at their ends, one buffer lent as
+//! exponent, sums that are halved, allowances at their ends, one buffer lent as
 //! both, and rides whose coefficients are known.
 
 use hankboulder_compare::enclosure::BOX;
@@ -25,7 +25,6 @@ const REFUSED_FLAT: i64 = 8;
 const REFUSED_FAR: i64 = 9;
 const REFUSED_REVERSED: i64 = 16;
 const REFUSED_SAMPLE: i64 = 17;
-const REFUSED_FULL: i64 = 18;
 
 const ORDER: usize = 4;
 const LINEAR_RANGE: i64 = 1 << 36;
@@ -260,52 +259,93 @@ fn refusals_4_5_and_16_at_every_place() {
     }
 }
 
-/// A sum that the sample brings on by 1, where it is at its end or has room for 1.
-fn expect_full(mut call: Call, list: usize, places: &[usize], end: i64) {
-    for place in places {
-        set(&mut call, list, *place, end);
+/// A call of gathering on sums of odd numbers, so that each half is rounded.
+fn on_odd(sample: Sample) -> Call {
+    let mut call = on_zeros(ORDER, sample);
+    let odd = [-7, 5, -9, -3, -11];
+    for ((list, count, _), number) in LISTS.into_iter().zip(odd) {
+        (0..count).for_each(|place| set(&mut call, list, place, number));
     }
-    expect(&call, REFUSED_FULL);
-    for place in places {
-        set(&mut call, list, *place, end - end.signum());
+    call
+}
+
+/// What the sums of a call have with its sample in them: as they are, or halved. Halves are
+/// shifts of bits, which round down, and what the sample adds is what it leaves of zeros.
+fn with_sample(call: &Call, halved: bool) -> Vec<Vec<u8>> {
+    let (answer, gains) = GATHER.given(&on_zeros(ORDER, call.sample));
+    assert_eq!(answer, TAKEN);
+    let shift = u32::from(halved);
+    let lists = call.buffers.iter().zip(&gains).enumerate();
+    lists
+        .map(|(list, (sums, gains))| {
+            let down = [LOW, LINEAR_LOW].contains(&list);
+            let half = |sum: i64| match down {
+                true => sum >> shift,
+                false => -(-sum >> shift),
+            };
+            let pairs = numbers(sums).into_iter().zip(numbers(gains));
+            let totals: Vec<i64> = pairs.map(|(sum, gain)| half(sum) + gain).collect();
+            bytes(&totals)
+        })
+        .collect()
+}
+
+/// A sum that the sample brings on by 1: halved with all others where it is at its end, and
+/// added to where it has room for 1.
+fn expect_halved(sample: Sample, list: usize, places: &[usize], end: i64) {
+    for (number, halved) in [(end, true), (end - end.signum(), false)] {
+        let mut call = on_odd(sample);
+        for place in places {
+            set(&mut call, list, *place, number);
+        }
+        GATHER.expect_after(&call, TAKEN, &with_sample(&call, halved));
+        assert_eq!(GATHER.agree(&call, 1).answer, TAKEN);
     }
-    assert_eq!(GATHER.agree(&call, 1).answer, TAKEN);
-    let (_, after) = GATHER.given(&call);
-    assert_eq!(numbers(&after[list])[places[0]], end);
 }
 
 #[test]
-fn refusal_18_of_every_sum_at_its_end() {
+fn every_sum_at_its_end_is_halved_with_all_others() {
     let one = 0.0625;
     for (i, j) in (0..4).flat_map(|i| (0..4).map(move |j| (i, j))) {
         let places = [4 * i + j, 4 * j + i];
         let mut factors = [0.0; 5];
         (factors[i], factors[j]) = (one, one);
-        expect_full(on_zeros(ORDER, sample(factors)), HIGH, &places, ENTRY_RANGE);
+        expect_halved(sample(factors), HIGH, &places, ENTRY_RANGE);
         if i != j {
             factors[j] = -one;
-            expect_full(on_zeros(ORDER, sample(factors)), LOW, &places, -ENTRY_RANGE);
+            expect_halved(sample(factors), LOW, &places, -ENTRY_RANGE);
         }
     }
     for k in 0..4 {
         let mut factors = [0.0, 0.0, 0.0, 0.0, one];
         factors[k] = one;
-        expect_full(
-            on_zeros(ORDER, sample(factors)),
-            LINEAR_LOW,
-            &[k],
-            -LINEAR_RANGE,
-        );
+        expect_halved(sample(factors), LINEAR_LOW, &[k], -LINEAR_RANGE);
         factors[k] = -one;
-        expect_full(
-            on_zeros(ORDER, sample(factors)),
-            LINEAR_HIGH,
-            &[k],
-            LINEAR_RANGE,
-        );
+        expect_halved(sample(factors), LINEAR_HIGH, &[k], LINEAR_RANGE);
     }
     let drawn = sample([0.0, 0.0, 0.0, 0.0, one]);
-    expect_full(on_zeros(ORDER, drawn), RUNNING_LIMIT, &[0], -LIMIT_RANGE);
+    expect_halved(drawn, RUNNING_LIMIT, &[0], -LIMIT_RANGE);
+}
+
+/// R23.7: all sums at the ends of their ranges, low ones and high ones alike or apart, and
+/// the greatest samples of every sign.
+#[test]
+fn no_sample_is_refused_by_18() {
+    let ends = [(-1, -1), (-1, 1), (1, 1)];
+    let kinds = ends
+        .iter()
+        .flat_map(|tables| ends.map(|terms| (*tables, terms)));
+    for ((tables, terms), limit) in kinds.flat_map(|kind| [(kind, -1), (kind, 1)]) {
+        for signs in 0..32 {
+            let of_sign = |k: usize| if signs >> k & 1 == 1 { -8.0 } else { 8.0 };
+            let mut call = on_zeros(ORDER, sample(std::array::from_fn(of_sign)));
+            let of_lists = [tables.0, tables.1, terms.0, terms.1, limit];
+            for ((list, count, range), sign) in LISTS.into_iter().zip(of_lists) {
+                (0..count).for_each(|place| set(&mut call, list, place, sign * range));
+            }
+            assert_eq!(GATHER.agree(&call, signs).answer, TAKEN);
+        }
+    }
 }
 
 fn put_fault(call: &mut Call, fault: i64) {
@@ -320,14 +360,13 @@ fn put_fault(call: &mut Call, fault: i64) {
             set(call, HIGH, 1, 1);
         }
         REFUSED_REVERSED => set(call, LINEAR_LOW, 0, 1),
-        REFUSED_FULL => set(call, RUNNING_LIMIT, 0, -LIMIT_RANGE),
-        _ => unreachable!("gathering does not ask {fault}"),
+        _ => unreachable!("gathering does not refuse by {fault}"),
     }
 }
 
 #[test]
 fn of_several_faults_the_first_in_the_order_of_checks_is_given() {
-    let checks = [17, 1, 2, 3, 4, 5, 16, 18];
+    let checks = [17, 1, 2, 3, 4, 5, 16];
     assert_eq!(GATHER.answers[1..], checks);
     for chosen in 1..1 << checks.len() {
         let faults: Vec<i64> = (0..checks.len())
@@ -340,35 +379,39 @@ fn of_several_faults_the_first_in_the_order_of_checks_is_given() {
     }
 }
 
-/// Chains of samples from sums of 0, until one is refused by 18 and some more. The
-/// library's own sums are handed on.
+/// Whether the sums of a call are halved for its sample.
+fn is_halved(call: &Call) -> bool {
+    let lists = with_sample(call, false);
+    LISTS.iter().any(|(list, _, range)| {
+        let sums = numbers(&lists[*list]);
+        sums.iter().any(|sum| sum.abs() > *range)
+    })
+}
+
+/// Chains of samples from sums of 0, until the sums were halved some times. The library's own
+/// sums are handed on.
 #[test]
-fn chains_of_samples_reach_18() {
+fn chains_of_samples_halve_the_sums() {
     let mut generator = Generator::new(102);
     let mut random = Random::new(103);
     for _ in 0..12 {
         let mut call = on_zeros(ORDER, Sample::default());
         // Alike, and so great that entries are full after some hundred
         let alike = generator.good_sample();
-        let (mut taken, mut full) = (0, 0);
-        while full < 20 {
+        let (mut taken, mut halved) = (0, 0);
+        while halved < 20 {
             let great = sample([8.0, -7.9, 7.3, -8.0, 6.1]);
             let other = generator.good_sample();
             call.sample = random.pick(&[great, great, alike, other]);
-            let answer = GATHER.agree(&call, taken % 8).answer;
-            let (given, after) = GATHER.given(&call);
-            assert_eq!(given, answer);
-            match answer {
-                TAKEN => taken += 1,
-                REFUSED_FULL => {
-                    assert_eq!(after, call.buffers);
-                    full += 1;
-                }
-                _ => panic!("{answer} of {call:?}"),
-            }
-            call.buffers = after;
+            assert_eq!(GATHER.agree(&call, taken % 8).answer, TAKEN);
+            let by_halves = is_halved(&call);
+            let expected = with_sample(&call, by_halves);
+            call.buffers = GATHER.given(&call).1;
+            assert_eq!(call.buffers, expected);
+            taken += 1;
+            halved += usize::from(by_halves);
         }
-        assert!(taken >= 64, "{taken}");
+        assert!(taken >= 64 + 20 * 32, "{taken}");
     }
 }
 
@@ -480,10 +523,10 @@ fn one_buffer_may_be_both_tables_and_both_ends() {
 }
 
 /// Feeds a ride to the library, now and then a sample that 17 refuses between; the
-/// sums, and the squares of the samples that were taken.
+/// sums, the squares of the samples, and how often the sums were halved.
 fn feed(ride: &Ride, random: &mut Random) -> (Vec<Vec<u8>>, i128, usize) {
     let mut call = on_zeros(ORDER, Sample::default());
-    let (mut squares, mut full) = (0, 0);
+    let (mut squares, mut halved) = (0, 0);
     for sample in &ride.samples {
         if random.one_in(10) {
             call.sample = Sample {
@@ -493,15 +536,13 @@ fn feed(ride: &Ride, random: &mut Random) -> (Vec<Vec<u8>>, i128, usize) {
             expect(&call, REFUSED_SAMPLE);
         }
         call.sample = *sample;
+        halved += usize::from(is_halved(&call));
         let (answer, after) = GATHER.given(&call);
-        match answer {
-            TAKEN => squares += ride.square(sample),
-            REFUSED_FULL => full += 1,
-            _ => panic!("{answer} of {call:?}"),
-        }
+        assert_eq!(answer, TAKEN, "{call:?}");
+        squares += ride.square(sample);
         call.buffers = after;
     }
-    (call.buffers, squares, full)
+    (call.buffers, squares, halved)
 }
 
 /// The box of sums that are read with an allowance, from a centre.
@@ -547,12 +588,12 @@ fn centre_near(ride: &Ride, random: &mut Random) -> Vec<i64> {
 fn the_true_coefficients_are_in_every_box() {
     let (mut generator, mut random) = (Generator::new(105), Random::new(106));
     for (road, least_held) in [(Road::Rounded, 300), (Road::Measured, 150)] {
-        let (mut held, mut flat, mut overfull) = (0, 0, 0);
+        let (mut held, mut flat, mut of_halves) = (0, 0, 0);
         for round in 0..700 {
             let noise = random.pick(&[0.0, 0.01, 0.3, 2.0]);
             let count = random.pick(&[5, 12, 40, 150, 1500]);
             let ride = generator.ride(road, count, noise);
-            let (sums, squares, full) = feed(&ride, &mut random);
+            let (sums, squares, halved) = feed(&ride, &mut random);
             let least = ride.least_allowance(squares) as i64;
             let extra = random.pick(&[0, 0, 1, 1000]);
             let centre = centre_near(&ride, &mut random);
@@ -566,10 +607,12 @@ fn the_true_coefficients_are_in_every_box() {
                 REFUSED_FAR => {}
                 _ => panic!("{answer} with {least} allowed: {ride:?}"),
             }
-            overfull += usize::from(full > 0 && answer == BOX_GIVEN);
+            of_halves += usize::from(halved > 0 && answer == BOX_GIVEN);
         }
-        println!("{road:?}: {held} boxes hold the truth, {overfull} of full sums; {flat} are flat");
+        println!(
+            "{road:?}: {held} boxes hold the truth, {of_halves} of halved sums; {flat} are flat"
+        );
         assert!(held >= least_held, "{road:?}: {held}");
-        assert!(overfull > 0, "{road:?}");
+        assert!(of_halves > 20, "{road:?}: {of_halves}");
     }
 }
