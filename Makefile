@@ -1,6 +1,6 @@
 # hankboulder for C.
 #
-#   make                              prove the library and write its archive: three minutes on two cores, and needs the Rattle kit
+#   make                              prove the library and write its archive: six minutes on two cores, and needs the Rattle kit
 #   make install PREFIX=/usr/local    install the archive, the header and a file for pkg-config (DESTDIR is respected)
 #   make uninstall PREFIX=/usr/local  remove them
 #   make test-install                 install into a temporary folder, and build and run examples/firmware.c from there

@@ -278,6 +278,53 @@ static int64_t plain_gather_side(int64_t n, const struct problem *problem)
     return plain_gather(problem->sample, n, out.low, count, out.high, count, out.linear_low, order, out.linear_high, order, &out.running_limit, 1);
 }
 
+/* Each call begins with the sums of its pool. */
+static void start_pooling(int64_t n, const struct pool *pool)
+{
+    size_t table = HB_TABLE_BYTES(n), vector = HB_VECTOR_BYTES(n);
+    if (n < 1 || n > HB_MAX_ORDER)
+        return;
+    memcpy(out.low, pool->low, table);
+    memcpy(out.high, pool->high, table);
+    memcpy(out.linear_low, pool->linear_low, vector);
+    memcpy(out.linear_high, pool->linear_high, vector);
+    out.running_limit = pool->running_limit;
+}
+
+static int64_t library_pool(int64_t n, const struct problem *problem)
+{
+    const struct pool *pool = problem->pool;
+    size_t table = HB_TABLE_BYTES(n), vector = HB_VECTOR_BYTES(n), count = pool->count;
+    start_pooling(n, pool);
+    return hb_pool(n, (uint8_t *)out.low, table, (uint8_t *)out.high, table, (uint8_t *)out.linear_low, vector, (uint8_t *)out.linear_high,
+                   vector, (uint8_t *)&out.running_limit, HB_NUMBER_BYTES, bytes(pool->orders), HB_NUMBERS_BYTES(count), bytes(pool->lows),
+                   HB_TABLES_BYTES(n, count), bytes(pool->highs), HB_TABLES_BYTES(n, count), bytes(pool->linear_lows),
+                   HB_VECTORS_BYTES(n, count), bytes(pool->linear_highs), HB_VECTORS_BYTES(n, count), bytes(pool->limits),
+                   HB_NUMBERS_BYTES(count));
+}
+
+static int64_t plain_pool_side(int64_t n, const struct problem *problem)
+{
+    const struct pool *pool = problem->pool;
+    size_t order = (size_t)n, entries = order * order, count = pool->count;
+    start_pooling(n, pool);
+    return plain_pool(n, out.low, entries, out.high, entries, out.linear_low, order, out.linear_high, order, &out.running_limit, 1,
+                      pool->orders, count, pool->lows, count * entries, pool->highs, count * entries, pool->linear_lows, count * order,
+                      pool->linear_highs, count * order, pool->limits, count);
+}
+
+static int64_t tuned_pool_side(int64_t n, const struct problem *problem)
+{
+    const struct pool *pool = problem->pool;
+    size_t table = HB_TABLE_BYTES(n), vector = HB_VECTOR_BYTES(n), count = pool->count;
+    start_pooling(n, pool);
+    return tuned_pool(n, (uint8_t *)out.low, table, (uint8_t *)out.high, table, (uint8_t *)out.linear_low, vector,
+                      (uint8_t *)out.linear_high, vector, (uint8_t *)&out.running_limit, HB_NUMBER_BYTES, bytes(pool->orders),
+                      HB_NUMBERS_BYTES(count), bytes(pool->lows), HB_TABLES_BYTES(n, count), bytes(pool->highs), HB_TABLES_BYTES(n, count),
+                      bytes(pool->linear_lows), HB_VECTORS_BYTES(n, count), bytes(pool->linear_highs), HB_VECTORS_BYTES(n, count),
+                      bytes(pool->limits), HB_NUMBERS_BYTES(count));
+}
+
 static int64_t library_read_sums(int64_t n, const struct problem *problem)
 {
     size_t table = HB_TABLE_BYTES(n), vector = HB_VECTOR_BYTES(n);
@@ -385,6 +432,8 @@ enum {
     BRACKET_NOT,
     BRACKET_UNDECIDED,
     GATHER,
+    POOL,
+    POOL_HALVED,
     READ_SUMS,
     WRITE_SUMMARY,
     READ_SUMMARY,
@@ -396,6 +445,7 @@ enum {
     APART_BOX,
     APART_BRACKET,
     APART_GATHER,
+    APART_POOL,
     CHOLESKY,
     ACTS
 };
@@ -414,6 +464,9 @@ static struct act acts[ACTS] = {
     [BRACKET_UNDECIDED] = {"bracket, undecided (none is of order 1)", UNDECIDED, 2, HB_MAX_ORDER,
                            {library_stiffness, plain_stiffness_side, tuned_stiffness_side}},
     [GATHER] = {"gathering (a sample is of order 4)", DEFINITE, HB_SAMPLE_ORDER, HB_SAMPLE_ORDER, {library_gather, plain_gather_side}},
+    [POOL] = {"pool of 64 problems", DEFINITE, 1, HB_MAX_ORDER, {library_pool, plain_pool_side, tuned_pool_side}},
+    [POOL_HALVED] = {"pool of 64 problems, sums halved often", NOT_DEFINITE, 1, HB_MAX_ORDER,
+                     {library_pool, plain_pool_side, tuned_pool_side}},
     [READ_SUMS] = {"reading the sums", DEFINITE, 1, HB_MAX_ORDER, {library_read_sums, plain_read_sums_side}},
     [WRITE_SUMMARY] = {"writing a summary", DEFINITE, 1, HB_MAX_ORDER, {library_write_summary, plain_write_summary_side, tuned_write_summary_side}},
     [READ_SUMMARY] = {"reading a summary", DEFINITE, 1, HB_MAX_ORDER, {library_read_summary, plain_read_summary_side, tuned_read_summary_side}},
@@ -430,6 +483,8 @@ static struct act acts[ACTS] = {
                        {library_stiffness, plain_stiffness_side, tuned_stiffness_side}},
     [APART_GATHER] = {"gathering, the halves of the sums apart", LOPSIDED, HB_SAMPLE_ORDER, HB_SAMPLE_ORDER,
                       {library_gather, plain_gather_side}},
+    [APART_POOL] = {"pool of 64 problems, halves rounded apart", LOPSIDED, 1, HB_MAX_ORDER,
+                    {library_pool, plain_pool_side, tuned_pool_side}},
     [CHOLESKY] = {"peers: the judge on thin definite bounds, and the peers' factoring of the same matrices",
                   THIN,
                   1,
@@ -490,6 +545,7 @@ static const struct {
     {BOX, "box"},
     {BRACKET_DEFINITE, "bracket"},
     {GATHER, "gathering"},
+    {POOL, "pool"},
     {READ_SUMS, "reading the sums"},
     {WRITE_SUMMARY, "writing a summary"},
     {READ_SUMMARY, "reading a summary"},
@@ -503,10 +559,12 @@ static const struct {
 static void compare_acts(int64_t n, const struct problem *problem)
 {
     static struct problem before;
+    static struct pool pool_before;
     memcpy(&before, problem, sizeof before);
+    memcpy(&pool_before, problem->pool, sizeof pool_before);
     for (int a = 0; a < ACTS_COMPARED; a++)
         compare(&acts[compared[a].act], n, problem);
-    if (memcmp(&before, problem, sizeof before) != 0) {
+    if (memcmp(&before, problem, sizeof before) != 0 || memcmp(&pool_before, problem->pool, sizeof pool_before) != 0) {
         printf("order %d: a problem is written to\n", (int)n);
         exit(1);
     }
@@ -718,7 +776,7 @@ static struct sums sums_of(const struct act *act, int64_t n)
 static int has_act(int a)
 {
     const struct act *act = &acts[a];
-    if ((a >= FACTORING_FLOATING && a < APART_FACTOR_TEST) || a > APART_GATHER || !act->sides[LIBRARY])
+    if ((a >= FACTORING_FLOATING && a < APART_FACTOR_TEST) || a > APART_POOL || !act->sides[LIBRARY])
         return 0;
     int64_t answer = act->sides[LIBRARY](act->last_order, problem_of(act->kind, act->last_order, 0));
     return answer != LACKING && answer != HB_REFUSED_LOPSIDED;
@@ -844,7 +902,7 @@ static const struct {
     {FACTORING, 1.2},         {FACTOR_TEST, 1.2},  {JUDGE_DEFINITE, 1.1},    {BOX, 1.2},           {JUDGE_UNDECIDED, 0.01},
     {BRACKET_DEFINITE, 0.2},  {BRACKET_NOT, 0.2},  {BRACKET_UNDECIDED, 0.2}, {GATHER, 1.5},        {READ_SUMS, 1.5},
     {WRITE_SUMMARY, 1.5},     {READ_SUMMARY, 1.5}, {APART_FACTOR_TEST, 1.2}, {APART_JUDGE, 1.1},   {APART_BOX, 1.2},
-    {APART_BRACKET, 0.2},     {APART_GATHER, 1.5},
+    {APART_BRACKET, 0.2},     {APART_GATHER, 1.5}, {POOL, 1.5},              {POOL_HALVED, 1.5},   {APART_POOL, 1.5},
 };
 
 /* Prints whether the limits are kept. What has no side of the library is not measured. */
@@ -856,10 +914,10 @@ static int keeps_limits(void)
         const struct act *act = &acts[limits[k].act];
         double most = limits[k].most, ratio = time_of(act, act->last_order, LIBRARY) / time_of(act, act->last_order, PLAIN);
         if (!act->sides[LIBRARY]) {
-            printf("%-40s not measured: the bench's own archive is absent\n", act->name);
+            printf("%-44s not measured: the bench's own archive is absent\n", act->name);
             continue;
         }
-        printf("%-40s %.4f, at most %.2f: %s\n", act->name, ratio, most, ratio <= most ? "kept" : "BROKEN");
+        printf("%-44s %.4f, at most %.2f: %s\n", act->name, ratio, most, ratio <= most ? "kept" : "BROKEN");
         kept = kept && ratio <= most;
     }
     return kept;

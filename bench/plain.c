@@ -16,6 +16,7 @@
 #define MAX_ALLOWANCE ((int64_t)1 << 40)
 #define SAMPLE_ORDER 4
 #define SAMPLE_ENTRIES (SAMPLE_ORDER * SAMPLE_ORDER)
+#define GREATEST_POOL 64
 
 /* a / d rounded down toward minus infinity; d is positive */
 static int64_t floor_quotient(int64_t a, int64_t d)
@@ -650,16 +651,16 @@ static struct ends end_products(const struct ends *x, const struct ends *y)
     return ends;
 }
 
-/* Running sums: a mended copy of those that are lent, to which the sample is added */
+/* Running sums: a mended copy of those that are lent, to which a sample or a problem is added */
 struct sums {
-    int64_t low[SAMPLE_ENTRIES];
-    int64_t high[SAMPLE_ENTRIES];
-    int64_t linear_low[SAMPLE_ORDER];
-    int64_t linear_high[SAMPLE_ORDER];
+    int64_t low[PLAIN_MAX_ORDER * PLAIN_MAX_ORDER];
+    int64_t high[PLAIN_MAX_ORDER * PLAIN_MAX_ORDER];
+    int64_t linear_low[PLAIN_MAX_ORDER];
+    int64_t linear_high[PLAIN_MAX_ORDER];
     int64_t running_limit;
 };
 
-/* Check 3 of sums, and check 18 of those with a sample in them */
+/* Check 3 of sums, and check 18 of those with a sample or a problem in them */
 static int sums_in_range(int64_t n, const int64_t *low, const int64_t *high, const int64_t *linear_low, const int64_t *linear_high,
                          int64_t running_limit)
 {
@@ -675,8 +676,51 @@ static int64_t check_sums(int64_t n, const int64_t *low, const int64_t *high, co
     return refusal ? refusal : crossed(linear_low, linear_high, n) ? 16 : 0;
 }
 
-/* Adds a sample; each pair of factors is worked out once */
-static void add(struct sums *sums, const struct ends *factors, const struct ends *draw)
+/* Copies sums that are lent, mended. Whether each pair leaves a number (check 5). */
+static int load_sums(int64_t n, struct sums *sums, const int64_t *low, const int64_t *high, const int64_t *linear_low,
+                     const int64_t *linear_high, int64_t running_limit)
+{
+    size_t vector = (size_t)n * sizeof *linear_low;
+    memcpy(sums->linear_low, linear_low, vector);
+    memcpy(sums->linear_high, linear_high, vector);
+    sums->running_limit = running_limit;
+    return mend(n, low, high, sums->low, sums->high);
+}
+
+static void store_sums(int64_t n, const struct sums *sums, int64_t *low, int64_t *high, int64_t *linear_low, int64_t *linear_high,
+                       int64_t *running_limit)
+{
+    size_t table = (size_t)(n * n) * sizeof *low, vector = (size_t)n * sizeof *low;
+    memcpy(low, sums->low, table);
+    memcpy(high, sums->high, table);
+    memcpy(linear_low, sums->linear_low, vector);
+    memcpy(linear_high, sums->linear_high, vector);
+    *running_limit = sums->running_limit;
+}
+
+static void halve_down(int64_t *numbers, int64_t count)
+{
+    for (int64_t place = 0; place < count; place++)
+        numbers[place] = floor_quotient(numbers[place], 2);
+}
+
+static void halve_up(int64_t *numbers, int64_t count)
+{
+    for (int64_t place = 0; place < count; place++)
+        numbers[place] = ceiling_quotient(numbers[place], 2);
+}
+
+static void halve(int64_t n, struct sums *sums)
+{
+    halve_down(sums->low, n * n);
+    halve_up(sums->high, n * n);
+    halve_down(sums->linear_low, n);
+    halve_up(sums->linear_high, n);
+    halve_up(&sums->running_limit, 1);
+}
+
+/* Adds a sample; each pair of factors is worked out once. Whether all sums are in their ranges then. */
+static int add_sample(struct sums *sums, const struct ends *factors, const struct ends *draw)
 {
     for (int i = 0; i < SAMPLE_ORDER; i++) {
         for (int j = i; j < SAMPLE_ORDER; j++) {
@@ -693,6 +737,7 @@ static void add(struct sums *sums, const struct ends *factors, const struct ends
     }
     int64_t least = draw->low * draw->low, other = draw->high * draw->high;
     sums->running_limit -= least < other ? least : other;
+    return sums_in_range(SAMPLE_ORDER, sums->low, sums->high, sums->linear_low, sums->linear_high, sums->running_limit);
 }
 
 int64_t plain_gather(hb_sample sample, int64_t n, int64_t *low, size_t low_count, int64_t *high, size_t high_count, int64_t *linear_low,
@@ -711,20 +756,161 @@ int64_t plain_gather(hb_sample sample, int64_t n, int64_t *low, size_t low_count
         return 2;
     if (!sums_in_range(n, low, high, linear_low, linear_high, *running_limit))
         return 3;
-    int64_t refusal = check_sums(n, low, high, linear_low, linear_high, sums.low, sums.high);
+    if (crossed(low, high, n * n))
+        return 4;
+    if (!load_sums(n, &sums, low, high, linear_low, linear_high, *running_limit))
+        return 5;
+    if (crossed(linear_low, linear_high, n))
+        return 16;
+    if (!add_sample(&sums, factors, &draw)) {
+        load_sums(n, &sums, low, high, linear_low, linear_high, *running_limit);
+        halve(n, &sums);
+        if (!add_sample(&sums, factors, &draw))
+            return 18;
+    }
+    store_sums(n, &sums, low, high, linear_low, linear_high, running_limit);
+    return 0;
+}
+
+/* The problems of a pool, after check 2 */
+struct problems {
+    int64_t n;
+    int64_t count;
+    const int64_t *lows;
+    const int64_t *highs;
+    const int64_t *linear_lows;
+    const int64_t *linear_highs;
+    const int64_t *limits;
+};
+
+/* Check 1 of the orders where these are 1 to 64: 0, or the number of the refusal, which may be that of check 2 */
+static int64_t check_orders(int64_t n, const int64_t *orders, size_t count)
+{
+    int unequal = 0;
+    if (count < 1 || count > GREATEST_POOL)
+        return 2;
+    for (size_t k = 0; k < count; k++) {
+        if (orders[k] < 1 || orders[k] > PLAIN_MAX_ORDER)
+            return 1;
+        unequal |= orders[k] != n;
+    }
+    return unequal ? 2 : 0;
+}
+
+/* Check 3 of the problems */
+static int problems_in_range(const struct problems *p)
+{
+    int64_t entries = p->count * p->n * p->n, terms = p->count * p->n;
+    return in_range(p->lows, entries, ENTRY_RANGE) && in_range(p->highs, entries, ENTRY_RANGE) &&
+           in_range(p->linear_lows, terms, LINEAR_RANGE) && in_range(p->linear_highs, terms, LINEAR_RANGE) &&
+           in_range(p->limits, p->count, LIMIT_RANGE);
+}
+
+/* Check 5 of a problem: whether a pair leaves no number */
+static int lopsided(int64_t n, const int64_t *low, const int64_t *high)
+{
+    for (int64_t i = 0; i < n; i++)
+        for (int64_t j = 0; j < n; j++)
+            if (low[i * n + j] > high[j * n + i])
+                return 1;
+    return 0;
+}
+
+static int any_lopsided(const struct problems *p)
+{
+    for (int64_t k = 0; k < p->count; k++)
+        if (lopsided(p->n, p->lows + k * p->n * p->n, p->highs + k * p->n * p->n))
+            return 1;
+    return 0;
+}
+
+/* Adds numbers to sums. Whether all of these are within their range then. */
+static int add_numbers(int64_t *sums, const int64_t *numbers, int64_t count, int64_t range)
+{
+    int inside = 1;
+    for (int64_t place = 0; place < count; place++) {
+        sums[place] += numbers[place];
+        inside &= within(sums[place], range);
+    }
+    return inside;
+}
+
+static void take_numbers(int64_t *sums, const int64_t *numbers, int64_t count)
+{
+    for (int64_t place = 0; place < count; place++)
+        sums[place] -= numbers[place];
+}
+
+/* Adds problem k, whose tables are mended. Whether all sums are within their ranges then. */
+static int add_mended(struct sums *sums, const struct problems *p, int64_t k, const struct mended *mended)
+{
+    int inside = add_numbers(sums->low, mended->low, p->n * p->n, ENTRY_RANGE);
+    inside &= add_numbers(sums->high, mended->high, p->n * p->n, ENTRY_RANGE);
+    inside &= add_numbers(sums->linear_low, p->linear_lows + k * p->n, p->n, LINEAR_RANGE);
+    inside &= add_numbers(sums->linear_high, p->linear_highs + k * p->n, p->n, LINEAR_RANGE);
+    return add_numbers(&sums->running_limit, p->limits + k, 1, LIMIT_RANGE) & inside;
+}
+
+static void take_mended(struct sums *sums, const struct problems *p, int64_t k, const struct mended *mended)
+{
+    take_numbers(sums->low, mended->low, p->n * p->n);
+    take_numbers(sums->high, mended->high, p->n * p->n);
+    take_numbers(sums->linear_low, p->linear_lows + k * p->n, p->n);
+    take_numbers(sums->linear_high, p->linear_highs + k * p->n, p->n);
+    sums->running_limit -= p->limits[k];
+}
+
+/* Adds problem k to the sums or, where one would leave its range, to their halves. Whether there is room. */
+static int add_problem(struct sums *sums, const struct problems *p, int64_t k)
+{
+    struct mended mended;
+    mend(p->n, p->lows + k * p->n * p->n, p->highs + k * p->n * p->n, mended.low, mended.high);
+    if (add_mended(sums, p, k, &mended))
+        return 1;
+    take_mended(sums, p, k, &mended);
+    halve(p->n, sums);
+    return add_mended(sums, p, k, &mended);
+}
+
+/* Checks 3, 4, 5 and 16 of the lent sums and all problems: 0, and the mended sums; or the number of the refusal */
+static int64_t check_pool(const struct problems *p, struct sums *sums, const int64_t *low, const int64_t *high, const int64_t *linear_low,
+                          const int64_t *linear_high, int64_t running_limit)
+{
+    int64_t n = p->n;
+    if (!sums_in_range(n, low, high, linear_low, linear_high, running_limit) || !problems_in_range(p))
+        return 3;
+    if (crossed(low, high, n * n) || crossed(p->lows, p->highs, p->count * n * n))
+        return 4;
+    if (!load_sums(n, sums, low, high, linear_low, linear_high, running_limit) || any_lopsided(p))
+        return 5;
+    return crossed(linear_low, linear_high, n) || crossed(p->linear_lows, p->linear_highs, p->count * n) ? 16 : 0;
+}
+
+int64_t plain_pool(int64_t n, int64_t *low, size_t low_count, int64_t *high, size_t high_count, int64_t *linear_low,
+                   size_t linear_low_count, int64_t *linear_high, size_t linear_high_count, int64_t *running_limit,
+                   size_t running_limit_count, const int64_t *orders, size_t orders_count, const int64_t *lows, size_t lows_count,
+                   const int64_t *highs, size_t highs_count, const int64_t *linear_lows, size_t linear_lows_count,
+                   const int64_t *linear_highs, size_t linear_highs_count, const int64_t *limits, size_t limits_count)
+{
+    struct problems problems = {n, (int64_t)orders_count, lows, highs, linear_lows, linear_highs, limits};
+    struct sums sums;
+    if (n < 1 || n > PLAIN_MAX_ORDER)
+        return 1;
+    int64_t refusal = check_orders(n, orders, orders_count);
     if (refusal)
         return refusal;
-    memcpy(sums.linear_low, linear_low, sizeof sums.linear_low);
-    memcpy(sums.linear_high, linear_high, sizeof sums.linear_high);
-    sums.running_limit = *running_limit;
-    add(&sums, factors, &draw);
-    if (!sums_in_range(n, sums.low, sums.high, sums.linear_low, sums.linear_high, sums.running_limit))
-        return 18;
-    memcpy(low, sums.low, sizeof sums.low);
-    memcpy(high, sums.high, sizeof sums.high);
-    memcpy(linear_low, sums.linear_low, sizeof sums.linear_low);
-    memcpy(linear_high, sums.linear_high, sizeof sums.linear_high);
-    *running_limit = sums.running_limit;
+    size_t order = (size_t)n, entries = order * order, count = orders_count;
+    if (low_count != entries || high_count != entries || linear_low_count != order || linear_high_count != order ||
+        running_limit_count != 1 || lows_count != count * entries || highs_count != count * entries ||
+        linear_lows_count != count * order || linear_highs_count != count * order || limits_count != count)
+        return 2;
+    refusal = check_pool(&problems, &sums, low, high, linear_low, linear_high, *running_limit);
+    if (refusal)
+        return refusal;
+    for (int64_t k = 0; k < problems.count; k++)
+        if (!add_problem(&sums, &problems, k))
+            return 18;
+    store_sums(n, &sums, low, high, linear_low, linear_high, running_limit);
     return 0;
 }
 

@@ -61,12 +61,23 @@ int64_t plain_stiffness(int64_t n, const int64_t *low, size_t low_count, const i
                         size_t step_count, int64_t *bound, size_t bound_count, int64_t *vector, size_t vector_count);
 
 /*
- * Gathering with its checks, by floorf and ceilf: 0, and the sums are the mended ones with the sample; or the number of the refusal, and
- * they are as they were.
+ * Gathering with its checks, by floorf and ceilf: 0, and the sums are the mended ones with the sample, halved before it where they had no
+ * room; or the number of the refusal, and they are as they were.
  */
 int64_t plain_gather(hb_sample sample, int64_t n, int64_t *low, size_t low_count, int64_t *high, size_t high_count, int64_t *linear_low,
                      size_t linear_low_count, int64_t *linear_high, size_t linear_high_count, int64_t *running_limit,
                      size_t running_limit_count);
+
+/*
+ * A pool with its checks, each over the sums and all problems: 0, and the sums are the mended ones, halved where they had no room for a
+ * problem, with all problems; or the number of the refusal, and they are as they were. Each problem is mended, and added to a copy of the
+ * sums; where one leaves its range the problem is taken off again, the copy is halved, and the problem is added once more.
+ */
+int64_t plain_pool(int64_t n, int64_t *low, size_t low_count, int64_t *high, size_t high_count, int64_t *linear_low,
+                   size_t linear_low_count, int64_t *linear_high, size_t linear_high_count, int64_t *running_limit,
+                   size_t running_limit_count, const int64_t *orders, size_t orders_count, const int64_t *lows, size_t lows_count,
+                   const int64_t *highs, size_t highs_count, const int64_t *linear_lows, size_t linear_lows_count,
+                   const int64_t *linear_highs, size_t linear_highs_count, const int64_t *limits, size_t limits_count);
 
 /* Reading the sums with its checks: 0, and the limit is written; or the number of the refusal. */
 int64_t plain_read_sums(int64_t n, const int64_t *low, size_t low_count, const int64_t *high, size_t high_count, const int64_t *linear_low,

@@ -8,6 +8,12 @@
 
 static struct problem problems[KINDS][HB_MAX_ORDER + 1][PROBLEMS];
 
+/* Pools that leave the sums in their ranges; pools that halve them; the first ones with the halves of all tables apart */
+enum { ROOMY, HALVING, APART, POOL_KINDS };
+
+static struct pool pools[POOL_KINDS][HB_MAX_ORDER + 1][POOLS];
+static struct pool any_pool;
+
 const struct problem *problem_of(enum kind kind, int64_t n, int place)
 {
     return &problems[kind][n][place];
@@ -37,11 +43,11 @@ static int64_t cut_to_range(int64_t entry)
 }
 
 /* Moves the halves of both tables apart, within the range: of each pair one low goes down and one high goes up. Mending takes it back. */
-static void move_apart(int64_t n, struct problem *problem, int64_t most)
+static void move_apart(int64_t n, int64_t *lows, int64_t *highs, int64_t most)
 {
     for (int64_t i = 0; i < n; i++) {
         for (int64_t j = 0; j < i; j++) {
-            int64_t *low = &problem->low[draw(0, 1) ? i * n + j : j * n + i], *high = &problem->high[draw(0, 1) ? i * n + j : j * n + i];
+            int64_t *low = &lows[draw(0, 1) ? i * n + j : j * n + i], *high = &highs[draw(0, 1) ? i * n + j : j * n + i];
             *low = cut_to_range(*low - draw(0, most));
             *high = cut_to_range(*high + draw(0, most));
         }
@@ -207,8 +213,64 @@ static void make_lopsided(int64_t n, int place)
     struct problem *problem = &problems[LOPSIDED][n][place];
     *problem = problems[DEFINITE][n][place];
     problem->apart = 1;
-    move_apart(n, problem, 2);
+    move_apart(n, problem->low, problem->high, 2);
     draw_file(n, problem);
+}
+
+/* Begins a pool: its sums have the numbers of a problem. */
+static void start_pool(struct pool *pool, const struct problem *problem)
+{
+    memset(pool, 0, sizeof *pool);
+    memcpy(pool->low, problem->low, sizeof pool->low);
+    memcpy(pool->high, problem->high, sizeof pool->high);
+    memcpy(pool->linear_low, problem->linear_low, sizeof pool->linear_low);
+    memcpy(pool->linear_high, problem->linear_high, sizeof pool->linear_high);
+    pool->running_limit = problem->limit;
+}
+
+/* Puts a problem behind those of a pool. */
+static void put_problem(int64_t n, struct pool *pool, const struct problem *problem)
+{
+    size_t place = pool->count++, order = (size_t)n, entries = order * order;
+    pool->orders[place] = n;
+    memcpy(pool->lows + place * entries, problem->low, entries * sizeof *pool->lows);
+    memcpy(pool->highs + place * entries, problem->high, entries * sizeof *pool->highs);
+    memcpy(pool->linear_lows + place * order, problem->linear_low, order * sizeof *pool->linear_lows);
+    memcpy(pool->linear_highs + place * order, problem->linear_high, order * sizeof *pool->linear_highs);
+    pool->limits[place] = problem->limit;
+}
+
+/* A problem for a pool: B'B with diagonal entries up to most, bounds up to 2 apart */
+static void draw_pooled(int64_t n, struct problem *problem, int64_t most)
+{
+    int64_t b[MAX_ENTRIES], size = 0;
+    while ((size + 1) * (size + 1) * n <= most - 2)
+        size++;
+    for (int64_t at = 0; at < n * n; at++)
+        b[at] = draw(-size, size);
+    set_product(n, problem, b, 0, 0, 2);
+    draw_terms(n, problem);
+}
+
+/* The pools of an order. The sums and 64 problems have room for 1/65 of the range each, and a problem for half of it beside halved sums. */
+static void draw_pools(int64_t n, int place)
+{
+    static struct problem problem;
+    for (int kind = ROOMY; kind <= HALVING; kind++) {
+        struct pool *pool = &pools[kind][n][place];
+        int64_t most = kind == ROOMY ? HB_ENTRY_RANGE / POOL_ROOM : HB_ENTRY_RANGE / 2;
+        draw_pooled(n, &problem, most);
+        start_pool(pool, &problem);
+        while (pool->count < HB_GREATEST_POOL) {
+            draw_pooled(n, &problem, most);
+            put_problem(n, pool, &problem);
+        }
+    }
+    struct pool *apart = &pools[APART][n][place];
+    *apart = pools[ROOMY][n][place];
+    move_apart(n, apart->low, apart->high, 2);
+    for (int64_t k = 0; k < HB_GREATEST_POOL; k++)
+        move_apart(n, apart->lows + k * n * n, apart->highs + k * n * n, 2);
 }
 
 void draw_problems(void)
@@ -228,6 +290,13 @@ void draw_problems(void)
     for (int64_t n = 1; n <= HB_MAX_ORDER; n++)
         for (int place = 0; place < PROBLEMS; place++)
             make_lopsided(n, place);
+    for (int64_t n = 1; n <= HB_MAX_ORDER; n++) {
+        for (int place = 0; place < POOLS; place++)
+            draw_pools(n, place);
+        for (int kind = 0; kind < KINDS; kind++)
+            for (int place = 0; place < PROBLEMS; place++)
+                problems[kind][n][place].pool = &pools[kind == LOPSIDED ? APART : kind == NOT_DEFINITE ? HALVING : ROOMY][n][place % POOLS];
+    }
 }
 
 /* Any entries of some size, greater ones on the diagonal, the bounds up to width apart, and now and then at the edge of the range */
@@ -350,6 +419,41 @@ static void draw_any_file(int64_t n, struct problem *problem)
     }
 }
 
+/* One order that is another, or none at all */
+static void spoil_orders(struct pool *pool)
+{
+    pool->orders[draw(0, HB_GREATEST_POOL)] = draw(0, 1) ? draw(-1, HB_MAX_ORDER + 1) : draw_wild();
+}
+
+/*
+ * A pool for the numbers of a problem: these for sums, and again, at the edge of the range, or small ones, for the problems, up to 65 and
+ * now and then none. One of them, the sums or an order may be spoiled.
+ */
+static void draw_any_pool(int64_t n, const struct problem *problem)
+{
+    static struct problem sums, pooled;
+    int64_t count = draw(0, 20) == 0 ? draw(0, 1) * POOL_ROOM : draw(1, draw(0, 1) ? 3 : HB_GREATEST_POOL), spoiled = draw(-count, count);
+    sums = *problem;
+    if (draw(0, 7) == 0)
+        spoil(n, &sums);
+    start_pool(&any_pool, &sums);
+    while ((int64_t)any_pool.count < count) {
+        if (draw(0, 1))
+            draw_pooled(n, &pooled, (int64_t)1 << draw(1, 20));
+        else
+            pooled = *problem;
+        if (draw(0, 9) == 0)
+            pooled.limit = draw(-HB_LIMIT_RANGE, HB_LIMIT_RANGE);
+        if (draw(0, 2) == 0)
+            move_apart(n, pooled.low, pooled.high, 2);
+        if ((int64_t)any_pool.count == spoiled)
+            spoil(n, &pooled);
+        put_problem(n, &any_pool, &pooled);
+    }
+    if (draw(0, 9) == 0)
+        spoil_orders(&any_pool);
+}
+
 void draw_any(int64_t n, struct problem *problem)
 {
     int64_t kind = draw(0, KINDS + 1);
@@ -361,7 +465,7 @@ void draw_any(int64_t n, struct problem *problem)
         draw_entries(n, problem);
     }
     if (draw(0, 2) == 0)
-        move_apart(n, problem, draw(0, 1) ? 2 : HB_ENTRY_RANGE);
+        move_apart(n, problem->low, problem->high, draw(0, 1) ? 2 : HB_ENTRY_RANGE);
     draw_terms(n, problem);
     if (draw(0, 3) == 0)
         problem->limit = draw(0, 1) ? problem->limit - draw(0, 2000000) : draw(-HB_LIMIT_RANGE - 1, HB_LIMIT_RANGE + 1);
@@ -370,6 +474,8 @@ void draw_any(int64_t n, struct problem *problem)
     draw_offers(n, problem);
     draw_any_sample(problem);
     draw_any_file(n, problem);
+    draw_any_pool(n, problem);
+    problem->pool = &any_pool;
     if (draw(0, 3) == 0)
         spoil(n, problem);
 }

@@ -7,12 +7,30 @@
 #define PROBLEMS 64
 #define MAX_ENTRIES (HB_MAX_ORDER * HB_MAX_ORDER)
 #define FILE_ROOM 4100
+#define POOLS 4
+#define POOL_ROOM (HB_GREATEST_POOL + 1)
+
+/* Running sums, and the problems that are pooled into them, in the library's lists: how many, and one more has room */
+struct pool {
+    int64_t low[MAX_ENTRIES];
+    int64_t high[MAX_ENTRIES];
+    int64_t linear_low[HB_MAX_ORDER];
+    int64_t linear_high[HB_MAX_ORDER];
+    int64_t running_limit;
+    size_t count;
+    int64_t orders[POOL_ROOM];
+    int64_t lows[POOL_ROOM * MAX_ENTRIES];
+    int64_t highs[POOL_ROOM * MAX_ENTRIES];
+    int64_t linear_lows[POOL_ROOM * HB_MAX_ORDER];
+    int64_t linear_highs[POOL_ROOM * HB_MAX_ORDER];
+    int64_t limits[POOL_ROOM];
+};
 
 /*
  * The place among the problems of its kind and order; whether the halves of its tables are apart; bounds; a factor and a vector that are
- * offered for them; an ellipsoid; a sample, and an allowance; a summary file, and how many bytes of it there are. Where sums are asked for
- * they have the bounds and the linear terms, and the limit for a running limit. The processor stores the low byte first, so that tables of
- * int64_t are the library's bytes.
+ * offered for them; an ellipsoid; a sample, and an allowance; a summary file, and how many bytes of it there are; a pool. Where sums are
+ * asked for they have the bounds and the linear terms, and the limit for a running limit; those of a pool are its own. The processor stores
+ * the low byte first, so that tables of int64_t are the library's bytes.
  */
 struct problem {
     int place;
@@ -29,6 +47,7 @@ struct problem {
     int64_t allowance;
     uint8_t file[FILE_ROOM];
     size_t file_size;
+    const struct pool *pool;
 };
 
 /*
@@ -39,6 +58,9 @@ struct problem {
  * the ones that are not, which are singular. The last are the definite ones with the upper and the lower half of each table rounded apart:
  * of each pair one low is less, and one high more, by up to 2, in the tables and in the file. Mended, they are the definite ones. Those of
  * order 1 have no pair.
+ *
+ * A pool has 64 problems, and is taken. The pools of the last kind are those of the definite ones, the halves of all tables rounded apart,
+ * and leave the sums in their ranges; those of the problems that are not definite halve the sums again and again.
  */
 enum kind { DEFINITE, NOT_DEFINITE, UNDECIDED, THIN, SINGULAR, LOPSIDED, KINDS };
 
@@ -48,7 +70,10 @@ void draw_problems(void);
 /* One of the PROBLEMS drawn */
 const struct problem *problem_of(enum kind kind, int64_t n, int place);
 
-/* A problem of order n to compare answers on: entries at and beyond the edges of their ranges, refused ones, flat, far and empty ones among them */
+/*
+ * A problem of order n to compare answers on: entries at and beyond the edges of their ranges, refused ones, flat, far and empty ones among
+ * them. Its pool, which lasts until the next is drawn, has any count of problems, refused ones and ones that find no room among them.
+ */
 void draw_any(int64_t n, struct problem *problem);
 
 #endif

@@ -14,7 +14,7 @@
 #define SEED 20240229u
 #define STACK_BYTES 65536
 #define MAX_ENTRIES (HB_MAX_ORDER * HB_MAX_ORDER)
-#define ENTRIES 9
+#define ENTRIES 10
 #define KINDS 11
 #define LEAST_ANSWER (-2)
 #define ANSWERS (HB_REFUSED_FALLING - LEAST_ANSWER + 1)
@@ -36,9 +36,20 @@ struct input {
 
 static struct input input;
 
-/* What gathering takes for sums: the bounds, the linear terms, and the limit for a running limit */
+/* What gathering and pooling take for sums: the bounds, the linear terms, and the limit for a running limit */
 static struct input sums;
 static int64_t factor[MAX_ENTRIES], vector[HB_MAX_ORDER], over, sides[2 * HB_MAX_ORDER], step, bound, shown[HB_MAX_ORDER], limit;
+
+/* The problems of a pool, as its lists have them, and how many they are */
+static struct {
+    int64_t count;
+    int64_t orders[HB_GREATEST_POOL];
+    int64_t lows[HB_GREATEST_POOL * MAX_ENTRIES];
+    int64_t highs[HB_GREATEST_POOL * MAX_ENTRIES];
+    int64_t linear_lows[HB_GREATEST_POOL * HB_MAX_ORDER];
+    int64_t linear_highs[HB_GREATEST_POOL * HB_MAX_ORDER];
+    int64_t limits[HB_GREATEST_POOL];
+} pool;
 
 /* The last summary file that was written, and how much of it is read; and what is read from it */
 static uint8_t file[HB_SUMMARY_BYTES(HB_MAX_ORDER)];
@@ -102,6 +113,17 @@ static void call_gather(void)
                        (uint8_t *)&sums.limit, HB_NUMBER_BYTES);
 }
 
+static void call_pool(void)
+{
+    size_t table = HB_TABLE_BYTES(input.n), list = HB_VECTOR_BYTES(input.n), numbers = HB_NUMBERS_BYTES(pool.count);
+    size_t tables = HB_TABLES_BYTES(input.n, pool.count), lists = HB_VECTORS_BYTES(input.n, pool.count);
+    frame = __builtin_frame_address(0);
+    answer = hb_pool(input.n, (uint8_t *)sums.low, table, (uint8_t *)sums.high, table, (uint8_t *)sums.linear_low, list,
+                     (uint8_t *)sums.linear_high, list, (uint8_t *)&sums.limit, HB_NUMBER_BYTES, bytes(pool.orders), numbers,
+                     bytes(pool.lows), tables, bytes(pool.highs), tables, bytes(pool.linear_lows), lists, bytes(pool.linear_highs), lists,
+                     bytes(pool.limits), numbers);
+}
+
 static void call_read_sums(void)
 {
     frame = __builtin_frame_address(0);
@@ -142,6 +164,7 @@ static struct entry entries[ENTRIES] = {
     {.name = "hb_box", .call = call_box, .allowed = HB_BOX_STACK},
     {.name = "hb_stiffness", .call = call_stiffness, .allowed = HB_STIFFNESS_STACK},
     {.name = "hb_gather", .call = call_gather, .allowed = HB_GATHER_STACK},
+    {.name = "hb_pool", .call = call_pool, .allowed = HB_POOL_STACK},
     {.name = "hb_read_sums", .call = call_read_sums, .allowed = HB_READ_SUMS_STACK},
     {.name = "hb_write_summary", .call = call_write_summary, .allowed = HB_WRITE_SUMMARY_STACK},
     {.name = "hb_read_summary", .call = call_read_summary, .allowed = HB_READ_SUMMARY_STACK},
@@ -314,6 +337,42 @@ static void draw_sample(void)
     input.allowance = draw(0, 20) == 0 ? -1 : draw(0, HB_MAX_ALLOWANCE);
 }
 
+/* Whether the numbers of the problem that was drawn are within half of their ranges, so that halved sums have room for it */
+static int has_room(void)
+{
+    int inside = 2 * input.limit >= -HB_LIMIT_RANGE && 2 * input.limit <= HB_LIMIT_RANGE;
+    for (int64_t place = 0; place < input.n * input.n; place++)
+        inside &= 2 * input.low[place] >= -HB_ENTRY_RANGE && 2 * input.high[place] <= HB_ENTRY_RANGE;
+    return inside;
+}
+
+/* Whether it goes into the pool: where it is let through, and there is room for it. Now and then there need not be. */
+static int is_pooled(void)
+{
+    int64_t found;
+    if (!has_room() && draw(0, 100) != 0)
+        return 0;
+    return hb_read_sums(input.n, bytes(input.low), HB_TABLE_BYTES(input.n), bytes(input.high), HB_TABLE_BYTES(input.n),
+                        bytes(input.linear_low), HB_VECTOR_BYTES(input.n), bytes(input.linear_high), HB_VECTOR_BYTES(input.n), input.limit,
+                        0, (uint8_t *)&found, HB_NUMBER_BYTES) == HB_WRITTEN;
+}
+
+/* Puts it behind those of the pool, which begins anew after 1 to 64 problems, and with another order: so there are pools of every count. */
+static void put_problem(void)
+{
+    static int64_t most = HB_GREATEST_POOL;
+    if (pool.count >= most || pool.orders[0] != input.n) {
+        most = draw(1, HB_GREATEST_POOL);
+        pool.count = 0;
+    }
+    pool.orders[pool.count] = input.n;
+    memcpy(pool.lows + pool.count * input.n * input.n, input.low, HB_TABLE_BYTES(input.n));
+    memcpy(pool.highs + pool.count * input.n * input.n, input.high, HB_TABLE_BYTES(input.n));
+    memcpy(pool.linear_lows + pool.count * input.n, input.linear_low, HB_VECTOR_BYTES(input.n));
+    memcpy(pool.linear_highs + pool.count * input.n, input.linear_high, HB_VECTOR_BYTES(input.n));
+    pool.limits[pool.count++] = input.limit;
+}
+
 /* Offers the factor and the vector that the judge has just written, or those from before; now and then with one entry changed */
 static void offer(void)
 {
@@ -352,6 +411,8 @@ static void measure_order(int64_t n)
         draw_bounds(place % KINDS);
         draw_terms(place % 3 != 0);
         draw_sample();
+        if (is_pooled())
+            put_problem();
         for (int k = 0; k < ENTRIES; k++) {
             if (entries[k].call == call_read_summary)
                 take_file();

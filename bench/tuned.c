@@ -1165,3 +1165,189 @@ int64_t tuned_read_summary(const uint8_t *file, size_t file_len, uint8_t *order,
     give_list(centre, n, places.centre);
     return 0;
 }
+
+#define GREATEST_POOL 64
+
+/* Sums or a problem of a pool, where they lie */
+struct constraint {
+    const number *low;
+    const number *high;
+    const number *linear_low;
+    const number *linear_high;
+    int64_t limit;
+};
+
+/* The buffers of a pool: its sums are the constraint before the first problem. */
+struct pool {
+    int64_t n;
+    int64_t count;
+    struct constraint sums;
+    struct constraint problems;
+    const number *limits;
+};
+
+INLINED struct constraint constraint_of(const struct pool *pool, int64_t k)
+{
+    const struct constraint *p = &pool->problems;
+    int64_t entry = k * pool->n * pool->n, term = k * pool->n;
+    if (k < 0)
+        return pool->sums;
+    return (struct constraint){p->low + entry, p->high + entry, p->linear_low + term, p->linear_high + term, pool->limits[k]};
+}
+
+/* Which of 3, 4, 5 and 16 fail for a constraint: bit k is set where check k does */
+static __attribute__((noinline, cold)) int failing(int64_t n, const struct constraint *c)
+{
+    int bits = within(c->limit, LIMIT_RANGE) ? 0 : 1 << 3;
+    for (int64_t i = 0; i < n; i++) {
+        for (int64_t j = 0; j < n; j++) {
+            int64_t low = c->low[i * n + j], high = c->high[i * n + j];
+            bits |= within(low, ENTRY_RANGE) && within(high, ENTRY_RANGE) ? 0 : 1 << 3;
+            bits |= (low > high) << 4 | (low > c->high[j * n + i]) << 5;
+        }
+        bits |= within(c->linear_low[i], LINEAR_RANGE) && within(c->linear_high[i], LINEAR_RANGE) ? 0 : 1 << 3;
+    }
+    return bits | reversed(n, c->linear_low, c->linear_high) << 16;
+}
+
+/* The first check that fails for the sums or a problem, or 18 where none does */
+static __attribute__((noinline, cold)) int64_t pool_refusal(const struct pool *pool)
+{
+    int bits = 0;
+    for (int64_t k = -1; k < pool->count; k++) {
+        struct constraint c = constraint_of(pool, k);
+        bits |= failing(pool->n, &c);
+    }
+    return bits ? __builtin_ctz((unsigned)bits) : 18;
+}
+
+/* Sums while they are added to. Of the tables, entry (i,j) with i <= j is at 8 j + i. */
+struct running {
+    int64_t low[ORDER * ORDER];
+    int64_t high[ORDER * ORDER];
+    int64_t linear_low[ORDER];
+    int64_t linear_high[ORDER];
+    int64_t limit;
+};
+
+/* Adds one entry or linear term. outside is below 0 where a sum is out of its range: a low sum is at most the high one. */
+INLINED void add_bounds(int64_t low, int64_t high, int64_t range, const int64_t *from_low, const int64_t *from_high, int64_t *to_low,
+                        int64_t *to_high, int64_t *outside)
+{
+    int64_t sum_low = *from_low + low, sum_high = *from_high + high;
+    *outside |= (sum_low + range) | (range - sum_high);
+    *to_low = sum_low;
+    *to_high = sum_high;
+}
+
+/* Adds a constraint, mended. Whether its checks pass and all sums are in their ranges; where only the latter fails, passes stays 1. */
+static int add_constraint(int64_t n, const struct constraint *c, const struct running *from, struct running *to, int *passes)
+{
+    uint64_t seen = 0, terms = 0;
+    int64_t outside = 0;
+    for (int64_t j = 0; j < n; j++) {
+        const number *low = c->low + j * n, *high = c->high + j * n;
+        int64_t linear_low = c->linear_low[j], linear_high = c->linear_high[j];
+        for (int64_t i = 0; i < j; i++) {
+            int64_t place = ORDER * j + i;
+            struct pair pair = see_pair(&seen, low[i], c->low[i * n + j], high[i], c->high[i * n + j]);
+            add_bounds(pair.low, pair.high, ENTRY_RANGE, from->low + place, from->high + place, to->low + place, to->high + place,
+                       &outside);
+        }
+        int64_t place = (ORDER + 1) * j;
+        see(&seen, low[j], high[j]);
+        add_bounds(low[j], high[j], ENTRY_RANGE, from->low + place, from->high + place, to->low + place, to->high + place, &outside);
+        terms |= (uint64_t)(linear_low + LINEAR_RANGE) | (uint64_t)(LINEAR_RANGE - linear_high) | (uint64_t)(linear_high - linear_low);
+        add_bounds(linear_low, linear_high, LINEAR_RANGE, from->linear_low + j, from->linear_high + j, to->linear_low + j,
+                   to->linear_high + j, &outside);
+    }
+    to->limit = from->limit + c->limit;
+    *passes = !refused(seen) && terms >> 38 == 0 && within(c->limit, LIMIT_RANGE);
+    return *passes && outside >= 0 && within(to->limit, LIMIT_RANGE);
+}
+
+static void halve(int64_t n, struct running *sums)
+{
+    for (int64_t j = 0; j < n; j++) {
+        for (int64_t place = ORDER * j; place <= (ORDER + 1) * j; place++) {
+            sums->low[place] >>= 1;
+            sums->high[place] = (sums->high[place] + 1) >> 1;
+        }
+        sums->linear_low[j] >>= 1;
+        sums->linear_high[j] = (sums->linear_high[j] + 1) >> 1;
+    }
+    sums->limit = (sums->limit + 1) >> 1;
+}
+
+/* Adds the sums and all problems, from zeros. 0, and which of the two has the sums; or the number of the refusal */
+static int64_t add_all(const struct pool *pool, struct running *sums, int *last)
+{
+    for (int64_t k = -1; k < pool->count; k++) {
+        struct constraint c = constraint_of(pool, k);
+        struct running *from = &sums[(k + 1) & 1], *to = &sums[k & 1];
+        int passes;
+        if (add_constraint(pool->n, &c, from, to, &passes))
+            continue;
+        if (passes)
+            halve(pool->n, from);
+        if (!passes || !add_constraint(pool->n, &c, from, to, &passes))
+            return pool_refusal(pool);
+    }
+    *last = (pool->count - 1) & 1;
+    return 0;
+}
+
+/* Checks 1 and 2 of the orders */
+static int64_t order_refusal(int64_t n, const number *orders, size_t orders_len)
+{
+    int unequal = 0;
+    if (n < 1 || n > ORDER)
+        return 1;
+    if (orders_len % 8 != 0 || orders_len < 8 || orders_len > 8 * GREATEST_POOL)
+        return 2;
+    for (size_t k = 0; k < orders_len / 8; k++) {
+        if (orders[k] < 1 || orders[k] > ORDER)
+            return 1;
+        unequal |= orders[k] != n;
+    }
+    return unequal ? 2 : 0;
+}
+
+static void store_running(int64_t n, const struct running *sums, number *low, number *high, number *linear_low, number *linear_high)
+{
+    for (int64_t j = 0; j < n; j++) {
+        for (int64_t i = 0; i <= j; i++) {
+            low[j * n + i] = low[i * n + j] = sums->low[ORDER * j + i];
+            high[j * n + i] = high[i * n + j] = sums->high[ORDER * j + i];
+        }
+        linear_low[j] = sums->linear_low[j];
+        linear_high[j] = sums->linear_high[j];
+    }
+}
+
+int64_t tuned_pool(int64_t n, uint8_t *low, size_t low_len, uint8_t *high, size_t high_len, uint8_t *linear_low, size_t linear_low_len,
+                   uint8_t *linear_high, size_t linear_high_len, uint8_t *running_limit, size_t running_limit_len, const uint8_t *orders,
+                   size_t orders_len, const uint8_t *lows, size_t lows_len, const uint8_t *highs, size_t highs_len,
+                   const uint8_t *linear_lows, size_t linear_lows_len, const uint8_t *linear_highs, size_t linear_highs_len,
+                   const uint8_t *limits, size_t limits_len)
+{
+    struct running sums[2] = {{.limit = 0}};
+    int last = 0;
+    int64_t answer = order_refusal(n, numbers(orders), orders_len);
+    if (answer)
+        return answer;
+    size_t count = orders_len / 8, table = (size_t)(8 * n * n), vector = (size_t)(8 * n);
+    if (low_len != table || high_len != table || linear_low_len != vector || linear_high_len != vector || running_limit_len != 8 ||
+        lows_len != count * table || highs_len != count * table || linear_lows_len != count * vector ||
+        linear_highs_len != count * vector || limits_len != count * 8)
+        return 2;
+    struct pool pool = {n, (int64_t)count,
+                        {numbers(low), numbers(high), numbers(linear_low), numbers(linear_high), *numbers(running_limit)},
+                        {numbers(lows), numbers(highs), numbers(linear_lows), numbers(linear_highs), 0}, numbers(limits)};
+    answer = add_all(&pool, sums, &last);
+    if (answer)
+        return answer;
+    store_running(n, &sums[last], (number *)low, (number *)high, (number *)linear_low, (number *)linear_high);
+    *(number *)running_limit = sums[last].limit;
+    return 0;
+}

@@ -36,6 +36,16 @@ int64_t tuned_box(int64_t n, const uint8_t *low, size_t low_len, const uint8_t *
 int64_t tuned_stiffness(int64_t n, const uint8_t *low, size_t low_len, const uint8_t *high, size_t high_len, uint8_t *step, size_t step_len,
                         uint8_t *bound, size_t bound_len, uint8_t *vector, size_t vector_len);
 
+/*
+ * Each problem is mended, checked and added in one pass over its entries, each pair once, from one copy of the sums to another: so what was
+ * there before is at hand where a sum leaves its range. Which check fails is found out where one does.
+ */
+int64_t tuned_pool(int64_t n, uint8_t *low, size_t low_len, uint8_t *high, size_t high_len, uint8_t *linear_low, size_t linear_low_len,
+                   uint8_t *linear_high, size_t linear_high_len, uint8_t *running_limit, size_t running_limit_len, const uint8_t *orders,
+                   size_t orders_len, const uint8_t *lows, size_t lows_len, const uint8_t *highs, size_t highs_len,
+                   const uint8_t *linear_lows, size_t linear_lows_len, const uint8_t *linear_highs, size_t linear_highs_len,
+                   const uint8_t *limits, size_t limits_len);
+
 int64_t tuned_write_summary(int64_t n, const uint8_t *low, size_t low_len, const uint8_t *high, size_t high_len, const uint8_t *linear_low,
                             size_t linear_low_len, const uint8_t *linear_high, size_t linear_high_len, int64_t limit, const uint8_t *centre,
                             size_t centre_len, uint8_t *file, size_t file_len);

@@ -21,7 +21,6 @@ struct sums {
 
 /* part: gather */
 static void log_refusal(const char *function, int64_t number);
-static void halve(struct sums *sums);
 
 /* The most that one sample may be missed by, in sixteenths of the draw: its square is HB_MAX_ALLOWANCE. */
 #define MOST_MISS 1048576
@@ -43,60 +42,18 @@ static void allow_for(struct sums *sums, int64_t miss)
 }
 
 /*
- * Adds a sample, which the right coefficients miss by at most miss sixteenths of the draw: its square is allowed for where the sample is taken. Where the
- * sums are full they are halved, which makes room; returns how often. A sample that is refused for itself is dropped, and the sums are as they were.
+ * Adds a sample, which the right coefficients miss by at most miss sixteenths of the draw: its square is allowed for where the sample is
+ * taken. One that is refused is dropped, and the sums are as they were. Where they have no room for it, hb_gather halves them first.
  */
-static int gather(struct sums *sums, hb_sample sample, int64_t miss)
+static void gather(struct sums *sums, hb_sample sample, int64_t miss)
 {
-    for (int halvings = 0;; halvings++) {
-        int64_t answer = hb_gather(sample, ORDER, sums->low, sizeof sums->low, sums->high, sizeof sums->high, sums->linear_low,
-                                   sizeof sums->linear_low, sums->linear_high, sizeof sums->linear_high, sums->running_limit,
-                                   sizeof sums->running_limit);
-        switch (answer) {
-        case HB_TAKEN:
-            allow_for(sums, miss);
-            return halvings;
-        case HB_REFUSED_FULL:
-            halve(sums);
-            break;
-        default:
-            log_refusal("hb_gather", answer);
-            return halvings;
-        }
-    }
-}
-
-/* part: coarsen */
-/* Halves some numbers, each rounded down, or each rounded up */
-static void halve_down(uint8_t *numbers, size_t count)
-{
-    for (size_t k = 0; k < count; k++) {
-        int64_t number = hb_load_number(numbers + HB_NUMBER_BYTES * k);
-        hb_store_number(numbers + HB_NUMBER_BYTES * k, (number - (number & 1)) / 2);
-    }
-}
-
-static void halve_up(uint8_t *numbers, size_t count)
-{
-    for (size_t k = 0; k < count; k++) {
-        int64_t number = hb_load_number(numbers + HB_NUMBER_BYTES * k);
-        hb_store_number(numbers + HB_NUMBER_BYTES * k, (number + (number & 1)) / 2);
-    }
-}
-
-/*
- * Halves the sums, so that no coefficients are lost: with M and a between them, x'Mx + 2a'x <= allowance + running limit becomes the same of their halves.
- * Lows are rounded down, highs, running limit and allowance up: so M/2 is between the tables, and a/2 between the ends of the linear terms.
- */
-static void halve(struct sums *sums)
-{
-    halve_down(sums->low, ORDER * ORDER);
-    halve_up(sums->high, ORDER * ORDER);
-    halve_down(sums->linear_low, ORDER);
-    halve_up(sums->linear_high, ORDER);
-    halve_up(sums->running_limit, 1);
-    if (allowance_is_good(sums))
-        sums->allowance = (sums->allowance + (sums->allowance & 1)) / 2;
+    int64_t answer = hb_gather(sample, ORDER, sums->low, sizeof sums->low, sums->high, sizeof sums->high, sums->linear_low,
+                               sizeof sums->linear_low, sums->linear_high, sizeof sums->linear_high, sums->running_limit,
+                               sizeof sums->running_limit);
+    if (answer == HB_TAKEN)
+        allow_for(sums, miss);
+    else
+        log_refusal("hb_gather", answer);
 }
 
 /* part: read */
@@ -150,7 +107,7 @@ static void log_refusal(const char *function, int64_t number)
         remedy = "the hub has handed over no measurement, drop the sample";
         break;
     case HB_REFUSED_FULL:
-        remedy = "no room for the sample, halve the sums";
+        remedy = "a pooled problem is too great, leave it out";
         break;
     default:
         number = 0;
@@ -487,15 +444,12 @@ static const struct stretch ride[] = {
 /* Gathers stretches as a hub measures them that is off by so many sixteenths of each number, and what it is off by is allowed for by miss. */
 static void gather_all(struct sums *sums, const struct stretch *stretches, size_t count, const struct stretch *off, int64_t miss)
 {
-    int halvings = 0;
     for (size_t k = 0; k < count; k++) {
         const struct stretch *stretch = &stretches[k];
         hb_sample sample = {(stretch->rolling + off->rolling) / 16, (stretch->climb + off->climb) / 16, (stretch->air + off->air) / 16,
                             (stretch->start + off->start) / 16, (stretch->draw + off->draw) / 16};
-        halvings += gather(sums, sample, miss);
+        gather(sums, sample, miss);
     }
-    if (halvings > 0)
-        printf("  halvings: %d\n", halvings);
 }
 
 static const struct stretch nothing = {0, 0, 0, 0, 0};

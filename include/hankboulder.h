@@ -8,18 +8,25 @@
  * Their upper and lower halves may differ: see HALVES ROUNDED APART. The problem of an ellipsoid has a low and a high end of n linear
  * terms, a limit and a centre of n entries besides.
  *
- * Running sums, which samples of rides are gathered into, have the same two tables and the same two ends of linear terms, and a running limit in
- * place of the limit. "Limit" is always that of an ellipsoid, and "running limit" always the sum; hb_read_sums makes the first of the second, and
- * one in place of the other is never what is wanted, though it compiles. Sums begin with all bytes 0.
+ * Running sums, which samples of rides are gathered into and problems are pooled into, have the same two tables and the same two ends of
+ * linear terms, and a running limit in place of the limit. "Limit" is always that of an ellipsoid, and "running limit" always the sum;
+ * hb_read_sums makes the first of the second, and one in place of the other is never what is wanted, though it compiles. Sums begin with all
+ * bytes 0.
  *
  * In a buffer each number is HB_NUMBER_BYTES = 8 bytes: signed, two's complement, low byte first, whatever the processor's own byte order is. A table or
  * a factor has n * n numbers, row by row (the entry of row i and column j, counted from 0, starts at byte 8 * (i * n + j)), so it is HB_TABLE_BYTES(n)
  * bytes long. A vector, an end of the linear terms and a centre have n, and are HB_VECTOR_BYTES(n) bytes long. The sides of a box have
  * 2 * n (the low and the high of side 0, those of side 1, and so on), and are HB_SIDES_BYTES(n) bytes long. A running limit that is lent, a
  * limit that is written and an order that is written are HB_NUMBER_BYTES long; what the rows have over, one number too, is HB_OVER_BYTES
- * long, and step and bound of the stiffness, one number each, HB_STEP_BYTES and HB_BOUND_BYTES. hb_load_number and hb_store_number, below,
- * read and store one number on any processor. Where the processor stores the low byte first, an array of int64_t has this form already and
- * is passed as it is:
+ * long, and step and bound of the stiffness, one number each, HB_STEP_BYTES and HB_BOUND_BYTES.
+ *
+ * The problems of a pool are handed over in lists: all low tables one behind the other, all high ones, and so on. Of m problems of order n a
+ * list of tables is HB_TABLES_BYTES(n, m) bytes long, a list of ends of the linear terms HB_VECTORS_BYTES(n, m), and a list of one number for
+ * each problem HB_NUMBERS_BYTES(m). What belongs to problem k, counted from 0, starts at byte HB_TABLES_BYTES(n, k), HB_VECTORS_BYTES(n, k)
+ * and HB_NUMBERS_BYTES(k).
+ *
+ * hb_load_number and hb_store_number, below, read and store one number on any processor. Where the processor stores the low byte first, an
+ * array of int64_t has this form already and is passed as it is:
  *
  *     int64_t low[4] = {2, 1, 1, 2};
  *     ... (const uint8_t *)low, sizeof low ...
@@ -41,9 +48,34 @@
  * - HB_REFUSED_RANGE and HB_REFUSED_CROSSED look at low and high as they are handed over, each entry in its own place. After these,
  *   HB_REFUSED_LOPSIDED refuses a pair that leaves no number: low(i,j) is above high(j,i) for some i and j, so that the greater low is
  *   above the smaller high. Halves that differ are not refused for that.
- * - A table that is lent for reading, so const, is never written: it stays as it was handed over. Only hb_gather and hb_read_summary write
- *   low and high, and what they write there is symmetric.
+ * - A table that is lent for reading, so const, is never written: it stays as it was handed over. Only hb_gather, hb_pool and
+ *   hb_read_summary write low and high, and what they write there is symmetric.
  * - Where low and high are the same table its halves have to agree: two numbers for one entry leave none.
+ *
+ * SUMS THAT ARE HALVED
+ *
+ * hb_gather adds a sample to running sums, and hb_pool one problem after the other. Where a sum with it would be beyond its range, all sums
+ * are halved first, once, and it is added to the halves:
+ *
+ *     low(i,j) and linear_low(i) become a half of what they were, rounded down
+ *     high(i,j), linear_high(i) and the running limit become a half of what they were, rounded up
+ *
+ * Down is toward minus infinity and up toward plus infinity: -3 becomes -2 where it is rounded down, and -1 where it is rounded up. The
+ * sample, or the problem, is added as it is and never halved. Where no sum would be beyond its range, nothing is halved.
+ *
+ * - No point is lost. Take any K that is 0 or more. Every x that the sums allowed with the allowance K before they were halved, so that
+ *   x'Mx + 2a'x <= K + running limit for some symmetric matrix M from low to high and some a from linear_low to linear_high, is one that
+ *   they allow with K after it. Halved sums may allow more.
+ * - Old rides fade. What was in the sums before a halving counts half as much after it, beside what is added then: after h halvings it
+ *   counts 1 / 2^h. The limits of pooled problems, with what is allowed for in them, are in the running limit and fade with it.
+ * - K is no sum and is not halved: what was enough before is enough after.
+ * - Where the halves have no room either, the answer is HB_REFUSED_FULL, and nothing is written. hb_gather never gives it: half of a range
+ *   and what a sample adds are together inside the range. Nor does hb_pool where each problem has entries within +-2^19, linear terms within
+ *   +-2^35 and a limit within +-2^53, half of each range.
+ * - No answer says whether a call has halved the sums, and nothing has to be done about it. Never halve sums, or average two sets of
+ *   sums, yourself.
+ *
+ * Proved are the first of these points, and that hb_gather never answers HB_REFUSED_FULL. The rest follows from the rules.
  *
  * WHAT THE ROWS HAVE OVER
  *
@@ -121,8 +153,8 @@
  *   hb_read_summary an empty file by HB_REFUSED_ABSENT).
  * - Pointers need no alignment.
  * - The buffers of one call must not overlap: nothing is promised where they do. There are two exceptions, both of buffers that are only
- *   read, so const: low and high may be the same table, and linear_low and linear_high the same buffer. hb_gather and hb_read_summary write all of
- *   them, and have no exception.
+ *   read, so const: low and high may be the same table, and linear_low and linear_high the same buffer; in hb_pool, which writes its sums,
+ *   these are lows and highs, and linear_lows and linear_highs. hb_gather and hb_read_summary write all of them, and have no exception.
  * - A const buffer is only read. A buffer that is not const is written whole, or kept as it was: each function says when. A refused call writes
  *   nothing at all. Nothing is ever written outside of a buffer.
  * - No memory is allocated, nothing is kept between calls, no lock is held, and the archive has no variables. So the functions are reentrant: they may be
@@ -155,22 +187,25 @@ extern "C" {
  * hb_read_summary. Since 0.5 the halves of low and high may differ, and HB_REFUSED_LOPSIDED refuses only a pair that leaves no number: what
  * 0.4 answers by any number but 5 is answered as before. Since 0.6 hb_judge and hb_test_factor have two parameters more, the buffer over and
  * its length, which again a linker does not see; all that they answered and wrote before they answer and write as they did. Since 0.7 there
- * is hb_stiffness, and nothing else is changed.
+ * is hb_stiffness, and nothing else is changed. Since 0.8 there is hb_pool, and hb_gather halves the sums and takes the sample where it
+ * answered HB_REFUSED_FULL before; all else that it answered and wrote it answers and writes as it did.
  */
 #define HB_VERSION_MAJOR 0
-#define HB_VERSION_MINOR 7
+#define HB_VERSION_MINOR 8
 #define HB_VERSION_PATCH 0
 #define HB_VERSION_STRING HB_VERSION_JOINED(HB_VERSION_MAJOR, HB_VERSION_MINOR, HB_VERSION_PATCH)
 #define HB_VERSION_JOINED(major, minor, patch) HB_VERSION_QUOTED(major) "." HB_VERSION_QUOTED(minor) "." HB_VERSION_QUOTED(patch)
 #define HB_VERSION_QUOTED(number) #number
 
-/* The greatest order, and that of sums which samples are gathered into. */
+/* The greatest order, that of sums which samples are gathered into, and the most problems of a pool. */
 #define HB_MAX_ORDER 8
 #define HB_SAMPLE_ORDER 4
+#define HB_GREATEST_POOL 64
 
 /*
  * Bytes of a number; of what the rows have over, and of step and bound of the stiffness, at any order; and of order n: of a table or
- * factor; of a vector, of one end of the linear terms or of a centre; of the sides of a box.
+ * factor; of a vector, of one end of the linear terms or of a centre; of the sides of a box. Of m problems: of a list of numbers, one for
+ * each; and of order n: of a list of tables; of a list of ends of the linear terms.
  */
 #define HB_NUMBER_BYTES 8
 #define HB_OVER_BYTES HB_NUMBER_BYTES
@@ -179,6 +214,9 @@ extern "C" {
 #define HB_TABLE_BYTES(n) ((size_t)HB_NUMBER_BYTES * (size_t)(n) * (size_t)(n))
 #define HB_VECTOR_BYTES(n) ((size_t)HB_NUMBER_BYTES * (size_t)(n))
 #define HB_SIDES_BYTES(n) ((size_t)2 * HB_NUMBER_BYTES * (size_t)(n))
+#define HB_NUMBERS_BYTES(m) ((size_t)HB_NUMBER_BYTES * (size_t)(m))
+#define HB_TABLES_BYTES(n, m) (HB_TABLE_BYTES(n) * (size_t)(m))
+#define HB_VECTORS_BYTES(n, m) (HB_VECTOR_BYTES(n) * (size_t)(m))
 
 /*
  * Bytes of the summary file of a problem of order n: 62, 110, 174, 254, 350, 462, 590 and 734 for n = 1 to 8. No file of another size is read. So
@@ -213,6 +251,7 @@ extern "C" {
 #define HB_BOX_STACK 8192
 #define HB_STIFFNESS_STACK 8192
 #define HB_GATHER_STACK 4096
+#define HB_POOL_STACK 8192
 #define HB_READ_SUMS_STACK 4096
 #define HB_WRITE_SUMMARY_STACK 8192
 #define HB_READ_SUMMARY_STACK 8192
@@ -244,8 +283,8 @@ enum {
 
     HB_WRITTEN = 0,
 
-    HB_REFUSED_ORDER = 1,     /* "order": n is not 1 to 8 */
-    HB_REFUSED_LENGTH = 2,    /* "length": a buffer has not exactly the size that its function asks for or, in hb_gather, n is another order than 4 */
+    HB_REFUSED_ORDER = 1,     /* "order": n, or in hb_pool an order of the list, is not 1 to 8 */
+    HB_REFUSED_LENGTH = 2,    /* "length": a buffer has not exactly the size, or in hb_gather and hb_pool the order, that is asked for */
     HB_REFUSED_RANGE = 3,     /* "range": an entry of low or high, a linear term, a limit, running limit, centre entry or allowance is beyond its range */
     HB_REFUSED_CROSSED = 4,   /* "crossed": an entry of low is above its entry of high */
     HB_REFUSED_LOPSIDED = 5,  /* "lopsided": low(i,j) is above high(j,i) for some i and j: the pair leaves no number */
@@ -259,9 +298,9 @@ enum {
     HB_REFUSED_ABSENT = 13,   /* "absent": of a file, one of the seven tags is missing */
     HB_REFUSED_SIZE = 14,     /* "size": of a file, a field is longer or shorter than its tag and the order ask for */
     HB_REFUSED_LONG = 15,     /* "long": of a file, more than 4096 bytes */
-    HB_REFUSED_REVERSED = 16, /* "reversed": of an ellipsoid, a file or sums, a low linear term is above its high one */
+    HB_REFUSED_REVERSED = 16, /* "reversed": of an ellipsoid, a file, sums or a pool, a low linear term is above its high one */
     HB_REFUSED_SAMPLE = 17,   /* "sample": a number of a sample is infinite, not a number, or beyond +-8 */
-    HB_REFUSED_FULL = 18,     /* "full": with the sample in it a sum would be beyond its range */
+    HB_REFUSED_FULL = 18,     /* "full": of a pool, a sum would be beyond its range though all sums were halved */
     HB_REFUSED_FALLING = 19   /* "falling": of a file, a tag below the one before it */
 };
 
@@ -527,7 +566,7 @@ typedef struct {
 } hb_sample;
 
 /*
- * hb_gather: adds a sample to running sums.
+ * hb_gather: adds a sample to running sums, which are halved before it where they have no room for it.
  *
  *   sample                   five numbers, finite and within +-8. It is passed by value
  *   n                        the order of the sums: 4, HB_SAMPLE_ORDER
@@ -544,8 +583,9 @@ typedef struct {
  * All five buffers are read, and where the answer is HB_TAKEN all are written. Sums begin with all bytes 0, and are handed over for one sample after
  * the other.
  *
- * low and high are mended, and the sample is added to the mended tables. So HB_TAKEN leaves the mended sums plus the sample, and the tables
- * are symmetric then, whatever they were before. Sums that began with all bytes 0 and were fed samples alone are symmetric always.
+ * low and high are mended, and the sample is added to the mended tables. Where one of the sums would be beyond its range with it, all sums
+ * are halved first, once: see SUMS THAT ARE HALVED. So HB_TAKEN leaves the mended sums, or their halves, plus the sample, and the tables are
+ * symmetric then, whatever they were before. Sums that began with all bytes 0 and were fed samples alone are symmetric always.
  *
  * Each of the five numbers is multiplied by 16. F(0) to F(3), of the factors, and D, of the draw, lie between the whole numbers next below and next
  * above, which are equal where the product is a whole number; -0 is 0. low(i,j) gains the least and high(i,j) the greatest of the four products of an
@@ -553,8 +593,10 @@ typedef struct {
  * of F(i) and D. The running limit loses the lesser of the squares of the ends of D.
  *
  * What it is for: take sums that began with all bytes 0 and were fed samples alone, and any x of four fractions. Add up (D - F'x)^2, worked exactly,
- * over the samples that were taken. If that sum is K or less, x is a point of the ellipsoid that hb_read_sums gives with the allowance K: so hb_box, from
- * any centre that is not refused, does not say HB_EMPTY, and x is in the box.
+ * over the samples that were taken. If that sum is K or less, x is a point of the ellipsoid that hb_read_sums gives with the allowance K,
+ * however often the sums were halved: so hb_box, from any centre that is not refused, does not say HB_EMPTY, and x is in the box. Where the
+ * sums that are handed over already allow an x with some allowance, problems having been pooled into them for one, they allow it after the
+ * call with the square of this sample's miss added to that allowance.
  *
  * Returns
  *
@@ -567,17 +609,85 @@ typedef struct {
  *   HB_REFUSED_CROSSED   an entry of low is above its entry of high
  *   HB_REFUSED_LOPSIDED  low(i,j) is above high(j,i) for some i and j: the pair leaves no number
  *   HB_REFUSED_REVERSED  a term of linear_low is above its term of linear_high
- *   HB_REFUSED_FULL      with the sample in it, one of the mended sums would be beyond its range. The sums are good ones still, and are
- *                        full for this sample
  *
- * and nothing else. On a refusal no sum is altered, and none is mended, on HB_REFUSED_FULL neither: the sample is dropped, and the sums
- * stand for the samples before it.
+ * and nothing else. HB_REFUSED_FULL is never returned since version 0.8: once the sums were halved there is room for every sample. On a
+ * refusal no sum is altered, mended or halved: the sample is dropped, and the sums stand for the samples before it.
  *
  * Buffers: at any address; none overlaps another. Nothing is allocated. Reentrant.
  * Stack: HB_GATHER_STACK bytes.
  */
 int64_t hb_gather(hb_sample sample, int64_t n, uint8_t *low, size_t low_len, uint8_t *high, size_t high_len, uint8_t *linear_low,
                   size_t linear_low_len, uint8_t *linear_high, size_t linear_high_len, uint8_t *running_limit, size_t running_limit_len);
+
+/*
+ * hb_pool: adds problems to running sums, one after the other. The sums are halved before a problem where they have no room for it.
+ *
+ *   n                           the order of the sums and of each problem, 1 to 8
+ *   low, high                   the tables of the sums: HB_TABLE_BYTES(n) bytes each, entries within +-2^20, no low of a pair above a high
+ *                               of the same pair. Their halves may differ: they are mended before a problem is added
+ *   linear_low, linear_high     the ends of their linear terms: HB_VECTOR_BYTES(n) bytes each, terms within +-2^36, none of linear_low above
+ *                               its term of linear_high
+ *   running_limit               their running limit, a number within +-2^54: HB_NUMBER_BYTES = 8 bytes
+ *   orders                      the orders of the problems, a number for each and each of them n: HB_NUMBERS_BYTES(m) bytes for m problems,
+ *                               m from 1 to HB_GREATEST_POOL = 64. How many problems there are is said by this length alone
+ *   lows, highs                 their bounds: HB_TABLES_BYTES(n, m) bytes each. The table of the first problem, row by row, then that of the
+ *                               second, and so on. Each is as low and high of the sums have to be, and its halves may differ
+ *   linear_lows, linear_highs   the ends of their linear terms: HB_VECTORS_BYTES(n, m) bytes each, problem by problem, terms within +-2^36,
+ *                               none of linear_lows above its term of linear_highs
+ *   limits                      their limits, numbers within +-2^54: HB_NUMBERS_BYTES(m) bytes. Limits and not running limits: of sums,
+ *                               hb_read_sums makes one of the other
+ *   low_len, high_len,          the lengths of the eleven buffers, in bytes
+ *   linear_low_len,
+ *   linear_high_len,
+ *   running_limit_len,
+ *   orders_len, lows_len,
+ *   highs_len,
+ *   linear_lows_len,
+ *   linear_highs_len,
+ *   limits_len
+ *
+ * The first five buffers are the sums. All five are read, and where the answer is HB_TAKEN all are written. They begin with all bytes 0, or
+ * have been pooled into before; those of order 4 may have been gathered into, and may be gathered into again. The six lists are only read. A
+ * pooled problem has no centre.
+ *
+ * The sums are mended, and so is each problem. Then the problems are added in the order of the lists: each entry of low and high, each
+ * linear term and the running limit gain those of the problem, the running limit its limit. Where one of the sums would be beyond its range
+ * with a problem, all sums are halved first, once for this problem: see SUMS THAT ARE HALVED. So HB_TAKEN leaves symmetric tables, and a call
+ * may have halved the sums as often as it has problems. The order of the problems counts where sums are halved, and only there.
+ *
+ * What it is for: take any K that is 0 or more, and any x of n fractions. If x is a point of the ellipsoid of each pooled problem (see
+ * hb_box), and of the ellipsoid that the sums as they were handed over give with the allowance K, then x is a point of the one that the sums
+ * give with K after the call: so hb_box, from any centre that is not refused, does not say HB_EMPTY, and x is in the box. Sums with all
+ * bytes 0 allow every x, with K = 0 too. A problem that hb_read_sums made of sums, with an allowance, has this allowance in its limit: so
+ * what was pooled of such problems alone is read with K = 0.
+ *
+ * Returns
+ *
+ *   HB_TAKEN             all problems are in the sums
+ *   HB_REFUSED_ORDER     n is not 1 to 8; or orders has 1 to 64 whole numbers, and one of them is not 1 to 8. No other length is looked at
+ *   HB_REFUSED_LENGTH    orders has not 1 to 64 whole numbers, so that its length is not 8, 16, .., 512: then none of them is looked at; or
+ *                        one of them is not n; or another length is not the one above; too long is refused like too short
+ *   HB_REFUSED_RANGE     of the sums or of any problem, an entry of low or high is beyond +-2^20, a linear term beyond +-2^36, or the running
+ *                        limit or a limit beyond +-2^54
+ *   HB_REFUSED_CROSSED   of the sums or of any problem, an entry of low is above its entry of high
+ *   HB_REFUSED_LOPSIDED  of the sums or of any problem, low(i,j) is above high(j,i) for some i and j: the pair leaves no number
+ *   HB_REFUSED_REVERSED  of the sums or of any problem, a low linear term is above its high one
+ *   HB_REFUSED_FULL      with one of the problems a sum would be beyond its range, though all sums were halved for it: its numbers are too
+ *                        great beside those of the sums. All buffers are good ones still
+ *
+ * and nothing else, asked in this order, each of the sums and all problems together before the next: the last problem's HB_REFUSED_RANGE
+ * comes before the first one's HB_REFUSED_CROSSED. Which problem it is about is not said. A call is taken whole or not at all: on a refusal no
+ * sum is altered, mended or halved, on HB_REFUSED_FULL neither, whatever problems were added before.
+ *
+ * Buffers: at any address; none overlaps another, but lows and highs may be the same list, and linear_lows and linear_highs the same list.
+ * The sums overlap none of the others. Nothing is allocated. Reentrant.
+ * Stack: HB_POOL_STACK bytes.
+ * Time: grows with the count of problems and with n * n.
+ */
+int64_t hb_pool(int64_t n, uint8_t *low, size_t low_len, uint8_t *high, size_t high_len, uint8_t *linear_low, size_t linear_low_len,
+                uint8_t *linear_high, size_t linear_high_len, uint8_t *running_limit, size_t running_limit_len, const uint8_t *orders,
+                size_t orders_len, const uint8_t *lows, size_t lows_len, const uint8_t *highs, size_t highs_len, const uint8_t *linear_lows,
+                size_t linear_lows_len, const uint8_t *linear_highs, size_t linear_highs_len, const uint8_t *limits, size_t limits_len);
 
 /*
  * hb_read_sums: the limit that running sums give with an allowance, after the checks of all that hb_box will be handed but the centre.
@@ -587,9 +697,12 @@ int64_t hb_gather(hb_sample sample, int64_t n, uint8_t *low, size_t low_len, uin
  *                            pair. Their halves may differ: low and high are only read
  *   linear_low, linear_high  the ends of their linear terms: HB_VECTOR_BYTES(n) bytes each, terms within +-2^36, none of linear_low above its
  *                            term of linear_high
- *   running_limit            their running limit, a number within +-2^54, as a number: hb_load_number reads it from the bytes that hb_gather keeps it in
- *   allowance                K, from 0 to 2^40: what the squares of 16 times the misses may add up to, over all samples that were taken (see hb_gather).
- *                            If each of count samples is missed by at most m, in the draw's unit, K = 256 * m * m * count, rounded up, suffices
+ *   running_limit            their running limit, a number within +-2^54, as a number: hb_load_number reads it from the bytes that hb_gather
+ *                            and hb_pool keep it in
+ *   allowance                K, from 0 to 2^40: what the squares of 16 times the misses may add up to, over all samples that were taken (see
+ *                            hb_gather). If each of count samples is missed by at most m, in the draw's unit, K = 256 * m * m * count, rounded
+ *                            up, suffices. Pooled problems count nothing, since their limits have their own allowances in them: K is 0 where no
+ *                            sample was gathered into these sums
  *   limit                    HB_NUMBER_BYTES = 8 bytes, written where the answer is HB_WRITTEN and kept as they were where it is any other
  *   low_len, high_len,       the lengths of the five buffers, in bytes
  *   linear_low_len,
