@@ -5,14 +5,13 @@ use mathlib.Core.List.{List}
 use Prim.Native.Nat.{ℕ, _*_}
 use native.Mathlib.Omega.{arith}
 use lib.Dec.{eqb}
-use lib.IntN.{pos, natAbs}
+use lib.IntN.{pos}
 use lib.ListN.{length}
 use mir.Syntax.{w64}
 use mir.Val.{bytes}
 use borrow.Author.Tests.{eqb-true}
 use Rattle.words.specs.Numbers.{bytesOf}
 use Rattle.tables.specs.Ranges.{greatestOrder, tableRoom}
-use Rattle.tables.specs.Refusals.{refusalNumber}
 use Rattle.tables.specs.Problem.{lengthsOf, constraintSized}
 use Rattle.tables.specs.declared.Refusal.{Refusal}
 use Rattle.tables.specs.declared.Refusal.the-variants.{Length}
@@ -22,14 +21,13 @@ use Rattle.tables.specs.declared.problem.Problem.{Problem}
 use Rattle.tables.specs.declared.problem.Lengths.{Lengths}
 use Rattle.tables.proofs.Matrix.{table-fits}
 use Rattle.tables.proofs.Checks.{and-left, and-right}
-use Rattle.tables.proofs.Answers.{refusal-positive}
 use Rattle.tables.proofs.Problems.{constraint-sizes-of}
 use Rattle.summary.specs.declared.problem.Reading.{Reading}
 use Rattle.summary.specs.Problems.{reading, LetThrough}
 use Rattle.summary.proofs.Spelled.{reading-through}
 use Rattle.summary.proofs.RoundTrip.{holds-of}
 use Rattle.buffers.specs.Buffers.{bytesOfNumber}
-use Rattle.file_buffers.specs.Parts.{Parts, parts, Handed, roomy, partsRoomy, partsOf, handed, readSummary, checkedCode}
+use Rattle.file_buffers.specs.Parts.{Parts, parts, Handed, roomy, partsRoomy, partsOf, handed, readSummary}
 use Rattle.file_buffers.proofs.Fronts.{padded-bytes}
 
 -- ---- what is stored
@@ -100,12 +98,6 @@ module _ (s : List ℕ) (b : Parts) where
       go false z k q = rw (z, readSummary) (λ e. absurd (false≢true cc))
       go true z Checked.Passed q = rw (z, readSummary, q, handed) (λ e. (refl, refl))
       go true z (Checked.Refused r) q = rw (z, readSummary, q, handed) (λ e. absurd (false≢true cc))
-
--- ---- the number at the C entries
-pub code-passed : (k : Checked) → checkedCode k ≡ pos 0 → k ≡ Checked.Passed
-unfolding checkedCode
-code-passed Checked.Passed e = refl
-code-passed (Checked.Refused r) e = let h = refusal-positive r in let z : refusalNumber r ≡ 0 = ap natAbs e in absurd (omega arith)
 
 -- ---- the sizes of the buffers
 pub record Roomy (b : Parts) : Type 0 where

@@ -10,7 +10,6 @@ use mir.Syntax.{w64}
 use mir.Val.{bytes}
 use Rattle.words.specs.Numbers.{paddedNumbersOf, bytesOf}
 use Rattle.tables.specs.Ranges.{greatestOrder, tableRoom}
-use Rattle.tables.specs.Refusals.{refusalNumber}
 use Rattle.tables.specs.Checks.{orderOf}
 use Rattle.tables.specs.Problem.{problemOf, lengthsOf, constraintSized}
 use Rattle.tables.specs.declared.Refusal.the-variants.{Length}
@@ -101,11 +100,6 @@ orderIn b = orderOf (numberOf (b .order))
 
 abbrev pub problemIn : Parts → Problem
 problemIn b = spelled (orderIn b) (b .low) (b .high) (b .from) (b .to) (numberOf (b .limit)) (b .centre)
-
--- R15.4: the number at the C entry, 0, or the refusal's
-unfoldable pub checkedCode : Checked → ℤ
-checkedCode Checked.Passed = pos 0
-checkedCode (Checked.Refused r) = pos (refusalNumber r)
 
 -- ---- what the code asks
 -- m numbers, and a buffer of their size

@@ -7,9 +7,9 @@ use native.Mathlib.Omega.{arith}
 use lib.IntN.{pos, negsuc, natAbs}
 use Rattle.tables.specs.Refusals.{refusalNumber}
 use Rattle.tables.specs.Checks.{Check, firstRefusal}
-use Rattle.tables.specs.Answers.{after, yesOrNo, answerCode}
+use Rattle.tables.specs.Answers.{after, yesOrNo, checkedCode, answerCode}
 use Rattle.tables.specs.declared.Refusal.{Refusal}
-use Rattle.tables.specs.declared.Refusal.the-variants.{Order, Length, Range, Crossed, Lopsided, Factor, Vector, Flat, Far, Cut, Tag, Again, Absent, Size, Long, Reversed, Sample, Full, Falling}
+use Rattle.tables.specs.declared.Refusal.the-variants.{Order, Length, Range, Crossed, Lopsided, Factor, Vector, Flat, Far, Cut, Tag, Again, Absent, Size, Long, Reversed, Sample, Full, Falling, Busy}
 use Rattle.tables.specs.declared.Checked.{Checked}
 use Rattle.tables.specs.declared.Checked.the-variants.{Passed, Refused}
 use Rattle.tables.specs.declared.Answer.{Answer}
@@ -83,6 +83,12 @@ refusal-positive Reversed = omega arith
 refusal-positive Sample = omega arith
 refusal-positive Full = omega arith
 refusal-positive Falling = omega arith
+refusal-positive Busy = omega arith
+
+pub code-passed : (k : Checked) → checkedCode k ≡ pos 0 → k ≡ Passed
+unfolding checkedCode
+code-passed Passed e = refl
+code-passed (Refused r) e = let h = refusal-positive r in let z : refusalNumber r ≡ 0 = ap natAbs e in absurd (omega arith)
 
 pub code-yes : (a : Answer) → answerCode a ≡ pos 0 → a ≡ Answer.Yes
 unfolding answerCode

@@ -17,7 +17,12 @@ after refused Passed a = a
 abbrev pub yesOrNo : Bool → Answer
 yesOrNo b = elim b [ true ↦ Answer.Yes | false ↦ Answer.No ]
 
--- R15.4: the number at the C entry, 0, -1, or the refusal's
+-- R15.4: the number of what checks find at the C entry, 0, or the refusal's
+unfoldable pub checkedCode : Checked → ℤ
+checkedCode Passed = pos 0
+checkedCode (Refused r) = pos (refusalNumber r)
+
+-- that of 'yes' and 'no', 0, -1, or the refusal's
 unfoldable pub answerCode : Answer → ℤ
 answerCode Answer.Yes = pos 0
 answerCode Answer.No = negsuc 0

@@ -3,7 +3,7 @@ use Prim.Native.Nat.{ℕ}
 use Prim.Native.String.{String}
 use Rattle.tables.specs.declared.Refusal.{Refusal}
 use Rattle.tables.specs.declared.Refusal.the-variants.{Order, Length, Range, Crossed, Lopsided, Factor, Vector, Flat}
-use Rattle.tables.specs.declared.Refusal.the-variants.{Far, Cut, Tag, Again, Absent, Size, Long, Reversed, Sample, Full, Falling}
+use Rattle.tables.specs.declared.Refusal.the-variants.{Far, Cut, Tag, Again, Absent, Size, Long, Reversed, Sample, Full, Falling, Busy}
 
 -- a line of R4's table; no contract cites the word
 pub record RefusalLine : Type 0 where
@@ -30,6 +30,7 @@ refusalLine Reversed = record { number = 16; word = "reversed" }
 refusalLine Sample = record { number = 17; word = "sample" }
 refusalLine Full = record { number = 18; word = "full" }
 refusalLine Falling = record { number = 19; word = "falling" }
+refusalLine Busy = record { number = 20; word = "busy" }
 
 abbrev pub refusalNumber : Refusal → ℕ
 refusalNumber r = refusalLine r .number

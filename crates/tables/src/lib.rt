@@ -9,7 +9,7 @@ ghost use lib.ListN.{length, take, drop};
 ghost use Rattle.tables.specs.Matrix.{at};
 ghost use Rattle.tables.specs.Ranges.{greatestOrder};
 ghost use Rattle.tables.specs.Refusals.{refusalNumber};
-ghost use Rattle.tables.specs.Answers.{answerCode};
+ghost use Rattle.tables.specs.Answers.{answerCode, checkedCode};
 ghost use Rattle.tables.specs.Checks.{orderOk, sizesOk, within, allWithin, tablesWithin};
 ghost use Rattle.tables.specs.Checks.{linearWithin, termsWithin, nowhereCrossed, boundsChecks, endsChecks};
 ghost use Rattle.tables.specs.Checks.{firstRefusal};
@@ -82,6 +82,7 @@ pub enum Refusal {
     Sample,
     Full,
     Falling,
+    Busy,
 }
 
 // What checks find: nothing to refuse, or the first refusal.
@@ -121,6 +122,17 @@ pub fn refusal_number(r: Refusal) -> u8
         Refusal::Sample => 17,
         Refusal::Full => 18,
         Refusal::Falling => 19,
+        Refusal::Busy => 20,
+    }
+}
+
+// The number of what checks find at a C entry (R15.4): 0 where nothing is refused, else the refusal's.
+pub fn checked_code(checked: Checked) -> i64
+    ensures { λ r. ⌜ r ≡ checkedCode checked ⌝ }
+{
+    match checked {
+        Checked::Passed => 0,
+        Checked::Refused(r) => refusal_number(r) as i64,
     }
 }
 

@@ -3,9 +3,9 @@ use native.Mathlib.Omega.{arith}
 use borrow.Author.Needs.{needs}
 use lib.IntN.{pos}
 use Rattle.integers.proofs.Machine.{read-i64}
-use Rattle.file_buffers.specs.Parts.{checkedCode}
-use Rattle.file_buffers.proofs.checked_code.Statement.{statement}
-use Rattle.file_buffers.proofs.checked_code.Tie as tie
+use Rattle.tables.specs.Answers.{checkedCode}
+use Rattle.tables.proofs.checked_code.Statement.{statement}
+use Rattle.tables.proofs.checked_code.Tie as tie
 
 pub checked-code-spec : {M : Type 1} → statement M
 unfolding checkedCode
