@@ -9,6 +9,8 @@ pub mod Store
 pub mod Rows
 pub mod Passing
 pub mod Walked
+pub mod Unrolled
+pub mod Taken
 pub mod Sweep
 pub mod Filling
 pub mod Reduced

@@ -10,7 +10,7 @@ use lib.IntN.{ℤ, pos}
 use lib.ListN.{length, set}
 use lib.Seq.{getD-set-same, getD-set-other}
 use Rattle.tables.specs.Matrix.{nth}
-use Rattle.tables.proofs.Matrix.{length-tabulate, getD-tabulate, nth-tabulate, tabulate-suc}
+use Rattle.tables.proofs.Matrix.{length-tabulate, getD-tabulate, nth-tabulate, tabulate-suc, tabulate-ext}
 use Rattle.cholesky.specs.Factoring.{Factoring, entries}
 use Rattle.cholesky.specs.declared.factoring.Outcome.{Outcome}
 use Rattle.cholesky.specs.declared.factoring.Outcome.the-variants.{Ends, Stops}
@@ -48,6 +48,10 @@ entries-columnsOf t j k l h m = ap (λ (c : List ℤ). nth c k) (getD-tabulate j
 pub columnOf-suc : (t : List ℤ) (j m : ℕ) → columnOf t j (suc m) ≡ columnOf t j m ++ (upper t m j ∷ [])
 unfolding columnOf
 columnOf-suc t j m = tabulate-suc m _
+
+pub columnsOf-ext : (s t : List ℤ) (j : ℕ) → ((k l : ℕ) → k ≤ l → l < j → upper s k l ≡ upper t k l) → columnsOf s j ≡ columnsOf t j
+unfolding columnsOf columnOf
+columnsOf-ext s t j f = tabulate-ext j _ _ (λ l h. tabulate-ext (suc l) _ _ (λ k m. f k l (omega arith) h))
 
 -- ---- what a store changes
 module _ (t : List ℤ) (i j : ℕ) (v : ℤ) where

@@ -4,76 +4,65 @@ use mathlib.Core.Bool.{true, false}
 use mathlib.Core.List.{List, []}
 use Prim.Native.Nat.{ℕ, zero, suc, _-_, _≤_, _<_}
 use native.Mathlib.Omega.{arith}
-use lib.IntN.{ℤ, pos, _-ℤ_, _*ℤ_}
+use lib.IntN.{ℤ, pos}
 use lib.Signed.{_≤ℤ_}
 use Rattle.integers.specs.Division.{floorDiv}
-use Rattle.integers.proofs.Parts.{leZ-true}
-use Rattle.integers.proofs.Sums.{sum-ext}
+use Rattle.integers.specs.Root.{wholeRoot}
 use Rattle.tables.specs.Matrix.{Matrix, tabulate}
 use Rattle.tables.proofs.Checks.{true-of}
 use Rattle.cholesky.specs.declared.factoring.Outcome.the-variants.{Ends, Stops}
-use Rattle.cholesky.specs.Factoring.{Column, nextEntry, goesOn, rows, nextColumn, columnsFrom, factoring}
+use Rattle.cholesky.specs.Factoring.{Column, goesOn, nextColumn, columnsFrom, factoring}
 use Rattle.cholesky.specs.Store.{upper, columnOf, columnsOf, outcomeOf, Stored}
-use Rattle.cholesky.specs.Reduced.{rowEntry, reduced}
-use Rattle.cholesky.proofs.Loops.{goes-on, rows-on, rows-stop, column-on, column-none, columns-on, columns-stop}
-use Rattle.cholesky.proofs.Store.{length-columnOf, length-columnsOf, columnOf-suc, columnsOf-suc, entries-columnsOf, nth-columnOf}
+use Rattle.cholesky.specs.Reduced.{rowEntry}
+use Rattle.cholesky.specs.Columns.{leftBy, IsNext, ColumnGoes}
+use Rattle.cholesky.proofs.Loops.{goes-on, columns-on, columns-stop}
+use Rattle.cholesky.proofs.Store.{length-columnOf, length-columnsOf, columnsOf-suc}
 use Rattle.cholesky.proofs.Reduced.{leftOf, left-is}
 use Rattle.cholesky.proofs.Walked.{Rows, Stop}
-
-no-rows : (t : List ℤ) (j : ℕ) → columnOf t j 0 ≡ []
-unfolding columnOf tabulate
-no-rows t j = refl
+use Rattle.cholesky.proofs.Unrolled.{no-rows, leftBy-ext, unrolled-none, unrolled-stop, unrolled-done}
 
 no-columns : (t : List ℤ) → columnsOf t 0 ≡ []
 unfolding columnsOf tabulate
 no-columns t = refl
 
 module _ {H : Matrix} {t : List ℤ} {e : ℕ} (s : Rows H t e e) (j : ℕ) (before : j ≤ e) where
-  -- the entry that the definition works out next
-  entry-is : (m : ℕ) → m < j → ((k : ℕ) → k < m → upper t k j ≡ rowEntry (leftOf H k) k j) →
-      nextEntry H (columnsOf t j) j (columnOf t j m) ≡ rowEntry (leftOf H m) m j
-  unfolding nextEntry rowEntry
-  entry-is m o here =
-      rw (length-columnOf t j m)
-      (ap₂ floorDiv
-      (ap (λ (z : ℤ). H m j -ℤ z)
-      (sum-ext m _ _ (λ k a. ap₂ (λ (u v : ℤ). u *ℤ v) (entries-columnsOf t j k m (omega arith) o ∙ s .off k m (omega arith) a (omega arith)) (nth-columnOf t j m k a ∙ here k a)))
-      ∙ left-is H m m j)
-      (entries-columnsOf t j m m (omega arith) o ∙ s .on m (omega arith) (omega arith)))
+  -- what is left by the entries in the table
+  left-at : (m a : ℕ) → ((k : ℕ) → k < m → upper t k a ≡ rowEntry (leftOf H k) k a) → ((k : ℕ) → k < m → upper t k j ≡ rowEntry (leftOf H k) k j) →
+      leftBy H (upper t) m a j ≡ leftOf H m a j
+  unfolding leftBy
+  left-at m a p q = leftBy-ext H (upper t) (λ k l. rowEntry (leftOf H k) k l) m a j p q ∙ left-is H m a j
 
-  -- the definition's column j after m rows
-  column-at : (m : ℕ) → m ≤ j → pos 1 ≤ℤ H j j → ((k : ℕ) → k < m → upper t k j ≡ rowEntry (leftOf H k) k j) →
-      ((k : ℕ) → k < m → goesOn (rowEntry (leftOf H k) k j) (leftOf H (suc k) j j) ≡ true) →
-      nextColumn H (columnsOf t j) ≡ rows H (columnsOf t j) j (j - m) (leftOf H m j j) (columnOf t j m)
-  unfolding leftOf reduced
-  column-at zero o top p q =
-      let z : j - 0 ≡ j = omega arith in
-      rw (z, no-rows t j) (column-on H (columnsOf t j) j (length-columnsOf t j) (leZ-true top))
-  column-at (suc m) o top p q =
-      let z : j - m ≡ suc (j - suc m) = omega arith in
-      let r = entry-is m (omega arith) (λ k a. p k (omega arith)) in
-      (rw z at (column-at m (omega arith) top (λ k a. p k (omega arith)) (λ k a. q k (omega arith))))
-      ∙ rows-on H (columnsOf t j) j (j - suc m) (leftOf H m j j) (columnOf t j m) (rw r (q m (omega arith)))
-      ∙ rw (r, columnOf-suc t j m, p m (omega arith)) refl
+  entry-at : (m : ℕ) → m < j → ((k : ℕ) → k < suc m → upper t k j ≡ rowEntry (leftOf H k) k j) → IsNext H (upper t) m j
+  unfolding rowEntry
+  entry-at m o p =
+      p m (omega arith)
+      ∙ sym (ap₂ floorDiv (left-at m m (λ k a. s .off k m (omega arith) a (omega arith)) (λ k a. p k (omega arith))) (s .on m (omega arith) (omega arith)))
+
+  goes-at : (m : ℕ) → m ≤ j → pos 1 ≤ℤ H j j → ((k : ℕ) → k < m → upper t k j ≡ rowEntry (leftOf H k) k j) →
+      ((k : ℕ) → k < m → goesOn (rowEntry (leftOf H k) k j) (leftOf H (suc k) j j) ≡ true) → ColumnGoes H (upper t) j m
+  goes-at m o top p q =
+      record {
+        top = top;
+        entries = λ k a. entry-at k (omega arith) (λ l b. p l (omega arith));
+        tests = λ k a. rw (left-at (suc k) j (λ l b. p l (omega arith)) (λ l b. p l (omega arith)), p k a) (q k a);
+      }
 
   column-stop : (m : ℕ) → Stop H t j m → nextColumn H (columnsOf t j) ≡ record { done = false; column = columnOf t j m }
-  unfolding leftOf reduced
-  column-stop zero x = rw (no-rows t j) (column-none H (columnsOf t j) j (length-columnsOf t j) (x .none refl))
+  column-stop zero x = unrolled-none H t j (x .none refl)
   column-stop (suc m) x =
       let o = x .rows in
-      let z : j - m ≡ suc (j - suc m) = omega arith in
-      let r = entry-is m (omega arith) (λ k a. x .here k (omega arith)) in
-      (rw z at (column-at m (omega arith) (x .top (omega arith)) (λ k a. x .here k (omega arith)) (λ k a. x .tests k (omega arith))))
-      ∙ rows-stop H (columnsOf t j) j (j - suc m) (leftOf H m j j) (columnOf t j m) (rw r (x .last m refl))
-      ∙ rw (r, columnOf-suc t j m, x .here m (omega arith)) refl
+      unrolled-stop H t j m (omega arith)
+      (goes-at m (omega arith) (x .top (omega arith)) (λ k a. x .here k (omega arith)) (λ k a. x .tests k (omega arith)))
+      (entry-at m (omega arith) (x .here))
+      (rw (left-at (suc m) j (x .here) (x .here), x .here m (omega arith)) (x .last m refl))
 
   column-done : j < e → nextColumn H (columnsOf t j) ≡ record { done = true; column = columnOf t j (suc j) }
-  unfolding rows leftOf
+  unfolding leftOf
   column-done o =
-      let z : j - j ≡ 0 = omega arith in
-      (rw z at (column-at j (omega arith) (s .top j o) (λ k a. s .off k j (omega arith) a o)
-      (λ k a. true-of _ (goes-on _ _ (s .walked .passed k (omega arith) .later j a o)))))
-      ∙ rw (columnOf-suc t j j, s .on j o o) refl
+      let here : (k : ℕ) → k < j → upper t k j ≡ rowEntry (leftOf H k) k j = λ k a. s .off k j (omega arith) a o in
+      unrolled-done H t j
+      (goes-at j (omega arith) (s .top j o) here (λ k a. true-of _ (goes-on _ _ (s .walked .passed k (omega arith) .later j a o))))
+      (s .on j o o ∙ ap wholeRoot (sym (left-at j j here here)))
 
 module _ {H : Matrix} {t : List ℤ} {n e : ℕ} (s : Rows H t e e) (o : e ≤ n) where
   -- the columns before e are done

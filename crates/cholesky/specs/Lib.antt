@@ -4,3 +4,4 @@ pub mod Store
 pub mod Scaling
 pub mod Reduced
 pub mod Rows
+pub mod Columns

@@ -1,6 +1,7 @@
 // Factoring: the matrix H of a problem, and its Cholesky factor, in whole numbers.
 use tables::GREATEST_ORDER;
 
+pub mod column_step;
 pub mod factoring;
 pub mod problem;
 pub mod row_step;

@@ -1,6 +1,6 @@
 // The row step of factoring (R6.3 and R6.4 of docs/RULES.md, by rows): row i of what is left of a matrix becomes the factor's, and the
 // rows after it the Schur complement, in place. Entry (i, j) of a table stands at STRIDE j + i. Factoring, and the trials that ask only
-// whether it ends, take their rows here; a step that adds a column to a factor would stand beside this file.
+// whether it ends, take their rows here; the step that adds a column to a factor is column_step.rt, over the same leaf.
 ghost use mathlib.Core.Path.{_≡_};
 ghost use Prim.Native.Nat.{suc, _-_, _<_};
 ghost use lib.IntN.{pos};
@@ -29,7 +29,7 @@ fn subtract_products(s: &mut Table, i: usize, j: usize, r: i64)
 }
 
 // Column j of row i, whose diagonal entry is d. False where r(i,j) passes a factor's range or less than 1 is left of entry (j, j).
-fn take_column(s: &mut Table, i: usize, j: usize, d: i64) -> bool
+pub fn take_column(s: &mut Table, i: usize, j: usize, d: i64) -> bool
     requires { ⌜ Rowed (now s) i j j × (pos 1 ≤ℤ d) ⌝ }
     ensures { λ x. ⌜ ColumnTaken (now (s .entry)) i j (floorDiv (upper (now (s .entry)) i j) d) x (now (s .exit)) ⌝ }
 {

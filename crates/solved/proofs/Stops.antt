@@ -126,7 +126,7 @@ stopped-at {f} {j} {m} {t} a =
     rw (← s .column, ← s .rows, a .columns, a .stopped, ← s .ends) refl
 
 -- the entries of the columns that were done
-done-small : {H : Matrix} (t : List ℤ) (j : ℕ) → Done H (columnsOf t j) → (i k : ℕ) → i ≤ k → k < j → Within factorRange (upper t i k)
+pub done-small : {H : Matrix} (t : List ℤ) (j : ℕ) → Done H (columnsOf t j) → (i k : ℕ) → i ≤ k → k < j → Within factorRange (upper t i k)
 done-small t j d i k h l =
     let inside : k < length (columnsOf t j) = omega (arith, length-columnsOf t j) in
     subst (Within factorRange) (entries-columnsOf t j i k h l)
