@@ -408,6 +408,32 @@ fn pooled() {
     }
 }
 
+fn print_byte(word: &[u8], x: u8)
+    requires { ⌜ length (now word) ≤ 16 ⌝ }
+{
+    print_number(word, x as i64);
+}
+
+// [1] on the display bus, begun at zeros: its order, a start, a start while busy, which is refused by 20, and the tick that settles it.
+fn on_the_bus() {
+    let mut block = [0u8; bus::registers::BLOCK_BYTES];
+    let mut run = [0u8; bus::area::RUN_BYTES];
+    let one = [1u8, 0, 0, 0, 0, 0, 0, 0];
+    let order = bus::acts::write(&mut block, &mut run, 6, 1, &one, &one);
+    print_checked(b"bus_write", order);
+    let start = bus::acts::write(&mut block, &mut run, 0, 1, &one, &one);
+    print_checked(b"bus_write", start);
+    let again = bus::acts::write(&mut block, &mut run, 0, 1, &one, &one);
+    print_checked(b"bus_write", again);
+    let tick = bus::acts::tick(&mut block, &mut run);
+    print_checked(b"bus_tick", tick);
+    let mut verdict = [0u8; 1];
+    let read = bus::acts::read(&block, 3, &mut verdict);
+    print_checked(b"bus_read", read);
+    print_byte(b"verdict", verdict[0]);
+    print_number(b"bus_line", bus::line::line_code(bus::acts::line(&block)));
+}
+
 // Whether the judge calls two bounds of order 2 definite. Where it does, every symmetric matrix between them is positive definite: the
 // contract says so, and is proved from the judge's in a line.
 fn surely_definite(low: [i64; 4], high: [i64; 4]) -> bool
@@ -513,6 +539,7 @@ fn main() {
     boxed();
     gathered();
     pooled();
+    on_the_bus();
     promised();
     read_summary();
     write_summary();

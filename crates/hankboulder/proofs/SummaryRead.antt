@@ -7,15 +7,16 @@ use lib.ListN.{length}
 use Rattle.words.proofs.Laws.{AllBytes}
 use Rattle.tables.specs.declared.Checked.the-variants.{Passed}
 use Rattle.tables.specs.declared.problem.Problem.{Problem}
-use Rattle.tables.proofs.Answers.{exactly}
+use Rattle.tables.specs.Answers.{checkedCode}
+use Rattle.tables.proofs.Answers.{exactly, code-passed}
 use Rattle.summary.specs.Problems.{fileOf, reading, LetThrough}
 use Rattle.summary.proofs.OneFile.{accepted-size}
 use Rattle.summary.proofs.RoundTrip.{reading-means}
 use Rattle.writer.specs.Writing.{Written}
 use Rattle.buffers.specs.Buffers.{numberOf}
-use Rattle.file_buffers.specs.Parts.{Parts, Handed, partsOf, orderIn, problemIn, readSummary, checkedCode}
+use Rattle.file_buffers.specs.Parts.{Parts, Handed, partsOf, orderIn, problemIn, readSummary}
 use Rattle.file_buffers.specs.Filing.{front}
-use Rattle.file_buffers.proofs.Handing.{handing-stored, code-passed}
+use Rattle.file_buffers.proofs.Handing.{handing-stored}
 use Rattle.file_buffers.proofs.Back.{problem-back}
 use Rattle.file_buffers.proofs.Rewritten.{rewritten}
 use Rattle.hankboulder.specs.Entries.{ReadSummaryResult, readSummaryEntry, WriteSummaryResult, writeSummaryEntry}

@@ -8,12 +8,13 @@ use Rattle.words.proofs.Laws.{AllBytes}
 use Rattle.tables.specs.Checks.{orderOf}
 use Rattle.tables.specs.Problem.{mendedProblem}
 use Rattle.tables.specs.declared.Checked.the-variants.{Passed}
-use Rattle.tables.proofs.Answers.{exactly}
+use Rattle.tables.specs.Answers.{checkedCode}
+use Rattle.tables.proofs.Answers.{exactly, code-passed}
 use Rattle.summary.specs.Problems.{readAs, reading}
 use Rattle.writer.specs.Writing.{Written}
-use Rattle.file_buffers.specs.Parts.{Parts, Handed, partsRoomy, spelled, checkedCode}
+use Rattle.file_buffers.specs.Parts.{Parts, Handed, partsRoomy, spelled}
 use Rattle.file_buffers.specs.Filing.{writeSummary, laidOut}
-use Rattle.file_buffers.proofs.Handing.{handing-read, code-passed}
+use Rattle.file_buffers.proofs.Handing.{handing-read}
 use Rattle.file_buffers.proofs.Filed.{written-read, written-laid}
 use Rattle.hankboulder.specs.Entries.{ReadSummaryResult, readSummaryEntry, WriteSummaryResult, writeSummaryEntry}
 use Rattle.hankboulder.specs.Meanings.{WriteSummaryMeaning}

@@ -109,6 +109,7 @@ number-full Refused.Reversed e = absurd (omega (arith, e))
 number-full Refused.Sample e = absurd (omega (arith, e))
 number-full Refused.Full e = refl
 number-full Refused.Falling e = absurd (omega (arith, e))
+number-full Refused.Busy e = absurd (omega (arith, e))
 
 code-full : (a : Gathered) → gatheredCode a ≡ pos (refusalNumber Refused.Full) → a ≡ Gathered.Refused Refused.Full
 unfolding gatheredCode

@@ -4,7 +4,7 @@ use Prim.Native.Nat.{ℕ}
 use lib.IntN.{ℤ}
 use lib.ListN.{length}
 use Rattle.tables.specs.Checks.{orderOf}
-use Rattle.tables.specs.Answers.{answerCode}
+use Rattle.tables.specs.Answers.{answerCode, checkedCode}
 use Rattle.tables.specs.Problem.{constraintOf, problemOf, lengthsOf}
 use Rattle.tables.specs.declared.problem.Constraint.{Constraint}
 use Rattle.residual.specs.FactorTest.{factorTested, factorCode}
@@ -24,8 +24,10 @@ use Rattle.pool.specs.Pool.{Problems}
 use Rattle.sums_buffers.specs.SumsBuffers.{spelledSums, sumsBuffers, storedSums, readBuffers, ReadOut, storedLimit}
 use Rattle.pool_buffers.specs.PoolBuffers.{spelledPool}
 use Rattle.writer.specs.Writing.{Written}
-use Rattle.file_buffers.specs.Parts.{Parts, Handed, readSummary, checkedCode}
+use Rattle.file_buffers.specs.Parts.{Parts, Handed, readSummary}
 use Rattle.file_buffers.specs.Filing.{writeSummary}
+use Rattle.bus.specs.Running.{Bus}
+use Rattle.bus.specs.Bus.{Moved, write, tick, ReadBack, read, line, lineCode}
 use Rattle.stiffness_buffers.specs.StiffnessBuffers.{stiffnessBuffers, StoredStiffness, storedStiffness}
 
 -- ---- hb_test_factor: the factor test of the numbers that the buffers spell
@@ -176,3 +178,32 @@ unfoldable pub writeSummaryEntry : ℤ → List ℕ → List ℕ → List ℕ �
 writeSummaryEntry n l u a b α c s =
     let j : Written = writeSummary n l u a b α c s in
     record { number = checkedCode (j .answer); file = j .file }
+
+-- ---- hb_bus_write and hb_bus_tick: the number of the answer, and block and run area as they are left
+pub record BusResult : Type 0 where
+  pub number : ℤ
+  pub bus : Bus
+
+abbrev pub movedResult : Moved → BusResult
+movedResult m = record { number = checkedCode (m .answer); bus = m .bus }
+
+unfoldable pub busWriteEntry : List ℕ → List ℕ → ℤ → ℕ → List ℕ → List ℕ → BusResult
+busWriteEntry b s k v l u = movedResult (write b s k v l u)
+
+unfoldable pub busTickEntry : List ℕ → List ℕ → BusResult
+busTickEntry b s = movedResult (tick b s)
+
+-- ---- hb_bus_read: the number of the answer, and the buffer of the byte as it is left
+pub record BusReadResult : Type 0 where
+  pub number : ℤ
+  pub value : List ℕ
+
+abbrev pub readResult : ReadBack → BusReadResult
+readResult m = record { number = checkedCode (m .answer); value = m .value }
+
+unfoldable pub busReadEntry : List ℕ → ℤ → List ℕ → BusReadResult
+busReadEntry b k x = readResult (read b k x)
+
+-- ---- hb_bus_line
+unfoldable pub busLineEntry : List ℕ → ℤ
+busLineEntry b = lineCode (line b)

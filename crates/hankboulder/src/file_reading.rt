@@ -3,7 +3,7 @@ ghost use mathlib.Core.Path.{_≡_};
 ghost use Rattle.file_buffers.specs.Parts.{parts};
 ghost use Rattle.hankboulder.specs.Entries.{ReadSummaryResult, readSummaryEntry};
 ghost use Rattle.hankboulder.specs.Meanings.{ReadSummaryMeaning};
-use file_buffers::checked_code;
+use tables::checked_code;
 
 // Reads a summary file: 0 with all seven buffers written, the problem in front and zeros behind it; else the refusal's number, with nothing
 // written.

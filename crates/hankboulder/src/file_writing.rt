@@ -2,7 +2,7 @@
 ghost use mathlib.Core.Path.{_≡_};
 ghost use Rattle.hankboulder.specs.Entries.{WriteSummaryResult, writeSummaryEntry};
 ghost use Rattle.hankboulder.specs.Meanings.{WriteSummaryMeaning};
-use file_buffers::checked_code;
+use tables::checked_code;
 
 // Writes the summary file of a problem, with linear terms between linear_low and linear_high, which may be one buffer: 0 with the file
 // written, else the refusal's number, with nothing written.

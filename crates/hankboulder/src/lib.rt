@@ -5,6 +5,7 @@ ghost use Rattle.hankboulder.specs.Entries.{JudgeResult, judgeEntry, Box
 ghost use Rattle.hankboulder.specs.Meanings.{FactorMeaning, VectorMeaning, JudgeMeaning, BoxMeaning};
 
 pub mod bracketing;
+pub mod display_bus;
 pub mod file_reading;
 pub mod file_writing;
 pub mod gathering;
