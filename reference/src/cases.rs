@@ -1,5 +1,7 @@
-//! The worked cases W1 to W72, and cases for the mistakes that docs/RULES.md remarks
+//! The worked cases W1 to W88, and cases for the mistakes that docs/RULES.md remarks
 //! on. Expected answers are literals.
+
+mod bus;
 
 use std::fmt;
 
@@ -49,7 +51,7 @@ impl fmt::Display for Case {
     }
 }
 
-/// Every case: W1 to W20, W21 (case P), W24 to W72, then those for the mistakes, W22
+/// Every case: W1 to W20, W21 (case P), W24 to W88, then those for the mistakes, W22
 /// and W23 among them.
 pub fn listed_cases() -> Vec<Case> {
     [
@@ -68,6 +70,7 @@ pub fn listed_cases() -> Vec<Case> {
         pools(),
         refused_pools(),
         vec![halved_for_a_sample()],
+        bus::cases(),
         wrong_turns(),
     ]
     .concat()

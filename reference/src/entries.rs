@@ -1,12 +1,13 @@
-//! The acts over bytes, as the C entries have them: R15 and R22 to R27.
+//! The acts over bytes, as the C entries have them: R15 and R22 to R28.
 //!
 //! Numbers take up 8 bytes (R15.2); what is returned is that of R15.4.
 
+use crate::bus::{self, Bus};
 use crate::enclosure::{self, Enclosure};
 use crate::judge::{self as judging, Verdict};
 use crate::pool::{self as pooling, Lists};
 use crate::problem::{
-    check_lengths, check_order, sides_size, table_size, write_numbers, MAX_ORDER,
+    check_lengths, check_order, sides_size, table_size, write_numbers, Bounds, MAX_ORDER,
 };
 use crate::refusal::{require, Refusal};
 use crate::residual::{self, FactorAnswer};
@@ -18,9 +19,10 @@ use crate::vectors;
 use crate::writer;
 
 /// 'definite', 'accepted', 'yes', a box, a bracket with its step, a sample taken,
-/// problems taken, a limit written, a file written, a problem written
+/// problems taken, a limit written, a file written, a problem written, a write, tick or
+/// read of the bus done, its line low
 pub const POSITIVE: i64 = 0;
-/// 'not definite', 'not accepted', 'no', 'empty', a bound alone
+/// 'not definite', 'not accepted', 'no', 'empty', a bound alone, the line of the bus raised
 pub const NEGATIVE: i64 = -1;
 /// 'undecided'
 pub const UNDECIDED: i64 = -2;
@@ -432,4 +434,43 @@ fn write_in_front(numbers: &[i128], buffer: &mut [u8]) {
     let mut whole = vec![0; buffer.len() / NUMBER_WIDTH];
     write_numbers(numbers, &mut whole[..numbers.len()]);
     write(&whole, buffer);
+}
+
+/// A write to the bus. The tables are those of a start; no other write looks at them.
+pub fn bus_write(
+    block: &mut [u8],
+    run: &mut [u8],
+    address: i64,
+    value: u8,
+    low: &[u8],
+    high: &[u8],
+) -> i64 {
+    let judge_checks = |n: i64| {
+        let [low, high] = read(n, [(low, table_size as Count), (high, table_size)])?;
+        Bounds::read(n as usize, &low, &high)
+    };
+    taken_code(Bus::lent(block, run).and_then(|mut bus| bus.write(address, value, judge_checks)))
+}
+
+/// A tick of the bus.
+pub fn bus_tick(block: &mut [u8], run: &mut [u8]) -> i64 {
+    taken_code(Bus::lent(block, run).map(|mut bus| bus.tick()))
+}
+
+/// A read from the bus.
+pub fn bus_read(block: &[u8], address: i64, value: &mut [u8]) -> i64 {
+    taken_code(bus::read(block, address).and_then(|byte| {
+        check_lengths(&[(value.len(), 1)])?;
+        value[0] = byte;
+        Ok(())
+    }))
+}
+
+/// The line of the bus (R15.8).
+pub fn bus_line(block: &[u8]) -> i64 {
+    match bus::is_raised(block) {
+        Ok(false) => POSITIVE,
+        Ok(true) => NEGATIVE,
+        Err(refusal) => refusal.number(),
+    }
 }

@@ -39,31 +39,48 @@ pub fn factor(bounds: &Bounds) -> Factoring {
     let h = shifted_sum(bounds);
     // R6.6: entries that are not computed are 0.
     let mut r = vec![vec![0; n]; n];
-    let stop = |j: usize, m: usize, partial: Table| Factoring::Stops {
-        column: j + 1,
-        last_row: m,
-        partial,
-    };
     for j in 0..n {
-        // R6.2
-        let mut rest = h[j][j];
-        if rest < 1 {
-            return stop(j, 0, r);
+        let down_to_diagonal: Vec<i128> = (0..=j).map(|i| h[i][j]).collect();
+        let worked = work_column(&r, &down_to_diagonal);
+        let (Ok(entries) | Err(entries)) = &worked;
+        for (row, entry) in r.iter_mut().zip(entries) {
+            row[j] = *entry;
         }
-        for i in 0..j {
-            // R6.3
-            let products: i128 = (0..i).map(|k| r[k][i] * r[k][j]).sum();
-            r[i][j] = floor_quotient(h[i][j] - products, r[i][i]);
-            // R6.4
-            rest -= r[i][j] * r[i][j];
-            if r[i][j].abs() > FACTOR_RANGE || rest < 1 {
-                return stop(j, i + 1, r);
-            }
+        if worked.is_err() {
+            return Factoring::Stops {
+                column: j + 1,
+                last_row: entries.len(),
+                partial: r,
+            };
         }
-        // R6.5
-        r[j][j] = whole_root(rest);
     }
     Factoring::Ends(r)
+}
+
+/// R6.2 to R6.5: a column of the factor, from that of H down to its diagonal and the columns
+/// of the factor before it. `Err` is a stop, with the m entries that it has found.
+pub fn work_column(r: &Table, h: &[i128]) -> Result<Vec<i128>, Vec<i128>> {
+    let (diagonal, above) = h.split_last().expect("a column has its diagonal");
+    // R6.2
+    let mut rest = *diagonal;
+    let mut column = vec![];
+    if rest < 1 {
+        return Err(column);
+    }
+    for (i, entry) in above.iter().enumerate() {
+        // R6.3
+        let products: i128 = (0..i).map(|k| r[k][i] * column[k]).sum();
+        let next = floor_quotient(entry - products, r[i][i]);
+        column.push(next);
+        // R6.4
+        rest -= next * next;
+        if next.abs() > FACTOR_RANGE || rest < 1 {
+            return Err(column);
+        }
+    }
+    // R6.5
+    column.push(whole_root(rest));
+    Ok(column)
 }
 
 /// Whether factoring ends.

@@ -2,6 +2,7 @@
 //! implementation.
 
 mod brackets;
+mod bus;
 mod calls;
 mod factors;
 mod files;
@@ -11,13 +12,16 @@ mod points;
 mod pools;
 mod problems;
 mod rides;
+mod runs;
 mod simulated;
 
+pub use bus::{BusCall, Operation, RawBus};
 pub use calls::{BoxCall, FactorCall, JudgeCall, StiffnessCall, VectorCall, WriteCall};
 pub use files::{DrawnFile, Field, ReadCall};
 pub use points::{Fractions, Point};
 pub use pools::{PoolCall, RawPool};
 pub use rides::{GatherCall, SumsCall, EDGES};
+pub use runs::{run_ranges, RunRange};
 pub use simulated::{Ride, Road};
 
 use crate::problem::Bounds;

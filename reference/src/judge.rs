@@ -48,7 +48,7 @@ pub fn verdict(bounds: &Bounds) -> Verdict {
 
 /// R11.3: the first listed vector that shows 'not definite', and its list, after
 /// factoring stopped in this column with this last row.
-fn witness(
+pub fn witness(
     bounds: &Bounds,
     column: usize,
     last_row: usize,

@@ -6,6 +6,8 @@
 #![forbid(unsafe_code)]
 #![warn(missing_docs)]
 
+pub mod bus;
+pub mod bus_run;
 pub mod cases;
 pub mod enclosure;
 pub mod entries;

@@ -135,7 +135,7 @@ fn check_ends(linear_low: &[i64], linear_high: &[i64]) -> Result<(), Refusal> {
 }
 
 /// R15.3: the numbers of a table or factor.
-pub fn table_size(order: usize) -> usize {
+pub const fn table_size(order: usize) -> usize {
     order * order
 }
 

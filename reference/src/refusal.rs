@@ -1,4 +1,4 @@
-//! Refusals 1 to 19: R4.1 to R4.19. Refusal k is rule R4.k.
+//! Refusals 1 to 20: R4.1 to R4.20. Refusal k is rule R4.k.
 
 /// Why a call or a file is refused.
 #[derive(Clone, Copy, Debug, PartialEq, Eq)]
@@ -41,10 +41,12 @@ pub enum Refusal {
     Full,
     /// 19, file: a tag below the one before it
     Falling,
+    /// 20, bus: a start while busy
+    Busy,
 }
 
 /// Each refusal with its number and its word.
-pub const REFUSALS: [(Refusal, i64, &str); 19] = [
+pub const REFUSALS: [(Refusal, i64, &str); 20] = [
     (Refusal::Order, 1, "order"),
     (Refusal::Length, 2, "length"),
     (Refusal::Range, 3, "range"),
@@ -64,6 +66,7 @@ pub const REFUSALS: [(Refusal, i64, &str); 19] = [
     (Refusal::Sample, 17, "sample"),
     (Refusal::Full, 18, "full"),
     (Refusal::Falling, 19, "falling"),
+    (Refusal::Busy, 20, "busy"),
 ];
 
 impl Refusal {

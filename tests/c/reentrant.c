@@ -33,7 +33,7 @@ struct problem {
 
 /* All that the functions answer and write for a problem: the answers of gathering are added up */
 struct result {
-    int64_t answers[10];
+    int64_t answers[11];
     int64_t low[HB_SAMPLE_ORDER * HB_SAMPLE_ORDER];
     int64_t high[HB_SAMPLE_ORDER * HB_SAMPLE_ORDER];
     int64_t linear_low[HB_SAMPLE_ORDER];
@@ -61,6 +61,9 @@ struct result {
     int64_t read_linear_high[N];
     int64_t read_limit;
     int64_t read_centre[N];
+    uint8_t block[HB_BLOCK_BYTES];
+    uint8_t run[HB_RUN_BYTES];
+    int64_t ticks;
 };
 
 static struct problem problems[PROBLEMS];
@@ -89,6 +92,23 @@ static void call_pool(const struct problem *problem, struct result *result)
                                  (uint8_t *)&result->pooled_running_limit, sizeof result->pooled_running_limit, bytes(orders),
                                  sizeof orders, bytes(tables), sizeof tables, bytes(tables), sizeof tables, bytes(linear_lows),
                                  sizeof linear_lows, bytes(linear_highs), sizeof linear_highs, bytes(limits), sizeof limits);
+}
+
+/* A run on a bus of its own: the order and the start are written, and ticks come until it is not busy. The answers are added up. */
+static void call_bus(const struct problem *problem, struct result *result)
+{
+    const uint8_t *table = bytes(problem->table);
+    const size_t size = sizeof problem->table;
+    uint8_t status = HB_BUS_BUSY;
+    int64_t *answer = &result->answers[10];
+    *answer = hb_bus_write(result->block, sizeof result->block, result->run, sizeof result->run, HB_BUS_ORDER, N, NULL, 0, NULL, 0);
+    *answer += hb_bus_write(result->block, sizeof result->block, result->run, sizeof result->run, HB_BUS_COMMAND, HB_BUS_START, table, size,
+                            table, size);
+    for (; status == HB_BUS_BUSY && result->ticks <= HB_BUS_MOST_TICKS(N); result->ticks++) {
+        *answer += hb_bus_tick(result->block, sizeof result->block, result->run, sizeof result->run);
+        *answer += hb_bus_read(result->block, sizeof result->block, HB_BUS_STATUS, &status, sizeof status);
+        *answer += hb_bus_line(result->block, sizeof result->block);
+    }
 }
 
 static void call(const struct problem *problem, struct result *result)
@@ -125,6 +145,14 @@ static void call(const struct problem *problem, struct result *result)
     result->answers[8] = hb_stiffness(N, table, size, table, size, (uint8_t *)&result->step, sizeof result->step, (uint8_t *)&result->bound,
                                       sizeof result->bound, (uint8_t *)result->shown, sizeof result->shown);
     call_pool(problem, result);
+    call_bus(problem, result);
+}
+
+/* Whether a run on the bus has ended with a verdict, after so many ticks */
+static int ended(const struct result *result, int verdict, int64_t ticks)
+{
+    return result->answers[10] == 0 && result->block[HB_BUS_STATUS] == HB_BUS_DONE && result->block[HB_BUS_VERDICT] == verdict &&
+           result->ticks == ticks;
 }
 
 /* Whether a problem's calls give what they gave alone */
@@ -213,6 +241,9 @@ int main(void)
     /* Twice the greatest entry has room, and is halved for a third time. */
     expect("pooled, and halved", alone[0].answers[9] == HB_TAKEN && alone[0].pooled_low[0] == 3000 && alone[1].answers[9] == HB_TAKEN &&
                                      alone[1].pooled_high[0] == 1000000 && alone[1].pooled_running_limit == 200000);
+    expect("on the bus, definite", ended(&alone[0], HB_BUS_DEFINITE, N));
+    expect("on the bus, undecided, a stop in the last column", ended(&alone[1], HB_BUS_UNDECIDED, N + 1));
+    expect("on the bus, not definite, a stop in the second column", ended(&alone[2], HB_BUS_NOT_DEFINITE, 3));
     for (int k = 0; k < PROBLEMS; k++)
         expect("written, and read", alone[k].answers[6] == HB_WRITTEN && alone[k].answers[7] == HB_WRITTEN &&
                                         memcmp(alone[k].read_low, problems[k].table, sizeof problems[k].table) == 0 &&

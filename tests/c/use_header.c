@@ -501,7 +501,7 @@ static void run_box_of_order_1(void)
 static void run_words(void)
 {
     static const char *const words[] = HB_REFUSAL_WORDS;
-    expect("one word for each number", (int64_t)(sizeof words / sizeof words[0]), HB_REFUSED_FALLING + 1);
+    expect("one word for each number", (int64_t)(sizeof words / sizeof words[0]), HB_REFUSED_BUSY + 1);
     expect("no word for 0", strcmp(words[0], ""), 0);
     expect("order", strcmp(words[HB_REFUSED_ORDER], "order"), 0);
     expect("length", strcmp(words[HB_REFUSED_LENGTH], "length"), 0);
@@ -526,6 +526,8 @@ static void run_words(void)
     expect("its number", HB_REFUSED_FULL, 18);
     expect("falling", strcmp(words[HB_REFUSED_FALLING], "falling"), 0);
     expect("its number", HB_REFUSED_FALLING, 19);
+    expect("busy", strcmp(words[HB_REFUSED_BUSY], "busy"), 0);
+    expect("its number", HB_REFUSED_BUSY, 20);
 }
 
 /* Numbers and their bytes */
@@ -1347,6 +1349,383 @@ static void run_lopsided_summary(void)
     expect("nothing is written", kept((const uint8_t *)&held, sizeof held), 1);
 }
 
+/* A bus, with a byte before and behind each of its two buffers: so they start at odd addresses. */
+struct bus {
+    uint8_t block[1 + HB_BLOCK_BYTES + 1], run[1 + HB_RUN_BYTES + 1];
+};
+
+/* A bus of zeros, which is one that was reset */
+static void begin_bus(struct bus *bus)
+{
+    memset(bus, KEPT, sizeof *bus);
+    memset(bus->block + 1, 0, HB_BLOCK_BYTES);
+    memset(bus->run + 1, 0, HB_RUN_BYTES);
+}
+
+/* Whether a buffer has zeros alone. */
+static int is_zero(const uint8_t *buffer, size_t size)
+{
+    size_t k;
+    for (k = 0; k < size; k++)
+        if (buffer[k] != 0)
+            return 0;
+    return 1;
+}
+
+/* Whether block and run area are zeros. */
+static int is_reset(const struct bus *bus)
+{
+    return is_zero(bus->block + 1, HB_BLOCK_BYTES) && is_zero(bus->run + 1, HB_RUN_BYTES);
+}
+
+/* A write that brings no tables: they are null and of length 0 */
+static int64_t bus_write(struct bus *bus, int64_t address, int value)
+{
+    return hb_bus_write(bus->block + 1, HB_BLOCK_BYTES, bus->run + 1, HB_RUN_BYTES, address, (uint8_t)value, NULL, 0, NULL, 0);
+}
+
+/* A start with tables of some numbers each */
+static int64_t bus_start(struct bus *bus, const int64_t *low, const int64_t *high, size_t count)
+{
+    uint8_t lows[1 + HB_TABLE_BYTES(HB_MAX_ORDER)], highs[1 + HB_TABLE_BYTES(HB_MAX_ORDER)], before[2][HB_TABLE_BYTES(HB_MAX_ORDER)];
+    size_t size = HB_NUMBERS_BYTES(count);
+    int64_t answer;
+    store(lows + 1, low, count);
+    store(highs + 1, high, count);
+    memcpy(before[0], lows + 1, size);
+    memcpy(before[1], highs + 1, size);
+    answer = hb_bus_write(bus->block + 1, HB_BLOCK_BYTES, bus->run + 1, HB_RUN_BYTES, HB_BUS_COMMAND, HB_BUS_START, lows + 1, size,
+                          highs + 1, size);
+    expect("the tables are as they were", memcmp(before[0], lows + 1, size) == 0 && memcmp(before[1], highs + 1, size) == 0, 1);
+    return answer;
+}
+
+/* The same from a bus of zeros, whose order is written first */
+static void begin_run(struct bus *bus, int order, const int64_t *low, const int64_t *high, size_t count)
+{
+    begin_bus(bus);
+    expect("write the order", bus_write(bus, HB_BUS_ORDER, order), HB_TAKEN);
+    expect("start", bus_start(bus, low, high, count), HB_TAKEN);
+}
+
+static int64_t bus_tick(struct bus *bus)
+{
+    return hb_bus_tick(bus->block + 1, HB_BLOCK_BYTES, bus->run + 1, HB_RUN_BYTES);
+}
+
+static int64_t bus_line(const struct bus *bus)
+{
+    return hb_bus_line(bus->block + 1, HB_BLOCK_BYTES);
+}
+
+/* The value of a register, and no byte beside it */
+static int bus_read(const struct bus *bus, int64_t address)
+{
+    uint8_t value[3];
+    memset(value, KEPT, sizeof value);
+    expect("read a register", hb_bus_read(bus->block + 1, HB_BLOCK_BYTES, address, value + 1, HB_VALUE_BYTES), HB_READ);
+    expect("no byte beside the value is written", kept(value, 1) && kept(value + 2, 1), 1);
+    return value[1];
+}
+
+/* Status, refusal number, verdict, mask, flags and order; and always the other registers are 0, and the bytes beside them are kept. */
+static void expect_bus(const char *what, const struct bus *bus, int status, int refusal, int verdict, int mask, int flags, int order)
+{
+    expect(what, bus_read(bus, HB_BUS_STATUS), status);
+    expect("the refusal number", bus_read(bus, HB_BUS_REFUSAL), refusal);
+    expect("the verdict", bus_read(bus, HB_BUS_VERDICT), verdict);
+    expect("the mask", bus_read(bus, HB_BUS_MASK), mask);
+    expect("the flags", bus_read(bus, HB_BUS_FLAGS), flags);
+    expect("the order", bus_read(bus, HB_BUS_ORDER), order);
+    expect("the line", bus_line(bus), (flags & mask) != 0 ? HB_LINE_RAISED : HB_LINE_LOW);
+    expect("the other registers", bus->block[1] == 0 && is_zero(bus->block + 1 + HB_BUS_ORDER + 1, HB_BLOCK_BYTES - HB_BUS_ORDER - 1), 1);
+    expect("a run area without a run", (status & HB_BUS_BUSY) != 0 || is_zero(bus->run + 1, HB_RUN_BYTES), 1);
+    expect("no byte beside block and run area is written",
+           kept(bus->block, 1) && kept(bus->block + 1 + HB_BLOCK_BYTES, 1) && kept(bus->run, 1) && kept(bus->run + 1 + HB_RUN_BYTES, 1), 1);
+}
+
+static const int64_t bus_one[1] = {1}, bus_zero[1] = {0}, bus_close[ENTRIES] = {1, 3, 3, 10}, bus_good[ENTRIES] = MATRIX;
+
+/* The numbers of the header, and what they are for */
+static void run_bus_numbers(void)
+{
+    expect("bytes of a block", HB_BLOCK_BYTES, 32);
+    expect("bytes of a run area", HB_RUN_BYTES, 1560);
+    expect("bytes of a value", HB_VALUE_BYTES, 1);
+    expect("the most ticks of order 8", HB_BUS_MOST_TICKS(HB_MAX_ORDER), 9);
+    expect("the commands", HB_BUS_START == 1 && HB_BUS_RESET == 2, 1);
+    expect("the bits", HB_BUS_BUSY == 1 && HB_BUS_DONE == 2 && HB_BUS_REFUSED == 4, 1);
+    expect("the verdicts", HB_BUS_NO_VERDICT == 0 && HB_BUS_DEFINITE == 1 && HB_BUS_NOT_DEFINITE == 2 && HB_BUS_UNDECIDED == 3, 1);
+    expect("the registers", HB_BUS_COMMAND == 0 && HB_BUS_STATUS == 1 && HB_BUS_REFUSAL == 2 && HB_BUS_VERDICT == 3, 1);
+    expect("those behind", HB_BUS_MASK == 4 && HB_BUS_FLAGS == 5 && HB_BUS_ORDER == 6, 1);
+}
+
+/* The worked cases of the bus: W73 to W78, W80 to W84 */
+static void run_bus_cases(void)
+{
+    struct bus bus, before;
+    begin_run(&bus, 1, bus_one, bus_one, 1);
+    expect_bus("[1] is begun", &bus, HB_BUS_BUSY, 0, 0, 0, 1, 1);
+    before = bus;
+    expect("start again while busy", bus_start(&bus, bus_zero, bus_zero, 1), HB_REFUSED_BUSY);
+    expect("nothing moves", memcmp(&bus, &before, sizeof bus), 0);
+    expect("tick", bus_tick(&bus), HB_TICKED);
+    expect_bus("[1] is done in tick 1", &bus, HB_BUS_DONE, 0, HB_BUS_DEFINITE, 0, 3, 1);
+    before = bus;
+    expect("clear no flag", bus_write(&bus, HB_BUS_FLAGS, 0), HB_TAKEN);
+    expect("a tick more", bus_tick(&bus), HB_TICKED);
+    expect("nothing moves", memcmp(&bus, &before, sizeof bus), 0);
+    expect("clear flag 0", bus_write(&bus, HB_BUS_FLAGS, 1), HB_TAKEN);
+    expect_bus("flag 1 is left", &bus, HB_BUS_DONE, 0, HB_BUS_DEFINITE, 0, 2, 1);
+    expect("mask done", bus_write(&bus, HB_BUS_MASK, HB_BUS_DONE), HB_TAKEN);
+    expect_bus("the line is raised", &bus, HB_BUS_DONE, 0, HB_BUS_DEFINITE, 2, 2, 1);
+    expect("clear flag 1", bus_write(&bus, HB_BUS_FLAGS, HB_BUS_DONE), HB_TAKEN);
+    expect_bus("the line is low", &bus, HB_BUS_DONE, 0, HB_BUS_DEFINITE, 2, 0, 1);
+
+    begin_run(&bus, 2, bus_close, bus_close, ENTRIES);
+    bus_tick(&bus);
+    expect_bus("[1 3; 3 10] behind tick 1", &bus, HB_BUS_BUSY, 0, 0, 0, 1, 2);
+    bus_tick(&bus);
+    expect_bus("behind tick 2, in which it stops", &bus, HB_BUS_BUSY, 0, 0, 0, 1, 2);
+    bus_tick(&bus);
+    expect_bus("undecided in tick 3", &bus, HB_BUS_DONE, 0, HB_BUS_UNDECIDED, 0, 3, 2);
+
+    begin_run(&bus, 1, bus_zero, bus_zero, 1);
+    bus_tick(&bus);
+    expect_bus("[0] stops in tick 1", &bus, HB_BUS_BUSY, 0, 0, 0, 1, 1);
+    bus_tick(&bus);
+    expect_bus("not definite in tick 2", &bus, HB_BUS_DONE, 0, HB_BUS_NOT_DEFINITE, 0, 3, 1);
+
+    begin_run(&bus, 0, bus_one, bus_one, 1);
+    expect_bus("order 0", &bus, HB_BUS_REFUSED, HB_REFUSED_ORDER, 0, 0, 4, 0);
+    begin_run(&bus, 2, bus_one, bus_one, 1);
+    expect_bus("tables of order 1 for order 2", &bus, HB_BUS_REFUSED, HB_REFUSED_LENGTH, 0, 0, 4, 2);
+
+    begin_run(&bus, 2, bus_close, bus_close, ENTRIES);
+    bus_tick(&bus);
+    expect("reset while busy", bus_write(&bus, HB_BUS_COMMAND, HB_BUS_RESET), HB_TAKEN);
+    expect("all is 0", is_reset(&bus), 1);
+    bus_tick(&bus);
+    expect("a tick does nothing", is_reset(&bus), 1);
+
+    begin_run(&bus, 2, bus_close, bus_close, ENTRIES);
+    bus_tick(&bus);
+    expect("another order", bus_write(&bus, HB_BUS_ORDER, 5), HB_TAKEN);
+    expect("a mask", bus_write(&bus, HB_BUS_MASK, 7), HB_TAKEN);
+    expect("no command", bus_write(&bus, HB_BUS_COMMAND, 3), HB_TAKEN);
+    bus_tick(&bus);
+    expect_bus("the run goes on", &bus, HB_BUS_BUSY, 0, 0, 7, 1, 5);
+    bus_tick(&bus);
+    expect_bus("to its end", &bus, HB_BUS_DONE, 0, HB_BUS_UNDECIDED, 7, 3, 5);
+
+    begin_bus(&bus);
+    expect("write to the status", bus_write(&bus, HB_BUS_STATUS, HB_BUS_BUSY), HB_TAKEN);
+    bus_tick(&bus);
+    expect("nothing moves", is_reset(&bus), 1);
+}
+
+/* Every address and some far ones: what a write does there, on a bus of zeros and of other bytes, what is read, and every command */
+static void run_bus_registers(void)
+{
+    static const int64_t far[] = {INT64_MIN, -257, -1, 32, 33, 256, 261, ((int64_t)1 << 32) + 4, INT64_MAX};
+    struct bus bus, before;
+    int64_t address;
+    size_t k;
+    int value;
+    begin_bus(&bus);
+    for (address = 1; address < HB_BLOCK_BYTES; address++)
+        expect("write 255", bus_write(&bus, address, 255), HB_TAKEN);
+    for (k = 0; k < sizeof far / sizeof far[0]; k++) {
+        expect("write 255 far away", bus_write(&bus, far[k], 255), HB_TAKEN);
+        expect("read far away", bus_read(&bus, far[k]), 0);
+    }
+    expect_bus("mask and order alone", &bus, 0, 0, 0, 7, 0, 255);
+    memset(bus.block + 1, 0xA8, HB_BLOCK_BYTES);
+    for (address = 0; address < HB_BLOCK_BYTES; address++) {
+        before = bus;
+        expect("a register of other bytes", bus_read(&bus, address), 1 <= address && address <= 6 ? 0xA8 : 0);
+        expect("write 5", bus_write(&bus, address, 5), HB_TAKEN);
+        before.block[1 + HB_BUS_MASK] = address >= HB_BUS_MASK ? 0xAD : 0xA8;
+        before.block[1 + HB_BUS_ORDER] = address >= HB_BUS_ORDER ? 5 : 0xA8;
+        expect("its writable bits alone move", memcmp(&bus, &before, sizeof bus), 0);
+    }
+    bus.block[1 + HB_BUS_FLAGS] = 0xAF;
+    expect("clear flags of other bytes", bus_write(&bus, HB_BUS_FLAGS, 0xFD), HB_TAKEN);
+    expect("two of them are cleared", bus.block[1 + HB_BUS_FLAGS], 0xAA);
+    expect("flags and mask have bits in common", bus_line(&bus), HB_LINE_RAISED);
+    begin_run(&bus, 2, bus_close, bus_close, ENTRIES);
+    before = bus;
+    for (value = 0; value < 256; value++)
+        if (value != HB_BUS_START && value != HB_BUS_RESET)
+            expect("no command", bus_write(&bus, HB_BUS_COMMAND, value), HB_TAKEN);
+    expect("nothing moves", memcmp(&bus, &before, sizeof bus), 0);
+}
+
+/* Every pair of mask and flags: the line, and what a write to the flags leaves */
+static void run_bus_line(void)
+{
+    struct bus bus;
+    int mask, flags, cleared;
+    begin_bus(&bus);
+    for (mask = 0; mask < 8; mask++)
+        for (flags = 0; flags < 8; flags++)
+            for (cleared = 0; cleared < 8; cleared++) {
+                bus.block[1 + HB_BUS_MASK] = (uint8_t)mask;
+                bus.block[1 + HB_BUS_FLAGS] = (uint8_t)flags;
+                expect("the line", bus_line(&bus), (mask & flags) != 0 ? HB_LINE_RAISED : HB_LINE_LOW);
+                expect("clear flags", bus_write(&bus, HB_BUS_FLAGS, cleared), HB_TAKEN);
+                expect("those that are left", bus_read(&bus, HB_BUS_FLAGS), flags & ~cleared);
+                expect("the mask stays", bus_read(&bus, HB_BUS_MASK), mask);
+            }
+}
+
+/* What each start of the judge's cases comes to: the judge's refusal, or its verdict, on a bus that has had the others before it */
+static void run_bus_verdicts(void)
+{
+    struct bus bus;
+    size_t k;
+    begin_bus(&bus);
+    for (k = 0; k < sizeof judge_cases / sizeof judge_cases[0]; k++) {
+        const struct judge_case *test = &judge_cases[k];
+        int refusal = test->expected > 0 ? (int)test->expected : 0, order = (int)test->n, ticks = 0;
+        if (test->vector_len != WHOLE_VECTOR)
+            continue;
+        bus_write(&bus, HB_BUS_ORDER, order);
+        bus_write(&bus, HB_BUS_FLAGS, 7);
+        expect(test->what, bus_start(&bus, test->low, test->high, ENTRIES), HB_TAKEN);
+        if (refusal) {
+            expect_bus("refused", &bus, HB_BUS_REFUSED, refusal, 0, 0, HB_BUS_REFUSED, order);
+            continue;
+        }
+        for (; bus_read(&bus, HB_BUS_STATUS) == HB_BUS_BUSY && ticks <= HB_BUS_MOST_TICKS(ORDER); ticks++) {
+            expect_bus("busy", &bus, HB_BUS_BUSY, 0, 0, 0, HB_BUS_BUSY, order);
+            expect("tick", bus_tick(&bus), HB_TICKED);
+        }
+        expect_bus("done", &bus, HB_BUS_DONE, 0, (int)(1 - test->expected), 0, HB_BUS_BUSY | HB_BUS_DONE, order);
+        expect("the ticks", test->expected == HB_DEFINITE ? ticks == ORDER : 2 <= ticks && ticks <= HB_BUS_MOST_TICKS(ORDER), 1);
+    }
+    expect("refused, and refused again", bus_start(&bus, bus_one, bus_one, 1), HB_TAKEN);
+    bus_write(&bus, HB_BUS_FLAGS, 7);
+    expect("and again", bus_start(&bus, bus_one, bus_one, 1), HB_TAKEN);
+    expect_bus("its flag rises again", &bus, HB_BUS_REFUSED, HB_REFUSED_LENGTH, 0, 0, HB_BUS_REFUSED, ORDER);
+    bus_write(&bus, HB_BUS_ORDER, 1);
+    expect("a start without tables", bus_write(&bus, HB_BUS_COMMAND, HB_BUS_START), HB_TAKEN);
+    expect_bus("it is refused", &bus, HB_BUS_REFUSED, HB_REFUSED_LENGTH, 0, 0, HB_BUS_REFUSED, 1);
+}
+
+/* At each order: the identity takes n ticks, and with a last entry of 0 it takes n + 1. Tables that change after the start play no part. */
+static void run_bus_orders(void)
+{
+    int64_t table[HB_MAX_ORDER * HB_MAX_ORDER];
+    uint8_t lent[HB_TABLE_BYTES(HB_MAX_ORDER)];
+    struct bus bus;
+    int n, last, k, ticks;
+    for (n = 1; n <= HB_MAX_ORDER; n++)
+        for (last = 0; last < 2; last++) {
+            size_t size = HB_TABLE_BYTES(n);
+            for (k = 0; k < n * n; k++)
+                table[k] = k % (n + 1) == 0;
+            table[n * n - 1] = last;
+            store(lent, table, (size_t)(n * n));
+            begin_bus(&bus);
+            bus_write(&bus, HB_BUS_ORDER, n);
+            expect("start with one table",
+                   hb_bus_write(bus.block + 1, HB_BLOCK_BYTES, bus.run + 1, HB_RUN_BYTES, HB_BUS_COMMAND, HB_BUS_START, lent, size, lent,
+                                size),
+                   HB_TAKEN);
+            memset(lent, 255, sizeof lent);
+            for (ticks = 1; ticks < n + 1 - last; ticks++) {
+                bus_tick(&bus);
+                expect_bus("not before its tick", &bus, HB_BUS_BUSY, 0, 0, 0, HB_BUS_BUSY, n);
+            }
+            bus_tick(&bus);
+            expect_bus("in its tick", &bus, HB_BUS_DONE, 0, last ? HB_BUS_DEFINITE : HB_BUS_NOT_DEFINITE, 0, HB_BUS_BUSY | HB_BUS_DONE, n);
+        }
+}
+
+/* The answers of all four functions where block, run area or value has another size: that comes before 20, and at every address */
+static void refuse_sizes(struct bus *bus, size_t block, size_t run, size_t value)
+{
+    static const int64_t addresses[] = {HB_BUS_COMMAND, HB_BUS_STATUS, HB_BUS_FLAGS, HB_BUS_ORDER, 31, 32, -1, INT64_MAX};
+    const struct bus before = *bus;
+    uint8_t table[HB_TABLE_BYTES(1)] = {1}, read[2] = {KEPT, KEPT};
+    size_t k;
+    for (k = 0; k < sizeof addresses / sizeof addresses[0]; k++) {
+        if (value == HB_VALUE_BYTES)
+            expect("write with another size",
+                   hb_bus_write(bus->block + 1, block, bus->run + 1, run, addresses[k], HB_BUS_START, table, sizeof table, table,
+                                sizeof table),
+                   HB_REFUSED_LENGTH);
+        if (value != HB_VALUE_BYTES || block != HB_BLOCK_BYTES)
+            expect("read with another size", hb_bus_read(bus->block + 1, block, addresses[k], read, value), HB_REFUSED_LENGTH);
+    }
+    if (value == HB_VALUE_BYTES) {
+        expect("reset with another size",
+               hb_bus_write(bus->block + 1, block, bus->run + 1, run, HB_BUS_COMMAND, HB_BUS_RESET, NULL, 0, NULL, 0), HB_REFUSED_LENGTH);
+        expect("tick with another size", hb_bus_tick(bus->block + 1, block, bus->run + 1, run), HB_REFUSED_LENGTH);
+    }
+    if (block != HB_BLOCK_BYTES)
+        expect("the line with another size", hb_bus_line(bus->block + 1, block), HB_REFUSED_LENGTH);
+    expect("nothing is written", memcmp(bus, &before, sizeof *bus) == 0 && kept(read, sizeof read), 1);
+}
+
+static void run_bus_sizes(void)
+{
+    static const size_t runs[] = {0, 8, HB_RUN_BYTES - 8, HB_RUN_BYTES - 1, HB_RUN_BYTES + 1};
+    struct bus bus;
+    size_t block, k;
+    int busy;
+    for (busy = 0; busy < 2; busy++) {
+        begin_bus(&bus);
+        bus_write(&bus, HB_BUS_ORDER, 1);
+        if (busy)
+            bus_start(&bus, bus_one, bus_one, 1);
+        for (block = 0; block <= HB_BLOCK_BYTES + 1; block++)
+            if (block != HB_BLOCK_BYTES)
+                refuse_sizes(&bus, block, HB_RUN_BYTES, HB_VALUE_BYTES);
+        for (k = 0; k < sizeof runs / sizeof runs[0]; k++)
+            refuse_sizes(&bus, HB_BLOCK_BYTES, runs[k], HB_VALUE_BYTES);
+        refuse_sizes(&bus, HB_BLOCK_BYTES, HB_RUN_BYTES, 0);
+        refuse_sizes(&bus, HB_BLOCK_BYTES, HB_RUN_BYTES, 2);
+    }
+    expect("write to null buffers", hb_bus_write(NULL, 0, NULL, 0, HB_BUS_MASK, 1, NULL, 0, NULL, 0), HB_REFUSED_LENGTH);
+    expect("tick null buffers", hb_bus_tick(NULL, 0, NULL, 0), HB_REFUSED_LENGTH);
+    expect("read null buffers", hb_bus_read(NULL, 0, HB_BUS_STATUS, NULL, 0), HB_REFUSED_LENGTH);
+    expect("read into a null buffer", hb_bus_read(bus.block + 1, HB_BLOCK_BYTES, HB_BUS_STATUS, NULL, 0), HB_REFUSED_LENGTH);
+    expect("the line of a null buffer", hb_bus_line(NULL, 0), HB_REFUSED_LENGTH);
+}
+
+/* Bytes that no start left: busy by itself, with a run area that holds no run, and a run area without busy. */
+static void run_bus_any_bytes(void)
+{
+    static const uint8_t fills[] = {0, 1, 127, 128, 255};
+    struct bus bus, before;
+    size_t k;
+    for (k = 0; k < sizeof fills / sizeof fills[0]; k++) {
+        begin_bus(&bus);
+        memset(bus.run + 1, fills[k], HB_RUN_BYTES);
+        before = bus;
+        expect("tick while not busy", bus_tick(&bus), HB_TICKED);
+        expect("nothing moves", memcmp(&bus, &before, sizeof bus), 0);
+        bus.block[1 + HB_BUS_STATUS] = 255;
+        before = bus;
+        expect("tick without a run", bus_tick(&bus), HB_TICKED);
+        expect("start while busy by itself", bus_start(&bus, bus_one, bus_one, 1), HB_REFUSED_BUSY);
+        expect("nothing moves", memcmp(&bus, &before, sizeof bus), 0);
+        bus.block[1 + HB_BUS_STATUS] = 254;
+        bus.block[1 + HB_BUS_ORDER] = ORDER;
+        expect("start over any bytes", bus_start(&bus, bus_good, bus_good, ENTRIES), HB_TAKEN);
+        expect_bus("it is begun", &bus, HB_BUS_BUSY, 0, 0, 0, HB_BUS_BUSY, ORDER);
+        bus_tick(&bus);
+        bus_tick(&bus);
+        expect_bus("and done", &bus, HB_BUS_DONE, 0, HB_BUS_DEFINITE, 0, HB_BUS_BUSY | HB_BUS_DONE, ORDER);
+        memset(bus.block + 1, fills[k], HB_BLOCK_BYTES);
+        memset(bus.run + 1, fills[k], HB_RUN_BYTES);
+        expect("reset any bytes", bus_write(&bus, HB_BUS_COMMAND, HB_BUS_RESET), HB_TAKEN);
+        expect("all is 0", is_reset(&bus), 1);
+    }
+}
+
 /* The version's numbers and its string are one version. */
 static void run_version(void)
 {
@@ -1374,6 +1753,14 @@ int main(void)
     run_pool_counts();
     run_pool_lopsided();
     run_rides_to_box();
+    run_bus_numbers();
+    run_bus_cases();
+    run_bus_registers();
+    run_bus_line();
+    run_bus_verdicts();
+    run_bus_orders();
+    run_bus_sizes();
+    run_bus_any_bytes();
     for (k = 0; k < sizeof write_cases / sizeof write_cases[0]; k++)
         run_write_case(&write_cases[k]);
     run_read_summary();

@@ -6,6 +6,8 @@
  * hb_judge has to write the number that the program prints behind `over`, and to keep its buffer where it prints no such line.
  * hb_stiffness has to answer as the second implementation does and to leave the same bytes, with a step exactly where the program prints
  * `definite`. hb_pool, handed what was read some times over and the same for its sums, or zeros, has to answer and to leave the same too.
+ * The file's bytes are a list of operations on a bus besides, whose starts have the tables that were read; every answer of it, and every
+ * byte of block and run area after each operation, has to be the second implementation's.
  */
 #define _GNU_SOURCE
 #include <errno.h>
@@ -315,6 +317,71 @@ static bool same_pool(const struct problem *read) {
     return answer == fuzz_pool(n, expected, problem, orders, count) && memcmp(sums, expected, sizeof sums) == 0;
 }
 
+/* A bus, and the byte that was read from it last */
+struct bus {
+    uint8_t block[HB_BLOCK_BYTES];
+    uint8_t run[HB_RUN_BYTES];
+    uint8_t value[HB_VALUE_BYTES];
+};
+
+/* The entries of the bus: the library's, and the second implementation's */
+static const struct bus_entries {
+    int64_t (*write)(uint8_t *, size_t, uint8_t *, size_t, int64_t, uint8_t, const uint8_t *, size_t, const uint8_t *, size_t);
+    int64_t (*tick)(uint8_t *, size_t, uint8_t *, size_t);
+    int64_t (*read)(const uint8_t *, size_t, int64_t, uint8_t *, size_t);
+    int64_t (*line)(const uint8_t *, size_t);
+} library = {hb_bus_write, hb_bus_tick, hb_bus_read, hb_bus_line}, second = {fuzz_bus_write, fuzz_bus_tick, fuzz_bus_read, fuzz_bus_line};
+
+/* At most so many operations of a file, of three bytes each: the kind, and two that it is handed */
+#define OPERATIONS 64
+enum { KIND_READ = 3, KIND_LINE, KIND_WRITE, KIND_START, KIND_PUT, KINDS_OF_OPERATION }; /* those below are ticks */
+
+/* Carries out an operation; its answer. A start has the tables that were read, for this order; and a byte anywhere in a bus can be put. */
+static int64_t carry_out(const struct bus_entries *entries, struct bus *bus, const struct problem *read, size_t table,
+                         const uint8_t *operation) {
+    int64_t address = (int8_t)operation[1];
+    uint8_t value = operation[2];
+    switch (operation[0] % KINDS_OF_OPERATION) {
+    case KIND_READ:
+        return entries->read(bus->block, sizeof bus->block, address, bus->value, sizeof bus->value);
+    case KIND_LINE:
+        return entries->line(bus->block, sizeof bus->block);
+    case KIND_START:
+        address = HB_BUS_COMMAND;
+        value = HB_BUS_START; /* fall through */
+    case KIND_WRITE:
+        return entries->write(bus->block, sizeof bus->block, bus->run, sizeof bus->run, address, value, read->low, table, read->high,
+                              table);
+    case KIND_PUT:
+        if (operation[0] % 16 == KIND_PUT) {
+            bus->block[operation[1] % sizeof bus->block] = value;
+        } else {
+            bus->run[(operation[0] / 16 * 256U + operation[1]) % sizeof bus->run] = value;
+        }
+        return 0;
+    default:
+        return entries->tick(bus->block, sizeof bus->block, bus->run, sizeof bus->run);
+    }
+}
+
+/* Whether the operations that a file's bytes are, behind an order and a start of what was read, come out on both buses alike */
+static bool same_bus(const struct problem *read, int64_t n, const uint8_t *data, size_t size) {
+    struct bus given = {{0}, {0}, {0}}, expected = {{0}, {0}, {0}};
+    size_t table = n >= 1 && n <= HB_MAX_ORDER ? HB_TABLE_BYTES(n) : 0;
+    const uint8_t first[][3] = {{KIND_WRITE, HB_BUS_ORDER, (uint8_t)n}, {KIND_START, 0, 0}};
+    for (size_t k = 0; k < OPERATIONS; k++) {
+        const uint8_t *operation = k < 2 ? first[k] : data + 3 * (k - 2);
+        if (k >= 2 && 3 * (k - 1) > size) {
+            break;
+        }
+        if (carry_out(&library, &given, read, table, operation) != carry_out(&second, &expected, read, table, operation) ||
+            memcmp(&given, &expected, sizeof given) != 0) {
+            return false;
+        }
+    }
+    return true;
+}
+
 static void compare_reading(const uint8_t *data, size_t size, const char *text) {
     struct problem read, expected;
     memset(&read, 0x5A, sizeof read);
@@ -342,6 +409,10 @@ static void compare_reading(const uint8_t *data, size_t size, const char *text) 
     }
     if (answer == HB_WRITTEN && !same_pool(&read)) {
         fprintf(stderr, "DIFFERENCE on %zu bytes: hb_pool answers or leaves otherwise than the second implementation\n", size);
+        abort();
+    }
+    if (!same_bus(&read, answer == HB_WRITTEN ? hb_load_number(read.order) : HB_MAX_ORDER, data, size)) {
+        fprintf(stderr, "DIFFERENCE on %zu bytes: a bus answers or is left otherwise than the second implementation's\n", size);
         abort();
     }
 }

@@ -50,12 +50,12 @@
 #define GUARD 32
 #define PAGE 36864 /* nine of the processor's, so that a list of 65 tables of the greatest order has room */
 /* Numbers are dealt to the threads in blocks of this many. */
-#define BLOCK 120
+#define BLOCK 168
 #define PROGRESS 10 /* seconds */
 
-/* Answers are -2 to 19, orders 1 to 8 or out of range (0). */
+/* Answers are -2 to 20, orders 1 to 8 or out of range (0). */
 #define LEAST (-2)
-#define ANSWERS (HB_REFUSED_FALLING - LEAST + 1)
+#define ANSWERS (HB_REFUSED_BUSY - LEAST + 1)
 #define ORDERS (HB_MAX_ORDER + 1)
 
 struct act {
@@ -103,6 +103,10 @@ static const struct act acts[LOAD_ACTS] = {
                             {HB_REFUSED_LONG, "long"},
                             {HB_REFUSED_REVERSED, "reversed"},
                             {HB_REFUSED_FALLING, "falling"}}},
+    [LOAD_BUS_WRITE] = {"hb_bus_write", {{HB_TAKEN, "taken"}, {HB_REFUSED_LENGTH, "length"}, {HB_REFUSED_BUSY, "busy"}}},
+    [LOAD_BUS_TICK] = {"hb_bus_tick", {{HB_TICKED, "ticked"}, {HB_REFUSED_LENGTH, "length"}}},
+    [LOAD_BUS_READ] = {"hb_bus_read", {{HB_READ, "read"}, {HB_REFUSED_LENGTH, "length"}}},
+    [LOAD_BUS_LINE] = {"hb_bus_line", {{HB_LINE_LOW, "low"}, {HB_LINE_RAISED, "raised"}, {HB_REFUSED_LENGTH, "length"}}},
 };
 
 /* Calls by act, order and answer. */
@@ -273,6 +277,15 @@ static int64_t answered(const struct load_call *call, const struct place *lent) 
         return hb_read_summary(low->lent, low->length, high->lent, high->length, third->lent, third->length, fourth->lent, fourth->length,
                                fifth->lent, fifth->length, sixth->lent, sixth->length, seventh->lent, seventh->length, eighth->lent,
                                eighth->length);
+    case LOAD_BUS_WRITE: /* block and run area, then the tables */
+        return hb_bus_write(low->lent, low->length, high->lent, high->length, call->address, call->value, third->lent, third->length,
+                            fourth->lent, fourth->length);
+    case LOAD_BUS_TICK:
+        return hb_bus_tick(low->lent, low->length, high->lent, high->length);
+    case LOAD_BUS_READ:
+        return hb_bus_read(low->lent, low->length, call->address, high->lent, high->length);
+    case LOAD_BUS_LINE:
+        return hb_bus_line(low->lent, low->length);
     default:
         return hb_box(n, low->lent, low->length, high->lent, high->length, third->lent, third->length, fourth->lent, fourth->length,
                       call->limit, fifth->lent, fifth->length, sixth->lent, sixth->length);
@@ -301,6 +314,9 @@ static bool is_written(const struct load_call *call, size_t k) {
     }
     if (call->act == LOAD_READ_SUMMARY) {
         return call->answer == HB_WRITTEN && k > 0;
+    }
+    if (call->act == LOAD_BUS_READ) {
+        return call->answer == HB_READ && k == 1;
     }
     return call->act == LOAD_BOX && call->answer == HB_BOX && k == 5;
 }

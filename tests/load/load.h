@@ -16,6 +16,10 @@ enum {
     LOAD_READ_SUMS,
     LOAD_WRITE_SUMMARY,
     LOAD_READ_SUMMARY,
+    LOAD_BUS_WRITE,
+    LOAD_BUS_TICK,
+    LOAD_BUS_READ,
+    LOAD_BUS_LINE,
     LOAD_ACTS
 };
 
@@ -31,10 +35,11 @@ struct load_buffer {
 /*
  * A call: the act, its numbers, the answer expected, the bits of a sample's floats in their order, how many of its buffers are read (the
  * first ones), from which one on these are only read, and its buffers in the entry's order. What an act does not take is 0, but n of a
- * summary that is read is the order that the file begins with.
+ * summary that is read is the order that the file begins with, and of the bus the order in its block, or for a tick that in its run area.
  */
 struct load_call {
-    int64_t act, n, limit, running_limit, allowance, answer;
+    int64_t act, n, limit, running_limit, allowance, address, answer;
+    uint8_t value;
     uint32_t sample[5];
     size_t read, only_read_from, count;
     struct load_buffer buffers[LOAD_MOST];

@@ -53,12 +53,14 @@ fn the_same_seed_gives_the_same_calls() {
             generator.pool_call(),
         );
         let files = (generator.write_call(), generator.read_call());
+        let bus = (generator.bus_operations(), generator.bus_call());
         (
             problem,
             acts,
             others,
             rides,
             files,
+            bus,
             generator.summary_file(),
         )
     };

@@ -17,7 +17,7 @@ fn every_listed_case_passes() {
         .map(|case| case.to_string())
         .collect();
     assert_eq!(failed, Vec::<String>::new());
-    assert_eq!(cases.len(), 86);
+    assert_eq!(cases.len(), 102);
 }
 
 #[test]

@@ -1,6 +1,9 @@
 //! Tests of the reference implementation. Expected values are literals of
 //! docs/RULES.md or worked by another route.
 
+mod bus;
+mod bus_lists;
+mod bus_runs;
 mod entries;
 mod files;
 mod generator;

@@ -54,8 +54,8 @@ fn the_command_cases_counts_every_case() {
     let done = Command::new(env!("CARGO_BIN_EXE_cases")).output().unwrap();
     assert!(done.status.success());
     let text = String::from_utf8(done.stdout).unwrap();
-    assert_eq!(text.lines().count(), 87);
-    assert!(text.ends_with("\n86 passed, 0 failed\n"));
+    assert_eq!(text.lines().count(), 103);
+    assert!(text.ends_with("\n102 passed, 0 failed\n"));
 }
 
 #[test]

@@ -14,13 +14,13 @@ use crate::variation::varied;
 /// The arguments of a call.
 #[derive(Clone, Debug, PartialEq, Eq)]
 pub struct Call {
-    /// The order; in reading a summary, where it is not passed, the one that the
-    /// file begins with
+    /// The order. Where it is not passed: in reading a summary the one that the file begins
+    /// with, and of the bus that in the block, or of a tick that in the run area
     pub n: i64,
     /// The sample, of the act that has one
     pub sample: Sample,
-    /// What else is passed as a number: the limit of the box, or the running limit
-    /// and the allowance
+    /// What else is passed as a number: the limit of the box, the running limit and the
+    /// allowance, or the address and the value of the bus
     pub numbers: Vec<i64>,
     /// The buffers in the order of the C entry, read and written ones
     pub buffers: Vec<Vec<u8>>,
@@ -49,6 +49,8 @@ pub enum Inputs {
     Pooled,
     /// The bytes of the first buffer
     File,
+    /// The bytes of the block, and the numbers of what is behind it
+    Bus,
 }
 
 /// An act.

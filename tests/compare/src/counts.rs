@@ -7,6 +7,9 @@ use std::ops::AddAssign;
 
 use hankboulder_reference::judge::List;
 
+use crate::bus::tick::Ticked;
+use crate::bus::write::Written;
+
 /// How an answer came about, where the answer leaves it open.
 #[derive(Clone, Copy, Debug, PartialEq, Eq, PartialOrd, Ord)]
 pub enum Detail {
@@ -31,6 +34,10 @@ pub enum Detail {
     /// The bracket gives this; and whether another vector than the one that is shown has
     /// the least fraction.
     Bracketed(Given, bool),
+    /// The write of the bus is about this.
+    Written(Written),
+    /// The tick of the bus does this.
+    Ticked(Ticked),
 }
 
 /// Places of a row, or of a problem in a pool. The only one is the first.
@@ -172,6 +179,8 @@ impl fmt::Display for Outcome {
             Some(Detail::Bracketed(given, true)) => {
                 write!(f, ", {given:?}, the least fraction elsewhere")
             }
+            Some(Detail::Written(written)) => write!(f, ", {written:?}"),
+            Some(Detail::Ticked(ticked)) => write!(f, ", {ticked:?}"),
         }
     }
 }

@@ -8,6 +8,7 @@
 #![deny(unsafe_op_in_unsafe_fn)]
 
 mod act;
+pub mod bus;
 mod counts;
 pub mod enclosure;
 pub mod gather;

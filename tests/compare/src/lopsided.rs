@@ -5,6 +5,7 @@ use hankboulder_reference::problem;
 use hankboulder_reference::summary::{decode, fields, TABLE_WIDTH, TAG_HIGH, TAG_LOW};
 
 use crate::act::{Call, Inputs};
+use crate::bus::TABLES;
 use crate::pool::{HIGHS, LOWS};
 use crate::{bytes, numbers};
 
@@ -27,6 +28,7 @@ pub fn has_lopsided(call: &Call, inputs: Inputs) -> bool {
     let tables = match inputs {
         Inputs::File => tables_in(&call.buffers[0]),
         Inputs::Pooled => tables_of_pool(call),
+        Inputs::Bus => tables_of_write(call),
         _ => call.buffers[..2].iter().map(|t| whole_numbers(t)).collect(),
     };
     tables.iter().any(|table| is_lopsided(table))
@@ -34,6 +36,12 @@ pub fn has_lopsided(call: &Call, inputs: Inputs) -> bool {
 
 fn whole_numbers(bytes: &[u8]) -> Vec<i64> {
     numbers(&bytes[..bytes.len() / 8 * 8])
+}
+
+/// The tables that a write of the bus comes with; none of another operation.
+fn tables_of_write(call: &Call) -> Vec<Vec<i64>> {
+    let tables = TABLES.iter().filter_map(|place| call.buffers.get(*place));
+    tables.map(|table| whole_numbers(table)).collect()
 }
 
 /// The tables of the sums, and of all problems of a pool.

@@ -7,6 +7,7 @@ use hankboulder_reference::random::Random;
 use hankboulder_reference::rides::Sample;
 
 use crate::act::{Call, Inputs};
+use crate::bus;
 use crate::pool::{HIGHS, LOWS, ORDERS};
 use crate::read_summary::of_file;
 
@@ -17,6 +18,7 @@ pub fn varied(call: &Call, inputs: Inputs, random: &mut Random) -> Call {
         Inputs::Sampled(count) => varied_number(call, count, true, random),
         Inputs::Pooled => varied_pool(call, random),
         Inputs::File => varied_file(call, random),
+        Inputs::Bus => bus::varied(call, random),
     }
 }
 

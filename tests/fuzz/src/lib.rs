@@ -1,10 +1,11 @@
 //! The second implementation's output for a summary file, its bracket of the
-//! stiffness, its pools, and new files, for the fuzz harness in C. `fuzz.h` has the C side of
-//! what is here.
+//! stiffness, its pools, its bus, and new files, for the fuzz harness in C. `fuzz.h` has the C
+//! side of what is here.
 
 #![warn(missing_docs)]
 #![deny(unsafe_op_in_unsafe_fn)]
 
+mod bus;
 mod repair;
 
 use std::slice;

@@ -4,6 +4,8 @@ use hankboulder_reference::entries;
 use hankboulder_reference::generate::Generator;
 use hankboulder_reference::rides::Sample;
 
+use crate::bus;
+
 /// The acts, numbered as in `load.h`.
 #[derive(Clone, Copy, Debug, PartialEq, Eq)]
 #[repr(i64)]
@@ -19,6 +21,10 @@ pub enum Act {
     ReadSums = 7,
     WriteSummary = 8,
     ReadSummary = 9,
+    BusWrite = 10,
+    BusTick = 11,
+    BusRead = 12,
+    BusLine = 13,
 }
 
 /// How many buffers running sums have.
@@ -28,21 +34,31 @@ impl Act {
     /// How many of the buffers are read: the first ones.
     pub fn read(self) -> usize {
         match self {
-            Act::Judge | Act::Stiffness => 2,
+            Act::Judge | Act::Stiffness | Act::BusTick => 2,
             Act::TestFactor | Act::TestVector => 3,
             Act::Box | Act::Gather | Act::WriteSummary => 5,
             Act::Pool => 11,
-            Act::ReadSums => 4,
-            Act::ReadSummary => 1,
+            Act::ReadSums | Act::BusWrite => 4,
+            Act::ReadSummary | Act::BusRead | Act::BusLine => 1,
         }
     }
 
-    /// From which one on these are only read: the sums in front are written too.
+    /// From which one on these are only read: the sums in front are written too, and so are
+    /// block and run area.
     pub fn only_read_from(self) -> usize {
         match self {
             Act::Gather | Act::Pool => SUMS,
+            Act::BusWrite | Act::BusTick => 2,
             _ => 0,
         }
+    }
+
+    /// Whether it is an act of the bus.
+    pub fn is_of_bus(self) -> bool {
+        matches!(
+            self,
+            Act::BusWrite | Act::BusTick | Act::BusRead | Act::BusLine
+        )
     }
 
     /// Whether its buffers have both ends of linear terms, after the tables.
@@ -63,7 +79,8 @@ pub fn order_in(file: &[u8]) -> i64 {
 }
 
 /// What a call is passed besides its buffers. What its act does not take is 0, but
-/// n of a summary that is read is the order that the file begins with.
+/// n of a summary that is read is the order that the file begins with, and of the bus the
+/// order in its block, or for a tick that in its run area.
 #[derive(Clone, Debug, Default)]
 #[allow(missing_docs)]
 pub struct Passed {
@@ -72,6 +89,8 @@ pub struct Passed {
     pub limit: i64,
     pub running_limit: i64,
     pub allowance: i64,
+    pub address: i64,
+    pub value: u8,
 }
 
 /// The arguments of a call.
@@ -157,6 +176,9 @@ impl Call {
                     call.centre,
                 ]
             }
+            Act::BusWrite | Act::BusTick | Act::BusRead | Act::BusLine => {
+                bus::generated(act, generator, &mut passed)
+            }
         };
         Call {
             act,
@@ -203,6 +225,12 @@ impl Call {
             (Act::ReadSummary, [file, order, low, high, least, most, limit, centre]) => {
                 entries::read_summary(file, order, low, high, least, most, limit, centre)
             }
+            (Act::BusWrite, [block, run, low, high]) => {
+                entries::bus_write(block, run, passed.address, passed.value, low, high)
+            }
+            (Act::BusTick, [block, run]) => entries::bus_tick(block, run),
+            (Act::BusRead, [block, value]) => entries::bus_read(block, passed.address, value),
+            (Act::BusLine, [block]) => entries::bus_line(block),
             _ => unreachable!("each act has its number of buffers"),
         }
     }

@@ -5,6 +5,7 @@
 #![warn(missing_docs)]
 #![deny(unsafe_op_in_unsafe_fn)]
 
+mod bus;
 mod call;
 mod source;
 mod variation;
@@ -36,7 +37,9 @@ pub struct LoadCall {
     limit: i64,
     running_limit: i64,
     allowance: i64,
+    address: i64,
     answer: i64,
+    value: u8,
     sample: [u32; 5],
     read: usize,
     only_read_from: usize,
@@ -81,7 +84,9 @@ pub unsafe extern "C" fn load_call(source: *mut Source, number: u64, call: *mut 
         limit: passed.limit,
         running_limit: passed.running_limit,
         allowance: passed.allowance,
+        address: passed.address,
         answer,
+        value: passed.value,
         sample: passed.sample.numbers(),
         read: before.act.read(),
         only_read_from: before.act.only_read_from(),

@@ -10,7 +10,7 @@ use crate::variation::varied;
 const GROUP: u64 = 12;
 
 /// The acts in turn, one for each group.
-const TURNS: [Act; 10] = [
+const TURNS: [Act; 14] = [
     Act::Judge,
     Act::TestFactor,
     Act::TestVector,
@@ -21,6 +21,10 @@ const TURNS: [Act; 10] = [
     Act::ReadSums,
     Act::WriteSummary,
     Act::ReadSummary,
+    Act::BusWrite,
+    Act::BusTick,
+    Act::BusRead,
+    Act::BusLine,
 ];
 
 /// The calls of a seed. A call depends on the seed and its number alone.

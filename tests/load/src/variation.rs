@@ -7,6 +7,7 @@ use hankboulder_reference::random::Random;
 use hankboulder_reference::rides::Sample;
 use hankboulder_reference::summary::NUMBER_WIDTH;
 
+use crate::bus;
 use crate::call::{order_in, Act, Call, SUMS};
 
 /// Low and high, the buffers whose mirrored entries belong together.
@@ -33,7 +34,11 @@ pub fn varied(call: &Call, random: &mut Random) -> Call {
             varied.buffers[input] = random.bytes(length);
         }
         _ if call.act == Act::Pool => change_pool(&mut varied, random),
+        _ if call.act.is_of_bus() => bus::change(&mut varied, random),
         _ => change_number(&mut varied, random),
+    }
+    if call.act.is_of_bus() {
+        bus::put_order(&mut varied);
     }
     varied
 }

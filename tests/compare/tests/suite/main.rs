@@ -3,6 +3,8 @@
 
 mod acceptance;
 mod boxes;
+mod bus;
+mod bus_runs;
 mod generated;
 mod mended;
 mod over;
@@ -17,3 +19,4 @@ mod support;
 mod two_ends;
 mod vectors;
 mod verdicts;
+mod wrong_buses;
