@@ -7,7 +7,7 @@
  *     bench compare           only compares
  *     bench count             makes each call once, for callgrind, which writes down the instructions of each act, order and side
  *     bench time [COUNTS]     compares, times and prints the tables. Each line of the file COUNTS is an act, an order, a side and its instructions.
- *                             Ends with status 1 where the library takes longer beside plain C than it may
+ *                             Ends with status 1 where the library takes longer beside plain C than it may, or on the bus beside its judge
  *     bench alone             times the library alone, for bench/before: a line for each act and order with the nanoseconds of a call, a sum
  *                             over all answers and buffers but over, a sum over that buffer, or - where the archive has none, whether the act
  *                             has all of its steps in this archive, or fewer, and the act's name
@@ -63,7 +63,7 @@ int64_t test_factor_without_over(int64_t n, const uint8_t *low, size_t low_len, 
 #define HAS_OVER 1
 #endif
 
-/* What the calls write. The last five are running sums, or with the order, the limit and the centre a problem. */
+/* What the calls write. The five before the bus are running sums, or with the order, the limit and the centre a problem. */
 static struct {
     int64_t factor[MAX_ENTRIES];
     int64_t vector[HB_MAX_ORDER];
@@ -80,6 +80,10 @@ static struct {
     int64_t linear_low[HB_MAX_ORDER];
     int64_t linear_high[HB_MAX_ORDER];
     int64_t running_limit;
+    struct bus {
+        uint8_t block[HB_BLOCK_BYTES];
+        int64_t run[PLAIN_RUN_NUMBERS];
+    } bus;
 } out;
 
 /* Whether each call has its sums from its problem. Where not, they run: the samples of the problems are gathered one after the other, which have room. */
@@ -387,12 +391,116 @@ static int64_t tuned_read_summary_side(int64_t n, const struct problem *problem)
                               (uint8_t *)out.centre, sizeof out.centre);
 }
 
+/* A bus that was reset, but for its order. The run area is as the last run has left it, since a start writes all of it. */
+static void ready_bus(int64_t n)
+{
+    memset(out.bus.block, 0, sizeof out.bus.block);
+    out.bus.block[HB_BUS_ORDER] = (uint8_t)n;
+}
+
+static int64_t library_start(int64_t n, const struct problem *problem)
+{
+    size_t size = HB_TABLE_BYTES(n);
+    ready_bus(n);
+    return hb_bus_write(out.bus.block, sizeof out.bus.block, (uint8_t *)out.bus.run, sizeof out.bus.run, HB_BUS_COMMAND, HB_BUS_START,
+                        bytes(problem->low), size, bytes(problem->high), size);
+}
+
+static int64_t plain_start(int64_t n, const struct problem *problem)
+{
+    size_t count = (size_t)(n * n);
+    ready_bus(n);
+    return plain_bus_write(out.bus.block, sizeof out.bus.block, out.bus.run, PLAIN_RUN_NUMBERS, HB_BUS_COMMAND, HB_BUS_START, problem->low,
+                           count, problem->high, count);
+}
+
+static int64_t library_tick(void)
+{
+    return hb_bus_tick(out.bus.block, sizeof out.bus.block, (uint8_t *)out.bus.run, sizeof out.bus.run);
+}
+
+static int64_t plain_tick(void)
+{
+    return plain_bus_tick(out.bus.block, sizeof out.bus.block, out.bus.run, PLAIN_RUN_NUMBERS);
+}
+
+/* Whether a run is under way */
+static int is_busy(void)
+{
+    return out.bus.block[HB_BUS_STATUS] & HB_BUS_BUSY;
+}
+
+/* What the judge answers where the bus has come to this */
+static int64_t bus_answer(void)
+{
+    return out.bus.block[HB_BUS_STATUS] & HB_BUS_REFUSED ? out.bus.block[HB_BUS_REFUSAL] : 1 - (int64_t)out.bus.block[HB_BUS_VERDICT];
+}
+
+/* A whole run: a start, and ticks until it ends, as many as there can be at most */
+static int64_t library_bus(int64_t n, const struct problem *problem)
+{
+    int64_t answer = library_start(n, problem);
+    for (int64_t tick = 0; is_busy() && tick < HB_BUS_MOST_TICKS(n); tick++)
+        library_tick();
+    return answer ? answer : bus_answer();
+}
+
+static int64_t plain_bus(int64_t n, const struct problem *problem)
+{
+    int64_t answer = plain_start(n, problem);
+    for (int64_t tick = 0; is_busy() && tick < HB_BUS_MOST_TICKS(n); tick++)
+        plain_tick();
+    return answer ? answer : bus_answer();
+}
+
+/* The buses of the definite and of the late problems right before the tick that ends their runs: the last column, and the search */
+static struct bus last_column[HB_MAX_ORDER + 1][PROBLEMS], search[HB_MAX_ORDER + 1][PROBLEMS];
+
+static void run_to_last(enum kind kind, int64_t n, int place, struct bus *last)
+{
+    plain_start(n, problem_of(kind, n, place));
+    while (is_busy()) {
+        *last = out.bus;
+        plain_tick();
+    }
+}
+
+static void draw_buses(void)
+{
+    for (int64_t n = 1; n <= HB_MAX_ORDER; n++) {
+        for (int place = 0; place < PROBLEMS; place++) {
+            run_to_last(DEFINITE, n, place, &last_column[n][place]);
+            if (n > 1)
+                run_to_last(LATE, n, place, &search[n][place]);
+        }
+    }
+}
+
+/* Each of these is one tick. Its bus is copied first, which is timed with it. */
+static int64_t library_last_column(int64_t n, const struct problem *problem)
+{
+    out.bus = last_column[n][problem->place];
+    return library_tick();
+}
+
+static int64_t plain_last_column(int64_t n, const struct problem *problem)
+{
+    out.bus = last_column[n][problem->place];
+    return plain_tick();
+}
+
+static int64_t library_search(int64_t n, const struct problem *problem)
+{
+    out.bus = search[n][problem->place];
+    return library_tick();
+}
+
 /* The peers are the last two. */
 enum { LIBRARY, PLAIN, TUNED, LAPACK_SIDE, ARB_SIDE, SIDES };
 
 #define COMPARED_SIDES 3
 #define LEAST_ANSWER HB_UNDECIDED
-#define ANSWERS (HB_REFUSED_FALLING - LEAST_ANSWER + 1)
+#define ANSWERS (HB_REFUSED_BUSY - LEAST_ANSWER + 1)
 
 static const char *const side_names[SIDES] = {"library", "plain C", "tuned C", "dpotrf", "arb_mat_cho"};
 
@@ -437,8 +545,15 @@ enum {
     READ_SUMS,
     WRITE_SUMMARY,
     READ_SUMMARY,
+    BUS_DEFINITE,
+    BUS_NOT,
+    BUS_LATE,
+    BUS_START,
+    BUS_COLUMN,
+    BUS_SEARCH,
     FACTORING_FLOATING,
     JUDGE_PAIRS,
+    JUDGE_LATE,
     APART_FACTOR_TEST,
     APART_VECTOR_TEST,
     APART_JUDGE,
@@ -470,8 +585,15 @@ static struct act acts[ACTS] = {
     [READ_SUMS] = {"reading the sums", DEFINITE, 1, HB_MAX_ORDER, {library_read_sums, plain_read_sums_side}},
     [WRITE_SUMMARY] = {"writing a summary", DEFINITE, 1, HB_MAX_ORDER, {library_write_summary, plain_write_summary_side, tuned_write_summary_side}},
     [READ_SUMMARY] = {"reading a summary", DEFINITE, 1, HB_MAX_ORDER, {library_read_summary, plain_read_summary_side, tuned_read_summary_side}},
+    [BUS_DEFINITE] = {"bus, a start and n ticks, definite", DEFINITE, 1, HB_MAX_ORDER, {library_bus, plain_bus}},
+    [BUS_NOT] = {"bus, a start and ticks, not definite", NOT_DEFINITE, 1, HB_MAX_ORDER, {library_bus, plain_bus}},
+    [BUS_LATE] = {"bus, a start and n + 1 ticks, undecided (none is of order 1)", LATE, 2, HB_MAX_ORDER, {library_bus, plain_bus}},
+    [BUS_START] = {"bus, the start alone", DEFINITE, 1, HB_MAX_ORDER, {library_start, plain_start}},
+    [BUS_COLUMN] = {"bus, the tick of the last column alone", DEFINITE, 1, HB_MAX_ORDER, {library_last_column, plain_last_column}},
+    [BUS_SEARCH] = {"bus, the tick of the search alone", LATE, 2, HB_MAX_ORDER, {library_search}},
     [FACTORING_FLOATING] = {"factoring, where plain C has the processor's floating-point root", DEFINITE, 1, HB_MAX_ORDER, {library_factor, plain_floating_side}},
     [JUDGE_PAIRS] = {"judge, undecided, where plain C takes each pair of entries once", UNDECIDED, 2, HB_MAX_ORDER, {library_judge, plain_pairs_judge_side}},
+    [JUDGE_LATE] = {"judge, undecided, factoring stops in the last column", LATE, 2, HB_MAX_ORDER, {library_judge, NULL, tuned_judge_side}},
     [APART_FACTOR_TEST] = {"factor test, halves rounded apart", LOPSIDED, 1, HB_MAX_ORDER,
                            {library_test_factor, plain_test_factor_side, tuned_test_factor_side}},
     [APART_VECTOR_TEST] = {"vector test, halves rounded apart", LOPSIDED, 1, HB_MAX_ORDER,
@@ -549,11 +671,96 @@ static const struct {
     {READ_SUMS, "reading the sums"},
     {WRITE_SUMMARY, "writing a summary"},
     {READ_SUMMARY, "reading a summary"},
+    {BUS_DEFINITE, "bus, whole runs"},
     {FACTORING_FLOATING, "factoring, floating root"},
     {JUDGE_PAIRS, "judge, pairs once"},
 };
 
 #define ACTS_COMPARED ((int)(sizeof compared / sizeof compared[0]))
+
+/* A number from 0 to most (xorshift) */
+static uint64_t pick(uint64_t most)
+{
+    static uint64_t state = 88172645463325252u;
+    state ^= state << 13;
+    state ^= state >> 7;
+    state ^= state << 17;
+    return state % (most + 1);
+}
+
+/* How often each access to a bus was compared */
+enum { BUS_WRITES, BUS_STARTS, BUS_TICKS, BUS_READS, BUS_LINES, ACCESSES };
+
+static long accesses[ACCESSES];
+
+/* The same access to the library's bus and to that of plain C. Their answers, and what was read, are equal. */
+static int same_access(int64_t n, const struct problem *problem, struct bus *mine, struct bus *plain, int access)
+{
+    size_t size = HB_TABLE_BYTES(n), block = sizeof mine->block - (pick(50) == 0), run = PLAIN_RUN_NUMBERS - (pick(50) == 0);
+    size_t table = pick(20) == 0 ? size - HB_NUMBER_BYTES : size;
+    int64_t address = access == BUS_STARTS ? HB_BUS_COMMAND : (int64_t)pick(40) - 4;
+    uint8_t value = access == BUS_STARTS ? HB_BUS_START : (uint8_t)pick(pick(1) ? 7 : 255), read[2] = {7, 7};
+    if (access == BUS_WRITES && pick(1))
+        address = HB_BUS_MASK + (int64_t)pick(2);
+    if (address == HB_BUS_ORDER && pick(9))
+        value = (uint8_t)n;
+    accesses[access]++;
+    switch (access) {
+    case BUS_TICKS:
+        return hb_bus_tick(mine->block, block, (uint8_t *)mine->run, HB_NUMBER_BYTES * run) ==
+               plain_bus_tick(plain->block, block, plain->run, run);
+    case BUS_READS:
+        return hb_bus_read(mine->block, block, address, &read[0], 1) == plain_bus_read(plain->block, block, address, &read[1], 1) &&
+               read[0] == read[1];
+    case BUS_LINES:
+        return hb_bus_line(mine->block, block) == plain_bus_line(plain->block, block);
+    default:
+        return hb_bus_write(mine->block, block, (uint8_t *)mine->run, HB_NUMBER_BYTES * run, address, value, bytes(problem->low), table,
+                            bytes(problem->high), size) ==
+               plain_bus_write(plain->block, block, plain->run, run, address, value, problem->low, table / HB_NUMBER_BYTES, problem->high,
+                               size / HB_NUMBER_BYTES);
+    }
+}
+
+/* Changes a byte of the block, or a number of the run: by 1, to one that is near the end of a range, or to any. */
+static void damage(struct bus *bus)
+{
+    static const int ends[] = {0, 3, 15, 20, 26, 52, 55, 62};
+    int64_t end = (int64_t)1 << ends[pick(7)], *number = &bus->run[pick(pick(1) ? 2 : PLAIN_RUN_NUMBERS - 1)];
+    switch (pick(4)) {
+    case 0:
+        bus->block[pick(HB_BLOCK_BYTES - 1)] = (uint8_t)pick(255);
+        break;
+    case 1:
+        *number = (int64_t)pick(UINT64_MAX - 1);
+        break;
+    case 2:
+        *number = (pick(1) ? end : -end) + (int64_t)pick(2) - 1;
+        break;
+    default:
+        *number = (int64_t)((uint64_t)*number + pick(2) - 1);
+    }
+}
+
+/* Ends the program where the two buses differ after one of some accesses: a start and ticks, with others between, and damaged ones too. */
+static void compare_bus(int64_t n, const struct problem *problem)
+{
+    static const int order[] = {BUS_WRITES, BUS_STARTS, BUS_TICKS, BUS_TICKS, BUS_TICKS, BUS_READS, BUS_LINES};
+    struct bus buses[2] = {{{0}, {0}}, {{0}, {0}}};
+    int damaged = pick(3) == 0;
+    buses[0].block[HB_BUS_ORDER] = buses[1].block[HB_BUS_ORDER] = (uint8_t)n;
+    for (int step = 0; step < 20; step++) {
+        int access = step == 0 ? BUS_STARTS : order[pick(6)];
+        if (damaged && pick(3) == 0) {
+            damage(&buses[0]);
+            buses[1] = buses[0];
+        }
+        if (!same_access(n, problem, &buses[0], &buses[1], access) || memcmp(&buses[0], &buses[1], sizeof buses[0]) != 0) {
+            printf("bus, order %d: the library and plain C differ after access %d, of kind %d\n", (int)n, step, access);
+            exit(1);
+        }
+    }
+}
 
 /* Compares the sides of each act on a problem, and ends the program where one has written to what it was lent for reading. */
 static void compare_acts(int64_t n, const struct problem *problem)
@@ -564,6 +771,7 @@ static void compare_acts(int64_t n, const struct problem *problem)
     memcpy(&pool_before, problem->pool, sizeof pool_before);
     for (int a = 0; a < ACTS_COMPARED; a++)
         compare(&acts[compared[a].act], n, problem);
+    compare_bus(n, problem);
     if (memcmp(&before, problem, sizeof before) != 0 || memcmp(&pool_before, problem->pool, sizeof pool_before) != 0) {
         printf("order %d: a problem is written to\n", (int)n);
         exit(1);
@@ -618,7 +826,7 @@ static void compare_all(void)
         }
     }
     for (int64_t n = -1; n <= HB_MAX_ORDER + 1; n++)
-        for (int a = FACTOR_TEST; a <= READ_SUMMARY; a++)
+        for (int a = FACTOR_TEST; a <= BUS_DEFINITE; a++)
             compare(&acts[a], n, problem_of(DEFINITE, 1, 0));
     own_sums = 0;
     printf("the library, plain C and tuned C gave the same answers and buffers, on %d problems of each order:\n", count);
@@ -629,6 +837,8 @@ static void compare_all(void)
                 printf("  %d: %d times", answer + LEAST_ANSWER, acts[compared[a].act].answers[answer]);
         printf("\n");
     }
+    printf("%-24s  %ld writes, %ld starts, %ld ticks, %ld reads, %ld looks at the line\n", "bus, access by access", accesses[BUS_WRITES],
+           accesses[BUS_STARTS], accesses[BUS_TICKS], accesses[BUS_READS], accesses[BUS_LINES]);
 }
 
 /* Goes through some of the problems, each as often. */
@@ -894,6 +1104,14 @@ static void print_longest(void)
            one_by_one / time_of(act, HB_MAX_ORDER, LIBRARY), one_by_one / time_of(act, HB_MAX_ORDER, TUNED));
 }
 
+/* The bus at the greatest order: its longest tick is the search. */
+static void print_bus(void)
+{
+    printf("\nthe bus, order %d, nanoseconds: a start %.0f, the tick of the last column %.0f, that of the search, the longest, %.0f\n",
+           HB_MAX_ORDER, time_of(&acts[BUS_START], HB_MAX_ORDER, LIBRARY), time_of(&acts[BUS_COLUMN], HB_MAX_ORDER, LIBRARY),
+           time_of(&acts[BUS_SEARCH], HB_MAX_ORDER, LIBRARY));
+}
+
 /* The greatest part of plain C's time that the library may take at the act's last order */
 static const struct {
     int act;
@@ -903,7 +1121,32 @@ static const struct {
     {BRACKET_DEFINITE, 0.2},  {BRACKET_NOT, 0.2},  {BRACKET_UNDECIDED, 0.2}, {GATHER, 1.5},        {READ_SUMS, 1.5},
     {WRITE_SUMMARY, 1.5},     {READ_SUMMARY, 1.5}, {APART_FACTOR_TEST, 1.2}, {APART_JUDGE, 1.1},   {APART_BOX, 1.2},
     {APART_BRACKET, 0.2},     {APART_GATHER, 1.5}, {POOL, 1.5},              {POOL_HALVED, 1.5},   {APART_POOL, 1.5},
+    {BUS_DEFINITE, 1.2},      {BUS_LATE, 0.01},
 };
+
+/* How often the time of the judge an act of the bus may take on the same problems, both of the library, at the greatest order */
+static const struct {
+    int act;
+    int judge;
+    double most;
+} bus_limits[] = {
+    {BUS_LATE, JUDGE_LATE, 1.5},
+    {BUS_DEFINITE, JUDGE_DEFINITE, 2},
+};
+
+/* Prints whether these are kept. */
+static int keeps_bus_limits(void)
+{
+    int kept = 1;
+    printf("\nlimits at the greatest order, of the library's time on the bus beside its judge's\n");
+    for (size_t k = 0; k < sizeof bus_limits / sizeof bus_limits[0]; k++) {
+        double most = bus_limits[k].most, time = time_of(&acts[bus_limits[k].act], HB_MAX_ORDER, LIBRARY);
+        double ratio = time / time_of(&acts[bus_limits[k].judge], HB_MAX_ORDER, LIBRARY);
+        printf("%-60s %.4f, at most %.2f: %s\n", acts[bus_limits[k].act].name, ratio, most, ratio <= most ? "kept" : "BROKEN");
+        kept = kept && ratio <= most;
+    }
+    return kept;
+}
 
 /* Prints whether the limits are kept. What has no side of the library is not measured. */
 static int keeps_limits(void)
@@ -914,10 +1157,10 @@ static int keeps_limits(void)
         const struct act *act = &acts[limits[k].act];
         double most = limits[k].most, ratio = time_of(act, act->last_order, LIBRARY) / time_of(act, act->last_order, PLAIN);
         if (!act->sides[LIBRARY]) {
-            printf("%-44s not measured: the bench's own archive is absent\n", act->name);
+            printf("%-60s not measured: the bench's own archive is absent\n", act->name);
             continue;
         }
-        printf("%-44s %.4f, at most %.2f: %s\n", act->name, ratio, most, ratio <= most ? "kept" : "BROKEN");
+        printf("%-60s %.4f, at most %.2f: %s\n", act->name, ratio, most, ratio <= most ? "kept" : "BROKEN");
         kept = kept && ratio <= most;
     }
     return kept;
@@ -966,6 +1209,7 @@ int main(int count, char **arguments)
     const char *mode = count > 1 ? arguments[1] : "time";
     take_out();
     draw_problems();
+    draw_buses();
     take_kind(THIN);
     if (strcmp(mode, "count") == 0) {
         count_all();
@@ -985,6 +1229,7 @@ int main(int count, char **arguments)
     for (int a = 0; a < CHOLESKY; a++)
         print_act(&acts[a], PLAIN, COMPARED_SIDES);
     print_longest();
+    print_bus();
     print_peers();
-    return keeps_limits() ? 0 : 1;
+    return keeps_limits() & keeps_bus_limits() ? 0 : 1;
 }

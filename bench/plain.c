@@ -17,6 +17,8 @@
 #define SAMPLE_ORDER 4
 #define SAMPLE_ENTRIES (SAMPLE_ORDER * SAMPLE_ORDER)
 #define GREATEST_POOL 64
+#define NUMERATOR_RANGE ((int64_t)1 << 52)
+#define STOPPED_RANGE ((int64_t)1 << 55)
 
 /* a / d rounded down toward minus infinity; d is positive */
 static int64_t floor_quotient(int64_t a, int64_t d)
@@ -1097,4 +1099,176 @@ int64_t plain_read_summary(const uint8_t *file, size_t file_size, int64_t *order
     *limit = held.limit;
     memcpy(centre, held.centre, sizeof held.centre);
     return 0;
+}
+
+/* The places of a run area, in numbers: the order, the next column, 0 or a stop's rows and 1, both tables, and the columns */
+enum { RUN_ORDER, RUN_COLUMN, RUN_STOP, RUN_LOW, RUN_HIGH = RUN_LOW + MAX_ENTRIES, RUN_COLUMNS = RUN_HIGH + MAX_ENTRIES };
+
+/* Which bits of each register a write moves. Those of the flags are cleared by ones. The reset value of each is 0. */
+static const uint8_t writable[PLAIN_BLOCK_BYTES] = {[HB_BUS_COMMAND] = 255, [HB_BUS_MASK] = 7, [HB_BUS_FLAGS] = 7, [HB_BUS_ORDER] = 255};
+
+/* A bit of the status rises, and where it was not up its flag is set. */
+static void raise(uint8_t *block, uint8_t bit)
+{
+    if (!(block[HB_BUS_STATUS] & bit))
+        block[HB_BUS_FLAGS] |= bit;
+    block[HB_BUS_STATUS] |= bit;
+}
+
+/* Column j of a run, from its top on */
+static int64_t *run_column(int64_t *run, int64_t j)
+{
+    return run + RUN_COLUMNS + PLAIN_MAX_ORDER * j;
+}
+
+/* A run that has begun: the order, the mended tables, and H down to its diagonal */
+static void begin_run(int64_t *run, int64_t n, const struct mended *mended)
+{
+    memset(run, 0, PLAIN_RUN_NUMBERS * sizeof *run);
+    run[RUN_ORDER] = n;
+    memcpy(run + RUN_LOW, mended->low, (size_t)(n * n) * sizeof *run);
+    memcpy(run + RUN_HIGH, mended->high, (size_t)(n * n) * sizeof *run);
+    for (int64_t j = 0; j < n; j++) {
+        for (int64_t i = 0; i < j; i++)
+            run_column(run, j)[i] = HALF_SCALE * (mended->low[i * n + j] + mended->high[i * n + j]);
+        run_column(run, j)[j] = diagonal(n, mended->low, mended->high, j);
+    }
+}
+
+/* Checks 1 to 5 of a start: 0, and the mended tables; or the number of the refusal */
+static int64_t check_start(int64_t n, const int64_t *low, size_t low_count, const int64_t *high, size_t high_count, struct mended *mended)
+{
+    if (n < 1 || n > PLAIN_MAX_ORDER)
+        return 1;
+    if (low_count != (size_t)(n * n) || high_count != (size_t)(n * n))
+        return 2;
+    return check_tables(n, low, high, mended);
+}
+
+static int64_t start(uint8_t *block, int64_t *run, const int64_t *low, size_t low_count, const int64_t *high, size_t high_count)
+{
+    struct mended mended;
+    if (block[HB_BUS_STATUS] & HB_BUS_BUSY)
+        return 20;
+    int64_t n = block[HB_BUS_ORDER], refusal = check_start(n, low, low_count, high, high_count, &mended);
+    block[HB_BUS_STATUS] = block[HB_BUS_VERDICT] = 0;
+    block[HB_BUS_REFUSAL] = (uint8_t)refusal;
+    raise(block, refusal ? HB_BUS_REFUSED : HB_BUS_BUSY);
+    if (refusal)
+        memset(run, 0, PLAIN_RUN_NUMBERS * sizeof *run);
+    else
+        begin_run(run, n, &mended);
+    return 0;
+}
+
+int64_t plain_bus_write(uint8_t *block, size_t block_size, int64_t *run, size_t run_count, int64_t address, uint8_t value,
+                        const int64_t *low, size_t low_count, const int64_t *high, size_t high_count)
+{
+    if (block_size != PLAIN_BLOCK_BYTES || run_count != PLAIN_RUN_NUMBERS)
+        return 2;
+    if (address < 0 || address >= PLAIN_BLOCK_BYTES)
+        return 0;
+    if (address == HB_BUS_COMMAND && value == HB_BUS_START)
+        return start(block, run, low, low_count, high, high_count);
+    if (address == HB_BUS_COMMAND && value == HB_BUS_RESET) {
+        memset(block, 0, PLAIN_BLOCK_BYTES);
+        memset(run, 0, PLAIN_RUN_NUMBERS * sizeof *run);
+    } else if (address == HB_BUS_FLAGS) {
+        block[address] &= (uint8_t)~(value & writable[address]);
+    } else if (address != HB_BUS_COMMAND) {
+        block[address] = (uint8_t)((block[address] & ~writable[address]) | (value & writable[address]));
+    }
+    return 0;
+}
+
+/* Whether the numbers that the next tick takes are in their ranges. Where it is the search, its tables are checked, and mended. */
+static int has_run(int64_t *run, struct mended *mended)
+{
+    int64_t n = run[RUN_ORDER], j = run[RUN_COLUMN], stop = run[RUN_STOP];
+    if (n < 1 || n > PLAIN_MAX_ORDER || j < 0 || j >= n || stop < 0 || stop > j + 1)
+        return 0;
+    for (int64_t k = 0; k < j; k++)
+        if (!in_range(run_column(run, k), k + 1, FACTOR_RANGE) || run_column(run, k)[k] < 1)
+            return 0;
+    if (stop == 0)
+        return in_range(run_column(run, j), j, NUMERATOR_RANGE) && run_column(run, j)[j] <= NUMERATOR_RANGE;
+    return in_range(run_column(run, j), stop - 1, STOPPED_RANGE) && check_tables(n, run + RUN_LOW, run + RUN_HIGH, mended) == 0;
+}
+
+/* Works out column j in its place. -1 where it is whole, or how many of its rows were worked out before it stopped */
+static int64_t work_column(int64_t *run, int64_t j)
+{
+    int64_t *column = run_column(run, j), rest = column[j];
+    if (rest < 1)
+        return 0;
+    for (int64_t i = 0; i < j; i++) {
+        const int64_t *before = run_column(run, i);
+        for (int64_t k = 0; k < i; k++)
+            column[i] -= before[k] * column[k];
+        column[i] = floor_quotient(column[i], before[i]);
+        if (!within(column[i], FACTOR_RANGE))
+            return i + 1;
+        rest -= column[i] * column[i];
+        if (rest < 1)
+            return i + 1;
+    }
+    column[j] = whole_root(rest);
+    return -1;
+}
+
+/* Looks for a listed vector, by the steps of the judge: the number of the verdict */
+static uint8_t search(int64_t *run, const struct mended *mended)
+{
+    int64_t n = run[RUN_ORDER], table[MAX_ENTRIES] = {0}, x[PLAIN_MAX_ORDER];
+    struct stop stop = {run[RUN_COLUMN], run[RUN_STOP] - 1};
+    for (int64_t j = 0; j <= stop.column; j++)
+        for (int64_t i = 0; i <= j; i++)
+            table[i * n + j] = run_column(run, j)[i];
+    int shown = tried_by(whole_form, n, mended->low, mended->high, x);
+    for (int64_t s = 1; !shown && s <= 64; s *= 64)
+        shown = solve(n, table, &stop, s, x) && whole_form(n, mended->low, mended->high, x) <= 0;
+    return shown ? HB_BUS_NOT_DEFINITE : HB_BUS_UNDECIDED;
+}
+
+/* The end of a run, with its verdict */
+static void finish(uint8_t *block, int64_t *run, uint8_t verdict)
+{
+    block[HB_BUS_VERDICT] = verdict;
+    block[HB_BUS_STATUS] &= (uint8_t)~HB_BUS_BUSY;
+    raise(block, HB_BUS_DONE);
+    memset(run, 0, PLAIN_RUN_NUMBERS * sizeof *run);
+}
+
+int64_t plain_bus_tick(uint8_t *block, size_t block_size, int64_t *run, size_t run_count)
+{
+    struct mended mended;
+    if (block_size != PLAIN_BLOCK_BYTES || run_count != PLAIN_RUN_NUMBERS)
+        return 2;
+    if (!(block[HB_BUS_STATUS] & HB_BUS_BUSY) || !has_run(run, &mended))
+        return 0;
+    if (run[RUN_STOP] > 0) {
+        finish(block, run, search(run, &mended));
+        return 0;
+    }
+    int64_t rows = work_column(run, run[RUN_COLUMN]);
+    if (rows >= 0)
+        run[RUN_STOP] = rows + 1;
+    else if (++run[RUN_COLUMN] == run[RUN_ORDER])
+        finish(block, run, HB_BUS_DEFINITE);
+    return 0;
+}
+
+int64_t plain_bus_read(const uint8_t *block, size_t block_size, int64_t address, uint8_t *value, size_t value_size)
+{
+    if (block_size != PLAIN_BLOCK_BYTES || value_size != 1)
+        return 2;
+    *value = address >= HB_BUS_STATUS && address <= HB_BUS_ORDER ? block[address] : 0;
+    return 0;
+}
+
+int64_t plain_bus_line(const uint8_t *block, size_t block_size)
+{
+    if (block_size != PLAIN_BLOCK_BYTES)
+        return 2;
+    return block[HB_BUS_FLAGS] & block[HB_BUS_MASK] ? -1 : 0;
 }

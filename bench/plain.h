@@ -11,6 +11,8 @@
 #include <stdint.h>
 
 #define PLAIN_MAX_ORDER 8
+#define PLAIN_BLOCK_BYTES 32
+#define PLAIN_RUN_NUMBERS (3 + 3 * PLAIN_MAX_ORDER * PLAIN_MAX_ORDER)
 
 /*
  * Factors the bounds, and writes the factor. 0 where factoring ends, -1 where it stops. It makes no check and mends nothing: the order is a
@@ -99,5 +101,16 @@ int64_t plain_write_summary(int64_t n, const int64_t *low, size_t low_count, con
 int64_t plain_read_summary(const uint8_t *file, size_t file_size, int64_t *order, size_t order_count, int64_t *low, size_t low_count,
                            int64_t *high, size_t high_count, int64_t *linear_low, size_t linear_low_count, int64_t *linear_high,
                            size_t linear_high_count, int64_t *limit, size_t limit_count, int64_t *centre, size_t centre_count);
+
+/*
+ * The bus, register by register. A write: 0 where it is taken, 20 of a start while busy. A tick: 0, and the next column is worked out in
+ * its place in the run area, or the vectors are searched as plain_judge does. A read: 0, and the value is written. The line: 0 low, -1
+ * raised. Each is 2 where a size is another. Block and value are bytes, and the run area numbers.
+ */
+int64_t plain_bus_write(uint8_t *block, size_t block_size, int64_t *run, size_t run_count, int64_t address, uint8_t value,
+                        const int64_t *low, size_t low_count, const int64_t *high, size_t high_count);
+int64_t plain_bus_tick(uint8_t *block, size_t block_size, int64_t *run, size_t run_count);
+int64_t plain_bus_read(const uint8_t *block, size_t block_size, int64_t address, uint8_t *value, size_t value_size);
+int64_t plain_bus_line(const uint8_t *block, size_t block_size);
 
 #endif

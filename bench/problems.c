@@ -180,19 +180,32 @@ static void draw_not_definite(int64_t n, int place)
     draw_file(n, problem);
 }
 
-/* B'B for an upper triangular B with 1 on the diagonal, some rows of which are multiplied: in whole numbers Bx is 0 for x = 0 alone. */
-static void draw_undecided(int64_t n, int place)
+/* Whether the rows and columns but the last can be factored. Bounds are thin. */
+static int stops_late(int64_t n, const struct problem *problem)
 {
-    struct problem *problem = &problems[UNDECIDED][n][place];
+    int64_t leading[MAX_ENTRIES], factor[MAX_ENTRIES];
+    for (int64_t i = 0; i < n - 1; i++)
+        memcpy(leading + i * (n - 1), problem->low + i * n, (size_t)(n - 1) * sizeof *leading);
+    return plain_factor(n - 1, leading, leading, factor) == 0;
+}
+
+/*
+ * B'B for an upper triangular B with 1 on the diagonal, some rows of which are multiplied: in whole numbers Bx is 0 for x = 0 alone. A late
+ * one stops in the last column: all rows but the last are multiplied, by more, and at greater orders other entries are small.
+ */
+static void draw_undecided(enum kind kind, int64_t n, int place)
+{
+    struct problem *problem = &problems[kind][n][place];
+    int64_t least = kind == LATE ? 20 : 1, multiplied = kind == LATE ? n - 1 : n - 2, size = kind == LATE && n > 4 ? 2 : 6;
     do {
         int64_t b[MAX_ENTRIES];
         for (int64_t i = 0; i < n; i++) {
-            int64_t multiple = i < n - 2 ? draw(1, 40) : 1;
+            int64_t multiple = i < multiplied ? draw(least, 40) : 1;
             for (int64_t j = 0; j < n; j++)
-                b[i * n + j] = j < i ? 0 : multiple * (i == j ? 1 : draw(-6, 6));
+                b[i * n + j] = j < i ? 0 : multiple * (i == j ? 1 : draw(-size, size));
         }
         set_product(n, problem, b, 0, 0, 0);
-    } while (verdict(n, problem) != HB_UNDECIDED);
+    } while ((kind == LATE && !stops_late(n, problem)) || verdict(n, problem) != HB_UNDECIDED);
     draw_terms(n, problem);
     draw_sample(problem);
     draw_file(n, problem);
@@ -280,7 +293,7 @@ void draw_problems(void)
             draw_definite(n, place);
             draw_not_definite(n, place);
             if (n > 1)
-                draw_undecided(n, place);
+                draw_undecided(UNDECIDED, n, place);
             make_thin(DEFINITE, THIN, n, place);
             make_thin(NOT_DEFINITE, SINGULAR, n, place);
             for (int kind = 0; kind < KINDS; kind++)
@@ -297,6 +310,9 @@ void draw_problems(void)
             for (int place = 0; place < PROBLEMS; place++)
                 problems[kind][n][place].pool = &pools[kind == LOPSIDED ? APART : kind == NOT_DEFINITE ? HALVING : ROOMY][n][place % POOLS];
     }
+    for (int64_t n = 2; n <= HB_MAX_ORDER; n++)
+        for (int place = 0; place < PROBLEMS; place++)
+            draw_undecided(LATE, n, place);
 }
 
 /* Any entries of some size, greater ones on the diagonal, the bounds up to width apart, and now and then at the edge of the range */
@@ -457,7 +473,7 @@ static void draw_any_pool(int64_t n, const struct problem *problem)
 void draw_any(int64_t n, struct problem *problem)
 {
     int64_t kind = draw(0, KINDS + 1);
-    if (kind < KINDS && (n > 1 || kind != UNDECIDED)) {
+    if (kind < KINDS && (n > 1 || (kind != UNDECIDED && kind != LATE))) {
         *problem = problems[kind][n][draw(0, PROBLEMS - 1)];
         for (int64_t i = 0; i < n; i++)
             set_pair(n, problem, i, i, problem->low[i * n + i] + draw(-1, 1), draw(0, 1));

@@ -55,14 +55,14 @@ struct problem {
  * for one in eight; a box is given. Of those that are not definite, three in four have a tried vector, anywhere in the list, and one in four
  * is made for a solved one. Undecided ones are thin, and B'B for a whole-number B that is not singular: x'Mx >= 1 for all whole x but 0, so
  * that all vectors are looked at. There is none of order 1. The next two kinds are thin: the low tables of the definite ones, and those of
- * the ones that are not, which are singular. The last are the definite ones with the upper and the lower half of each table rounded apart:
- * of each pair one low is less, and one high more, by up to 2, in the tables and in the file. Mended, they are the definite ones. Those of
- * order 1 have no pair.
+ * the ones that are not, which are singular. Lopsided ones are the definite ones with the upper and the lower half of each table rounded
+ * apart: of each pair one low is less, and one high more, by up to 2, in the tables and in the file. Mended, they are the definite ones.
+ * Those of order 1 have no pair. Late ones are undecided ones whose factoring stops in the last column: on the bus they take most ticks.
  *
- * A pool has 64 problems, and is taken. The pools of the last kind are those of the definite ones, the halves of all tables rounded apart,
- * and leave the sums in their ranges; those of the problems that are not definite halve the sums again and again.
+ * A pool has 64 problems, and is taken. The pools of the lopsided ones are those of the definite ones, the halves of all tables rounded
+ * apart, and leave the sums in their ranges; those of the problems that are not definite halve the sums again and again.
  */
-enum kind { DEFINITE, NOT_DEFINITE, UNDECIDED, THIN, SINGULAR, LOPSIDED, KINDS };
+enum kind { DEFINITE, NOT_DEFINITE, UNDECIDED, THIN, SINGULAR, LOPSIDED, LATE, KINDS };
 
 /* Draws the problems of each kind and order. It comes first. */
 void draw_problems(void);

@@ -14,10 +14,10 @@
 #define SEED 20240229u
 #define STACK_BYTES 65536
 #define MAX_ENTRIES (HB_MAX_ORDER * HB_MAX_ORDER)
-#define ENTRIES 10
+#define ENTRIES 14
 #define KINDS 11
 #define LEAST_ANSWER (-2)
-#define ANSWERS (HB_REFUSED_FALLING - LEAST_ANSWER + 1)
+#define ANSWERS (HB_REFUSED_BUSY - LEAST_ANSWER + 1)
 
 /* What the calls are made with. The processor stores the low byte first, so that tables of int64_t are the library's bytes. */
 struct input {
@@ -55,6 +55,15 @@ static struct {
 static uint8_t file[HB_SUMMARY_BYTES(HB_MAX_ORDER)];
 static size_t file_size;
 static struct input held;
+
+/* A bus, and what is written to it or read from it where */
+static struct bus {
+    uint8_t block[HB_BLOCK_BYTES];
+    uint8_t run[HB_RUN_BYTES];
+    int64_t address;
+    uint8_t value;
+} bus;
+
 static int64_t answer;
 
 /* Where the frame of the call's caller is */
@@ -148,6 +157,31 @@ static void call_read_summary(void)
                              sizeof held.linear_high, (uint8_t *)&held.limit, sizeof held.limit, (uint8_t *)held.centre, sizeof held.centre);
 }
 
+static void call_bus_write(void)
+{
+    frame = __builtin_frame_address(0);
+    answer = hb_bus_write(bus.block, sizeof bus.block, bus.run, sizeof bus.run, bus.address, bus.value, bytes(input.low),
+                          HB_TABLE_BYTES(input.n), bytes(input.high), HB_TABLE_BYTES(input.n));
+}
+
+static void call_bus_tick(void)
+{
+    frame = __builtin_frame_address(0);
+    answer = hb_bus_tick(bus.block, sizeof bus.block, bus.run, sizeof bus.run);
+}
+
+static void call_bus_read(void)
+{
+    frame = __builtin_frame_address(0);
+    answer = hb_bus_read(bus.block, sizeof bus.block, bus.address, &bus.value, sizeof bus.value);
+}
+
+static void call_bus_line(void)
+{
+    frame = __builtin_frame_address(0);
+    answer = hb_bus_line(bus.block, sizeof bus.block);
+}
+
 /* An entry: its call, what the header says of its stack, the most that was measured at each order, and how often each answer was given. */
 struct entry {
     const char *name;
@@ -168,6 +202,10 @@ static struct entry entries[ENTRIES] = {
     {.name = "hb_read_sums", .call = call_read_sums, .allowed = HB_READ_SUMS_STACK},
     {.name = "hb_write_summary", .call = call_write_summary, .allowed = HB_WRITE_SUMMARY_STACK},
     {.name = "hb_read_summary", .call = call_read_summary, .allowed = HB_READ_SUMMARY_STACK},
+    {.name = "hb_bus_write", .call = call_bus_write, .allowed = HB_BUS_WRITE_STACK},
+    {.name = "hb_bus_tick", .call = call_bus_tick, .allowed = HB_BUS_TICK_STACK},
+    {.name = "hb_bus_read", .call = call_bus_read, .allowed = HB_BUS_READ_STACK},
+    {.name = "hb_bus_line", .call = call_bus_line, .allowed = HB_BUS_LINE_STACK},
 };
 
 /* The stack that a call takes, seen by one paint: from the caller's frame down to the last byte that is not as it was painted */
@@ -186,12 +224,14 @@ static long depth(void (*call)(void), int paint)
     return (long)(frame - (stack + place));
 }
 
-/* Two paints: what a call writes may be one of them. */
+/* Two paints: what a call writes may be one of them. Both calls begin with the same sums and the same bus. */
 static void measure(struct entry *entry)
 {
     static const int paints[] = {0xA5, 0x5A};
+    const struct bus before = bus;
     for (size_t k = 0; k < sizeof paints / sizeof paints[0]; k++) {
         sums = input;
+        bus = before;
         long taken = depth(entry->call, paints[k]);
         if (taken > entry->deepest[input.n])
             entry->deepest[input.n] = taken;
@@ -395,9 +435,42 @@ static void take_file(void)
         file_size = (size_t)draw(0, (int64_t)file_size);
 }
 
+/* The entry of a call */
+static struct entry *entry_of(void (*call)(void))
+{
+    struct entry *entry = entries;
+    while (entry->call != call)
+        entry++;
+    return entry;
+}
+
+/* An access to the bus, whose depth is measured */
+static void access_bus(void (*call)(void), int64_t address, uint8_t value)
+{
+    bus.address = address;
+    bus.value = value;
+    measure(entry_of(call));
+}
+
+/* A run on the bus: the order and a start are written, ticks come until it ends, and one more, now and then another start or a reset. */
+static void run_bus(void)
+{
+    access_bus(call_bus_write, HB_BUS_MASK, (uint8_t)draw(0, 7));
+    access_bus(call_bus_write, HB_BUS_ORDER, (uint8_t)(draw(0, 40) == 0 ? 9 : input.n));
+    access_bus(call_bus_write, HB_BUS_COMMAND, HB_BUS_START);
+    for (int64_t tick = 0; tick <= HB_BUS_MOST_TICKS(input.n); tick++) {
+        access_bus(call_bus_tick, 0, 0);
+        access_bus(call_bus_read, draw(-1, HB_BLOCK_BYTES), 0);
+        access_bus(call_bus_line, 0, 0);
+        if (draw(0, 40) == 0)
+            access_bus(call_bus_write, HB_BUS_COMMAND, (uint8_t)draw(HB_BUS_START, HB_BUS_RESET));
+    }
+    access_bus(call_bus_write, HB_BUS_FLAGS, 255);
+}
+
 /*
  * Many calls of each entry at one order. The judge's come first, since its factor and vector are offered to the tests, and the writer's come before those
- * that read its file.
+ * that read its file. The bus comes last: its accesses have an order of their own.
  */
 static void measure_order(int64_t n)
 {
@@ -413,13 +486,14 @@ static void measure_order(int64_t n)
         draw_sample();
         if (is_pooled())
             put_problem();
-        for (int k = 0; k < ENTRIES; k++) {
-            if (entries[k].call == call_read_summary)
+        for (struct entry *entry = entries; entry < entry_of(call_bus_write); entry++) {
+            if (entry->call == call_read_summary)
                 take_file();
-            measure(&entries[k]);
-            if (entries[k].call == call_judge)
+            measure(entry);
+            if (entry->call == call_judge)
                 offer();
         }
+        run_bus();
     }
 }
 

@@ -6,7 +6,7 @@
  *
  * A problem has an order n, from 1 to HB_MAX_ORDER, and two n by n tables, low and high: the bounds of a symmetric matrix, entry by entry.
  * Their upper and lower halves may differ: see HALVES ROUNDED APART. The problem of an ellipsoid has a low and a high end of n linear
- * terms, a limit and a centre of n entries besides.
+ * terms, a limit and a centre of n entries besides. The judge can be called, or driven step by step: see THE DISPLAY BUS.
  *
  * Running sums, which samples of rides are gathered into and problems are pooled into, have the same two tables and the same two ends of
  * linear terms, and a running limit in place of the limit. "Limit" is always that of an ellipsoid, and "running limit" always the sum;
@@ -123,6 +123,54 @@
  * - HB_AT_MOST with a v of 1 or more says neither that all these matrices are positive definite nor that one is not: hb_judge says
  *   HB_UNDECIDED of them, or HB_NOT_DEFINITE with a vector that has other entries too.
  *
+ * THE DISPLAY BUS
+ *
+ * The judge can be driven as a peripheral is, by registers, ticks and an interrupt line: a start takes the tables, each tick does a bounded
+ * part of the work, and nothing ever waits. A bus is two buffers of the caller's: a block of 32 registers, a byte each, HB_BLOCK_BYTES = 32
+ * bytes, and a run area, HB_RUN_BYTES = 1560 bytes, where the library keeps a judgement that is under way, its run. Both with all bytes 0
+ * are a bus that was reset: that is how one begins. A unit may have several.
+ *
+ *     address  register        what it holds                                      what a write to it does
+ *     0        HB_BUS_COMMAND  nothing: it reads as 0                             HB_BUS_START = 1 starts, HB_BUS_RESET = 2 resets
+ *     1        HB_BUS_STATUS   bits HB_BUS_BUSY, HB_BUS_DONE, HB_BUS_REFUSED      nothing
+ *     2        HB_BUS_REFUSAL  why the last start was refused, 1 to 5, or 0       nothing
+ *     3        HB_BUS_VERDICT  the verdict, 1 to 3, or 0 where there is none      nothing
+ *     4        HB_BUS_MASK     the interrupt mask, a bit for each of the status   bits 0 to 2 become those of the value
+ *     5        HB_BUS_FLAGS    the interrupt flags, a bit for each of the status  clears those of bits 0 to 2 that are one in the value
+ *     6        HB_BUS_ORDER    n of the next start                                it becomes the value
+ *     7 to 31  none            nothing: they read as 0                            nothing
+ *
+ * - Status. HB_BUS_BUSY = 1: a run is under way. HB_BUS_DONE = 2: it has ended, and the verdict is there. HB_BUS_REFUSED = 4: the last
+ *   start was refused, and HB_BUS_REFUSAL says why. After a reset none of them is up, and from the first start on exactly one.
+ * - Start. The value HB_BUS_START, written to HB_BUS_COMMAND, comes with the two tables. While busy it is answered by HB_REFUSED_BUSY, and
+ *   nothing moves: the run goes on. Otherwise status, refusal number and verdict become 0, and then the checks of hb_judge are made, 1 to
+ *   5, with n = HB_BUS_ORDER. Where one of them fails, HB_BUS_REFUSED rises, and HB_BUS_REFUSAL has its number: the write itself is
+ *   answered by HB_TAKEN. Where all pass, HB_BUS_BUSY rises, and the run area has n and the mended tables: the caller's tables are not
+ *   looked at again, and a write to HB_BUS_ORDER has no effect on the run.
+ * - Tick. Tick k after a start works out column k of the Cholesky factor. Where column n is done, tick n gives 'definite'. Where factoring
+ *   stops in column j, from 1 to n, tick j sees the stop, and tick j + 1 searches the vectors and gives 'not definite' or 'undecided'. So a
+ *   run ends after at most HB_BUS_MOST_TICKS(n) = n + 1 ticks. With the verdict, and not before, HB_BUS_BUSY goes down, HB_BUS_DONE rises,
+ *   and the run area becomes all zeros. A tick without a run does nothing, so that a timer may tick always.
+ * - Verdict. HB_BUS_DEFINITE = 1, HB_BUS_NOT_DEFINITE = 2 or HB_BUS_UNDECIDED = 3: what hb_judge says of the order and the tables as they
+ *   were at the start, and 1 - its answer as a number. It stands until the next start that is not answered by HB_REFUSED_BUSY, or reset.
+ *   Factor, vector and number over are not given: where they are wanted, hb_judge gives them.
+ * - Flags, mask and line. Where a bit of the status rises, from 0 to 1, the same bit of HB_BUS_FLAGS becomes one. There it stays until a
+ *   one is written to it, or a reset. A start that clears HB_BUS_REFUSED and is refused again raises it again. The line, hb_bus_line, is
+ *   raised exactly while flags and mask have a bit in common. Flags and mask are kept by a start. A handler reads the flags and writes back
+ *   what it has read: so it clears what it has seen, and nothing that rose since.
+ * - Reset. The value HB_BUS_RESET, written to HB_BUS_COMMAND, makes all bytes of block and run area 0, while busy too: the mask also.
+ *
+ * Registers 1 to 6 are the bytes 1 to 6 of the block, as they lie: what puts them on a wire may read them there. Leave it to the four
+ * functions to write block and run area. They take any bytes at all, with no harm: what of a run area is not one that a tick can go on
+ * with counts as no run. But what is said here of ticks and verdicts is said of runs that a start began.
+ *
+ * hb_bus_write and hb_bus_tick write to the bus, so nothing else may be called for the same bus meanwhile: where a timer's handler ticks,
+ * the main program calls with that interrupt off. Calls for different buses may run at once.
+ *
+ * Proved: of a start that is not refused, and whatever writes, ticks, reads and looks at the line come after it but a reset, that the bus
+ * is busy alone, with verdict and refusal number 0, until the tick that is said above, and done alone with it, with the verdict that
+ * hb_judge gives; and that the line is raised exactly while flags and mask have a bit in common, after any calls.
+ *
  * SUMMARY FILES
  *
  * A summary file holds one problem of an ellipsoid, centre included, in a form of its own: seven fields one after the other, each a tag of one byte, a
@@ -155,11 +203,12 @@
  * - The buffers of one call must not overlap: nothing is promised where they do. There are two exceptions, both of buffers that are only
  *   read, so const: low and high may be the same table, and linear_low and linear_high the same buffer; in hb_pool, which writes its sums,
  *   these are lows and highs, and linear_lows and linear_highs. hb_gather and hb_read_summary write all of them, and have no exception.
- * - A const buffer is only read. A buffer that is not const is written whole, or kept as it was: each function says when. A refused call writes
- *   nothing at all. Nothing is ever written outside of a buffer.
- * - No memory is allocated, nothing is kept between calls, no lock is held, and the archive has no variables. So the functions are reentrant: they may be
- *   called from several threads or interrupt handlers at once, if each has the stack for it, as long as no one else writes to a buffer, or reads one that
- *   is not const, during a call that has it.
+ * - A const buffer is only read. A buffer that is not const is written whole, or kept as it was: each function says when. Of block and run
+ *   area of a bus the functions say what changes in them. A refused call writes nothing at all. Nothing is ever written outside of a
+ *   buffer.
+ * - No memory is allocated, nothing is kept between calls but in the caller's block and run area, no lock is held, and the archive has no
+ *   variables. So the functions are reentrant: they may be called from several threads or interrupt handlers at once, if each has the stack
+ *   for it, as long as no one else writes to a buffer, or reads one that is not const, during a call that has it.
  * - Nothing outside of the archive is called but memcpy and memset, of the C library or your own.
  * - No floating point is used, but for the sample of hb_gather: its five numbers are compared and multiplied by 16, as floats of 32 bits. Nothing is
  *   lost in that, whatever the rounding mode is, if the floating-point unit is otherwise as at a program's start: subnormal numbers are kept (on
@@ -188,10 +237,11 @@ extern "C" {
  * 0.4 answers by any number but 5 is answered as before. Since 0.6 hb_judge and hb_test_factor have two parameters more, the buffer over and
  * its length, which again a linker does not see; all that they answered and wrote before they answer and write as they did. Since 0.7 there
  * is hb_stiffness, and nothing else is changed. Since 0.8 there is hb_pool, and hb_gather halves the sums and takes the sample where it
- * answered HB_REFUSED_FULL before; all else that it answered and wrote it answers and writes as it did.
+ * answered HB_REFUSED_FULL before; all else that it answered and wrote it answers and writes as it did. Since 0.9 there are hb_bus_write,
+ * hb_bus_tick, hb_bus_read and hb_bus_line, and nothing else is changed.
  */
 #define HB_VERSION_MAJOR 0
-#define HB_VERSION_MINOR 8
+#define HB_VERSION_MINOR 9
 #define HB_VERSION_PATCH 0
 #define HB_VERSION_STRING HB_VERSION_JOINED(HB_VERSION_MAJOR, HB_VERSION_MINOR, HB_VERSION_PATCH)
 #define HB_VERSION_JOINED(major, minor, patch) HB_VERSION_QUOTED(major) "." HB_VERSION_QUOTED(minor) "." HB_VERSION_QUOTED(patch)
@@ -226,6 +276,15 @@ extern "C" {
 #define HB_SUMMARY_BYTES(n) ((size_t)30 + (size_t)8 * (size_t)(n) * (size_t)(n) + (size_t)24 * (size_t)(n))
 
 /*
+ * Bytes of a bus: of its block of registers, of its run area, which has three numbers and three tables of the greatest order, and of the
+ * value of a register that is read. The most ticks from a start of order n to its verdict.
+ */
+#define HB_BLOCK_BYTES 32
+#define HB_RUN_BYTES (HB_NUMBER_BYTES * (3 + 3 * HB_MAX_ORDER * HB_MAX_ORDER))
+#define HB_VALUE_BYTES 1
+#define HB_BUS_MOST_TICKS(n) ((n) + 1)
+
+/*
  * The greatest magnitude of an entry of low and high, 2^20, of a factor, 2^26, of a vector, 2^15, of a linear term, 2^36, of a limit and of a running
  * limit, 2^54, of an entry of a centre, 2^12, and of a sample's number, 8. Both ends of a range belong to it. An allowance is from 0 to 2^40.
  */
@@ -240,7 +299,7 @@ extern "C" {
 
 /*
  * The stack that a call needs, in bytes, at any order, its arguments and return address included. Measured and not proved: bench/stack
- * painted the stack below 2000 calls of each function at each order, and what was overwritten is rounded up here by three tenths or more
+ * painted the stack below 2000 calls or more of each function at each order, and what was overwritten is rounded up by three tenths or more
  * (docs/FIRMWARE.md has the figures). That is the archive which rattle-kit-5b compiles with LLVM 22 for x86-64, with memcpy and memset of
  * glibc 2.36: with any other compiler or processor, measure again. hb_gather takes order 4 alone, so its depth is that of its calls of
  * order 4. What an interrupt puts on the same stack comes on top.
@@ -255,12 +314,48 @@ extern "C" {
 #define HB_READ_SUMS_STACK 4096
 #define HB_WRITE_SUMMARY_STACK 8192
 #define HB_READ_SUMMARY_STACK 8192
+#define HB_BUS_WRITE_STACK 4096
+#define HB_BUS_TICK_STACK 8192
+#define HB_BUS_READ_STACK 256
+#define HB_BUS_LINE_STACK 256
+
+/* The registers of a bus, by address. Addresses 7 to 31 have none. */
+enum {
+    HB_BUS_COMMAND = 0,
+    HB_BUS_STATUS = 1,
+    HB_BUS_REFUSAL = 2,
+    HB_BUS_VERDICT = 3,
+    HB_BUS_MASK = 4,
+    HB_BUS_FLAGS = 5,
+    HB_BUS_ORDER = 6
+};
+
+/* The commands: values that are written to HB_BUS_COMMAND. Any other value does nothing there. */
+enum {
+    HB_BUS_START = 1,
+    HB_BUS_RESET = 2
+};
+
+/* The bits of HB_BUS_STATUS, and of HB_BUS_MASK and HB_BUS_FLAGS: bit 0, bit 1 and bit 2 */
+enum {
+    HB_BUS_BUSY = 1,
+    HB_BUS_DONE = 2,
+    HB_BUS_REFUSED = 4
+};
+
+/* The verdicts: what HB_BUS_VERDICT holds. But for the first, each is 1 - the answer of hb_judge. */
+enum {
+    HB_BUS_NO_VERDICT = 0,
+    HB_BUS_DEFINITE = 1,
+    HB_BUS_NOT_DEFINITE = 2,
+    HB_BUS_UNDECIDED = 3
+};
 
 /*
  * What a function returns: an answer, which is 0 or less, or a refusal, which is 1 or more. The checks are made in the order in which the
  * function lists its refusals, each over the whole input before the next, and the number of the first that fails is returned. That order is
  * rising, but 16 stands between 5 and 8, and 17 before all others. 10 to 15 and 19 refuse a summary file, and are returned by hb_read_summary alone,
- * whose order is its own: its comment has it.
+ * whose order is its own: its comment has it. 20 is returned by hb_bus_write alone.
  */
 enum {
     HB_UNDECIDED = -2,
@@ -283,6 +378,13 @@ enum {
 
     HB_WRITTEN = 0,
 
+    HB_TICKED = 0,
+
+    HB_READ = 0,
+
+    HB_LINE_RAISED = -1,
+    HB_LINE_LOW = 0,
+
     HB_REFUSED_ORDER = 1,     /* "order": n, or in hb_pool an order of the list, is not 1 to 8 */
     HB_REFUSED_LENGTH = 2,    /* "length": a buffer has not exactly the size, or in hb_gather and hb_pool the order, that is asked for */
     HB_REFUSED_RANGE = 3,     /* "range": an entry of low or high, a linear term, a limit, running limit, centre entry or allowance is beyond its range */
@@ -301,7 +403,8 @@ enum {
     HB_REFUSED_REVERSED = 16, /* "reversed": of an ellipsoid, a file, sums or a pool, a low linear term is above its high one */
     HB_REFUSED_SAMPLE = 17,   /* "sample": a number of a sample is infinite, not a number, or beyond +-8 */
     HB_REFUSED_FULL = 18,     /* "full": of a pool, a sum would be beyond its range though all sums were halved */
-    HB_REFUSED_FALLING = 19   /* "falling": of a file, a tag below the one before it */
+    HB_REFUSED_FALLING = 19,  /* "falling": of a file, a tag below the one before it */
+    HB_REFUSED_BUSY = 20      /* "busy": of a bus, a start while a run is under way */
 };
 
 /*
@@ -309,11 +412,11 @@ enum {
  *
  *     static const char *const words[] = HB_REFUSAL_WORDS;
  *
- * words[HB_REFUSED_ORDER] is "order", and so on to words[HB_REFUSED_FALLING], "falling". words[0] is empty.
+ * words[HB_REFUSED_ORDER] is "order", and so on to words[HB_REFUSED_BUSY], "busy". words[0] is empty.
  */
 #define HB_REFUSAL_WORDS \
     {"", "order", "length", "range", "crossed", "lopsided", "factor", "vector", "flat", "far", "cut", "tag", "again", "absent", "size", \
-     "long", "reversed", "sample", "full", "falling"}
+     "long", "reversed", "sample", "full", "falling", "busy"}
 
 /*
  * hb_load_number: the number in 8 bytes, signed, low byte first. hb_store_number: puts a number there. On any processor, at any address. They are
@@ -837,6 +940,124 @@ int64_t hb_write_summary(int64_t n, const uint8_t *low, size_t low_len, const ui
 int64_t hb_read_summary(const uint8_t *file, size_t file_len, uint8_t *order, size_t order_len, uint8_t *low, size_t low_len, uint8_t *high,
                         size_t high_len, uint8_t *linear_low, size_t linear_low_len, uint8_t *linear_high, size_t linear_high_len,
                         uint8_t *limit, size_t limit_len, uint8_t *centre, size_t centre_len);
+
+/*
+ * hb_bus_write: writes a value to a register of a bus, and carries out a command.
+ *
+ *   block               the registers: HB_BLOCK_BYTES = 32 bytes
+ *   run                 the run area: HB_RUN_BYTES = 1560 bytes
+ *   address             which register: any number. HB_BUS_COMMAND, HB_BUS_MASK, HB_BUS_FLAGS and HB_BUS_ORDER are those that a write moves
+ *   value               what is written
+ *   low, high           the bounds that a start judges: HB_TABLE_BYTES(n) bytes each, for n = HB_BUS_ORDER, entries within +-2^20, no low
+ *                       of a pair above a high of the same pair. Their halves may differ. Only a start looks at them, and only reads them;
+ *                       other writes leave them out, NULL with length 0. Whatever is written, the pointers must be good for their lengths
+ *   block_len, run_len, the lengths of the four buffers, in bytes. Those of block and run are exact in every call. Those of the tables are
+ *   low_len, high_len   for the checks of a start alone: where they are wrong, HB_BUS_REFUSAL has 2
+ *
+ * What changes, by address and value:
+ *
+ *   HB_BUS_COMMAND, HB_BUS_START   while HB_BUS_BUSY is up: nothing, and the answer is HB_REFUSED_BUSY. Else HB_BUS_STATUS, HB_BUS_REFUSAL
+ *                                  and HB_BUS_VERDICT become 0; then, where no check of hb_judge fails, HB_BUS_BUSY is up in the status and
+ *                                  in the flags, and the run area holds the run; and where one fails, HB_BUS_REFUSED is up in both,
+ *                                  HB_BUS_REFUSAL has its number, 1 to 5, and the run area is all zeros
+ *   HB_BUS_COMMAND, HB_BUS_RESET   all bytes of block and run become 0, while busy too
+ *   HB_BUS_COMMAND, another        nothing
+ *   HB_BUS_MASK                    bits 0 to 2 of the mask become those of the value; its other bits stay
+ *   HB_BUS_FLAGS                   those of the bits 0 to 2 that are one in the value become 0 in the flags; the others stay. 0 clears none
+ *   HB_BUS_ORDER                   the order becomes the value. It is looked at by the next start, not here: any value is taken
+ *   any other, below 0 too         nothing
+ *
+ * No byte of block and run changes but as this says: the command is not kept, and byte 0 of the block stays as it is.
+ *
+ * Returns
+ *
+ *   HB_TAKEN             the write is carried out: also one that changes nothing, and a start that the judge's checks refuse. Whether a
+ *                        start was refused is said by HB_BUS_STATUS
+ *   HB_REFUSED_LENGTH    block has not HB_BLOCK_BYTES bytes, or run not HB_RUN_BYTES, whatever is written where. Nothing is written
+ *   HB_REFUSED_BUSY      a start while HB_BUS_BUSY is up in the status. Nothing is written, and the run goes on: keep the tables, and start
+ *                        again when it is done, or reset first
+ *
+ * and nothing else, asked in this order.
+ *
+ * Buffers: at any address; none overlaps another, but low and high may be the same table. Nothing is allocated. Reentrant, one call at a
+ * time for each bus.
+ * Stack: HB_BUS_WRITE_STACK bytes.
+ * Time: a start reads, checks and mends the tables, which grows with n * n. A reset clears the run area. All other writes are short.
+ */
+int64_t hb_bus_write(uint8_t *block, size_t block_len, uint8_t *run, size_t run_len, int64_t address, uint8_t value, const uint8_t *low,
+                     size_t low_len, const uint8_t *high, size_t high_len);
+
+/*
+ * hb_bus_tick: the next step of the run of a bus.
+ *
+ *   block               the registers: HB_BLOCK_BYTES = 32 bytes
+ *   run                 the run area: HB_RUN_BYTES = 1560 bytes
+ *   block_len, run_len  the lengths of the two buffers, in bytes
+ *
+ * While HB_BUS_BUSY is up and a run is under way, it works out the next column of the Cholesky factor or, where an earlier tick has seen
+ * factoring stop, searches the vectors: see THE DISPLAY BUS. In the tick that ends the run HB_BUS_VERDICT gets the verdict, HB_BUS_BUSY
+ * goes down, HB_BUS_DONE rises in the status and in the flags, and the run area becomes all zeros. In the ticks before it the run area
+ * alone changes. At any other time nothing does: where HB_BUS_BUSY is not up, and where the run area holds no run that could go on, which a
+ * start never leaves so.
+ *
+ * Returns
+ *
+ *   HB_TICKED            the step is done, or there was none to do
+ *   HB_REFUSED_LENGTH    block has not HB_BLOCK_BYTES bytes, or run not HB_RUN_BYTES. Nothing is written
+ *
+ * and nothing else. What came of it is in the registers.
+ *
+ * Buffers: at any address; they do not overlap. Nothing is allocated. Reentrant, one call at a time for each bus.
+ * Stack: HB_BUS_TICK_STACK bytes.
+ * Time: the longest tick is the search, at order 8 the longest part of hb_judge's longest calls. A column is a small part of that.
+ */
+int64_t hb_bus_tick(uint8_t *block, size_t block_len, uint8_t *run, size_t run_len);
+
+/*
+ * hb_bus_read: the value of a register of a bus.
+ *
+ *   block                 the registers: HB_BLOCK_BYTES = 32 bytes, only read
+ *   address               which register: any number
+ *   value                 HB_VALUE_BYTES = 1 byte, written where the answer is HB_READ and kept as it was where it is any other
+ *   block_len, value_len  the lengths of the two buffers, in bytes
+ *
+ * Of an address from 1 to 6 value gets that byte of the block, as it lies. Of HB_BUS_COMMAND and of every other address, below 0 too, it
+ * gets 0. Reading moves nothing: it clears no flag.
+ *
+ * Returns
+ *
+ *   HB_READ              value is written
+ *   HB_REFUSED_LENGTH    block has not HB_BLOCK_BYTES bytes, or value not one. Nothing is written
+ *
+ * and nothing else.
+ *
+ * Buffers: at any address; they do not overlap. Nothing is allocated. Reentrant.
+ * Stack: HB_BUS_READ_STACK bytes.
+ */
+int64_t hb_bus_read(const uint8_t *block, size_t block_len, int64_t address, uint8_t *value, size_t value_len);
+
+/*
+ * hb_bus_line: is the interrupt line of a bus raised?
+ *
+ *   block      the registers: HB_BLOCK_BYTES = 32 bytes, only read
+ *   block_len  its length, in bytes
+ *
+ * The line is raised exactly while HB_BUS_FLAGS and HB_BUS_MASK have a bit that is one in both. It is a level and no edge: it stays raised
+ * until the flag is cleared or masked, or the bus is reset. Look at it after every write and every tick, and call the handler while it is
+ * raised.
+ *
+ * Returns
+ *
+ *   HB_LINE_LOW          it is low
+ *   HB_LINE_RAISED       it is raised
+ *   HB_REFUSED_LENGTH    block has not HB_BLOCK_BYTES bytes
+ *
+ * and nothing else. Nothing is written.
+ *
+ * Buffers: at any address. Nothing is allocated. Reentrant.
+ * Stack: HB_BUS_LINE_STACK bytes.
+ */
+int64_t hb_bus_line(const uint8_t *block, size_t block_len);
 
 #ifdef __cplusplus
 }
