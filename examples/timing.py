@@ -5,7 +5,7 @@
 
 Standard input has what the example printed; examples/timing runs both. A line of it that begins with a time is an access to the bus: by
 whom, what, the answer, and status, refusal number, verdict, mask, flags, order and line as it left them. All that is drawn comes from these
-lines.
+lines. The first part of the log is drawn, up to an empty line.
 """
 
 import re
@@ -29,9 +29,11 @@ VERDICTS = ["none", "definite", "not definite", "undecided"]
 
 
 def accesses(lines):
-    """The accesses of a log: time, by whom, what, answer, and the registers and the line behind it by name."""
+    """The accesses of a log's first part: time, by whom, what, answer, and the registers and the line behind it by name."""
     found = []
     for line in lines:
+        if line == "\n":
+            break
         match = ACCESS.match(line.rstrip("\n"))
         if match:
             time, who, what, answer, values, level = match.groups()

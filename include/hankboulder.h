@@ -133,7 +133,7 @@
  *     address  register        what it holds                                      what a write to it does
  *     0        HB_BUS_COMMAND  nothing: it reads as 0                             HB_BUS_START = 1 starts, HB_BUS_RESET = 2 resets
  *     1        HB_BUS_STATUS   bits HB_BUS_BUSY, HB_BUS_DONE, HB_BUS_REFUSED      nothing
- *     2        HB_BUS_REFUSAL  why the last start was refused, 1 to 5, or 0       nothing
+ *     2        HB_BUS_REFUSAL  which of the judge's checks refused, 1 to 5, or 0  nothing
  *     3        HB_BUS_VERDICT  the verdict, 1 to 3, or 0 where there is none      nothing
  *     4        HB_BUS_MASK     the interrupt mask, a bit for each of the status   bits 0 to 2 become those of the value
  *     5        HB_BUS_FLAGS    the interrupt flags, a bit for each of the status  clears those of bits 0 to 2 that are one in the value
@@ -141,7 +141,8 @@
  *     7 to 31  none            nothing: they read as 0                            nothing
  *
  * - Status. HB_BUS_BUSY = 1: a run is under way. HB_BUS_DONE = 2: it has ended, and the verdict is there. HB_BUS_REFUSED = 4: the last
- *   start was refused, and HB_BUS_REFUSAL says why. After a reset none of them is up, and from the first start on exactly one.
+ *   start was refused by the judge's checks, and HB_BUS_REFUSAL says by which. After a reset none of them is up, and from the first start
+ *   on exactly one.
  * - Start. The value HB_BUS_START, written to HB_BUS_COMMAND, comes with the two tables. While busy it is answered by HB_REFUSED_BUSY, and
  *   nothing moves: the run goes on. Otherwise status, refusal number and verdict become 0, and then the checks of hb_judge are made, 1 to
  *   5, with n = HB_BUS_ORDER. Where one of them fails, HB_BUS_REFUSED rises, and HB_BUS_REFUSAL has its number: the write itself is
@@ -156,13 +157,19 @@
  *   Factor, vector and number over are not given: where they are wanted, hb_judge gives them.
  * - Flags, mask and line. Where a bit of the status rises, from 0 to 1, the same bit of HB_BUS_FLAGS becomes one. There it stays until a
  *   one is written to it, or a reset. A start that clears HB_BUS_REFUSED and is refused again raises it again. The line, hb_bus_line, is
- *   raised exactly while flags and mask have a bit in common. Flags and mask are kept by a start. A handler reads the flags and writes back
- *   what it has read: so it clears what it has seen, and nothing that rose since.
+ *   raised exactly while flags and mask have a bit in common. A handler reads the flags and writes back what it has read: so it clears what
+ *   it has seen, and nothing that rose since. Flags and mask are kept by a start: a done flag that was not cleared before it is still up
+ *   during the new run, where the verdict is 0. Clear the flags before a start, or look at the status too.
  * - Reset. The value HB_BUS_RESET, written to HB_BUS_COMMAND, makes all bytes of block and run area 0, while busy too: the mask also.
  *
- * Registers 1 to 6 are the bytes 1 to 6 of the block, as they lie: what puts them on a wire may read them there. Leave it to the four
- * functions to write block and run area. They take any bytes at all, with no harm: what of a run area is not one that a tick can go on
- * with counts as no run. But what is said here of ticks and verdicts is said of runs that a start began.
+ * Registers 1 to 6 are the bytes 1 to 6 of the block, as they lie: what puts them on a wire may read them there between calls. During a
+ * write or a tick the bytes may be seen half changed.
+ *
+ * Leave it to the four functions to write block and run area. They take any bytes at all, with no harm: what of a run area is not one that
+ * a tick can go on with counts as no run. But what is said here of ticks and verdicts is said of runs that a start began. A block that the
+ * functions did not write may be busy with no run, so that ticks do nothing and each start is answered by 20, or may have bits 3 to 7 up
+ * in flags and mask, which hold the line up. Only a reset ends that. Reset at power-up, and whenever a run is not done after
+ * HB_BUS_MOST_TICKS(n) ticks.
  *
  * hb_bus_write and hb_bus_tick write to the bus, so nothing else may be called for the same bus meanwhile: where a timer's handler ticks,
  * the main program calls with that interrupt off. Calls for different buses may run at once.
@@ -198,7 +205,8 @@
  *   them is named by a refusal.
  * - Lengths are in bytes. A pointer must point to as many readable bytes as its length says, and writable ones where it is not const. It may be null
  *   where the length is 0: that is an empty buffer, and is refused by HB_REFUSED_LENGTH if n is good and no earlier check fails (in
- *   hb_read_summary an empty file by HB_REFUSED_ABSENT).
+ *   hb_read_summary an empty file by HB_REFUSED_ABSENT). The tables of hb_bus_write are an exception: only a start looks at them, and where
+ *   their lengths are wrong it is answered by HB_TAKEN, and the refusal is in register 2, HB_BUS_REFUSAL.
  * - Pointers need no alignment.
  * - The buffers of one call must not overlap: nothing is promised where they do. There are two exceptions, both of buffers that are only
  *   read, so const: low and high may be the same table, and linear_low and linear_high the same buffer; in hb_pool, which writes its sums,
@@ -299,7 +307,7 @@ extern "C" {
 
 /*
  * The stack that a call needs, in bytes, at any order, its arguments and return address included. Measured and not proved: bench/stack
- * painted the stack below 2000 calls or more of each function at each order, and what was overwritten is rounded up by three tenths or more
+ * painted the stack below 2000 calls or more of each function at each order, and what was overwritten is rounded up by a quarter or more
  * (docs/FIRMWARE.md has the figures). That is the archive which rattle-kit-5b compiles with LLVM 22 for x86-64, with memcpy and memset of
  * glibc 2.36: with any other compiler or processor, measure again. hb_gather takes order 4 alone, so its depth is that of its calls of
  * order 4. What an interrupt puts on the same stack comes on top.
@@ -996,9 +1004,9 @@ int64_t hb_bus_write(uint8_t *block, size_t block_len, uint8_t *run, size_t run_
  *
  * While HB_BUS_BUSY is up and a run is under way, it works out the next column of the Cholesky factor or, where an earlier tick has seen
  * factoring stop, searches the vectors: see THE DISPLAY BUS. In the tick that ends the run HB_BUS_VERDICT gets the verdict, HB_BUS_BUSY
- * goes down, HB_BUS_DONE rises in the status and in the flags, and the run area becomes all zeros. In the ticks before it the run area
- * alone changes. At any other time nothing does: where HB_BUS_BUSY is not up, and where the run area holds no run that could go on, which a
- * start never leaves so.
+ * goes down, HB_BUS_DONE rises in the status and in the flags (the flag where done was not up already in the status, as a start never
+ * leaves it), and the run area becomes all zeros. In the ticks before it the run area alone changes. At any other time nothing does: where
+ * HB_BUS_BUSY is not up, and where the run area holds no run that could go on, which a start never leaves so.
  *
  * Returns
  *
@@ -1043,8 +1051,8 @@ int64_t hb_bus_read(const uint8_t *block, size_t block_len, int64_t address, uin
  *   block_len  its length, in bytes
  *
  * The line is raised exactly while HB_BUS_FLAGS and HB_BUS_MASK have a bit that is one in both. It is a level and no edge: it stays raised
- * until the flag is cleared or masked, or the bus is reset. Look at it after every write and every tick, and call the handler while it is
- * raised.
+ * until the flag is cleared or masked, or the bus is reset. No hardware sees it: look at it after every write and every tick, and where it
+ * is raised set a software interrupt pending, or call the handler.
  *
  * Returns
  *
