@@ -2,8 +2,8 @@
 use Prim.Native.Nat.{ℕ}
 use Prim.Native.String.{String}
 use Rattle.tables.specs.declared.Refusal.{Refusal}
-use Rattle.tables.specs.declared.Refusal.the-variants.{Order, Length, Range, Crossed, Lopsided, Factor, Vector, Flat}
-use Rattle.tables.specs.declared.Refusal.the-variants.{Far, Cut, Tag, Again, Absent, Size, Long, Reversed, Sample, Full, Falling, Busy}
+use Rattle.tables.specs.declared.Refusal.the-variants.{Order, Length, Range, Crossed, Lopsided, Factor, Vector, Flat, Far}
+use Rattle.tables.specs.declared.Refusal.the-variants.{Cut, Tag, Again, Absent, Size, Long, Reversed, Sample, Full, Falling, Busy}
 
 -- a line of R4's table; no contract cites the word
 pub record RefusalLine : Type 0 where
