@@ -34,23 +34,23 @@ pub data Work : Type 0 where
   column : ℕ → ℕ → Work
   search : ℕ → ℕ → ℕ → Work
 
--- the columns before j are in the range of a factor, and at least 1 on the diagonal
-unfoldable pub factorColumns : List ℤ → ℕ → Bool
-factorColumns t j = all j (λ l. all (suc l) (λ k. within factorRange (upper t k l)) && leZ (pos 1) (upper t l l))
-
--- and column j in that of H
-unfoldable pub columnSafe : List ℤ → ℕ → Bool
-columnSafe t j = factorColumns t j && (all j (λ k. within productRange (upper t k j)) && leZ (upper t j j) (pos productRange))
-
 unfoldable pub passes : Checked → Bool
 passes Passed = true
 passes (Refused r) = false
 
--- or the m entries of column j in that of a stop
+-- the columns before j are in the range of a factor, and at least 1 on the diagonal
+unfoldable pub factorColumns : List ℤ → ℕ → Bool
+factorColumns t j = all j (λ l. all (suc l) (λ k. within factorRange (upper t k l)) && leZ (pos 1) (upper t l l))
+
+-- column j can be worked out: they are so, and column j is in the range of H
+unfoldable pub columnSafe : List ℤ → ℕ → Bool
+columnSafe t j = factorColumns t j && (all j (λ k. within productRange (upper t k j)) && leZ (upper t j j) (pos productRange))
+
+-- vectors can be solved for after a stop: they are so, and the m entries of column j are in the range of one
 unfoldable pub stopSafe : List ℤ → ℕ → ℕ → Bool
 stopSafe t j m = factorColumns t j && all m (λ k. within stopRange (upper t k j))
 
--- and the tables pass checks 3 to 5
+-- and these can be searched: the tables pass checks 3 to 5
 unfoldable pub searchSafe : ℕ → List ℤ → List ℤ → List ℤ → ℕ → ℕ → Bool
 searchSafe n l u t j m = stopSafe t j m && passes (firstRefusal (tableChecks n l u))
 
