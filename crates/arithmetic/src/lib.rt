@@ -1,4 +1,6 @@
 // Numbers of 64 bits: |x|, sums of products, and quotients and roots that are rounded up.
+#![tactic(auto)]
+
 ghost use Rattle.std.specs.Prelude.{◌≡◌, ◌^◌, pos, ◌*ℤ◌, ◌≤ℤ◌};
 ghost use Rattle.integers.specs.Numbers.{Within, abs_ℤ};
 ghost use Rattle.integers.specs.Sum.{sum};

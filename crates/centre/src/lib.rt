@@ -1,4 +1,6 @@
 // R13.1 and R13.2 of docs/RULES.md: the bounds at the centre c. The linear terms' low ends are a, their high ends b.
+#![tactic(auto)]
+
 ghost use Rattle.std.specs.Prelude.{◌≡◌, ◌≤◌, ◌<◌, pos, ◌*ℤ◌, length};
 ghost use Rattle.std.specs.Int.Signed.{le_z};
 ghost use Rattle.integers.specs.Numbers.{Within};

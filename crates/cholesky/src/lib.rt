@@ -1,4 +1,6 @@
 // Factoring: the matrix H of a problem, and its Cholesky factor, in whole numbers.
+#![tactic(auto)]
+
 use tables::GREATEST_ORDER;
 
 pub mod column_step;

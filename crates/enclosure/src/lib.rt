@@ -1,2 +1,4 @@
 // The box.
+#![tactic(auto)]
+
 pub mod enclose;

@@ -1,5 +1,7 @@
 // The library from Rattle: the acts and the residual on small problems, a sample gathered into running sums and these read, a summary file
 // written, read, and its fields, and a function whose own contract rests on the judge's. What is printed is held to the file stdout.
+#![tactic(auto)]
+
 ghost use Rattle.std.specs.Prelude.{◌≡◌, true, ◌≤◌, length};
 ghost use Rattle.tables.specs.Matrix.{at};
 ghost use Rattle.tables.specs.Members.{PositiveDefinite};

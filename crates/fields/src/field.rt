@@ -9,7 +9,7 @@ use tables::Refusal;
 pub const HEAD: usize = 3;
 
 // The kinds of field, in the order of their tags.
-#[derive(Drop)]
+#[derive(Clone, Copy)]
 pub enum Kind {
     Order,
     Low,
@@ -31,7 +31,7 @@ pub enum Tagged {
 }
 
 // A field of a file. Its content is the part that starts at start and has length bytes, and the next field stands at next.
-#[derive(Drop)]
+#[derive(Clone, Copy)]
 pub struct Field {
     pub kind: Kind,
     pub start: usize,
@@ -40,7 +40,7 @@ pub struct Field {
 }
 
 // What stands at a place of a file: a field, the file's end, or what is refused.
-#[derive(Drop)]
+#[derive(Clone, Copy)]
 pub enum Found {
     Here(Field),
     End,

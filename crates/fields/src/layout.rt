@@ -6,7 +6,7 @@ use crate::field::{Field, Found, KINDS, Kind, field_at, place_of, tag_of};
 use tables::{Checked, Refusal};
 
 // Where the content of each field stands, by the place of its kind: start and length. A start of 0 says that there is none.
-#[derive(Drop)]
+#[derive(Clone, Copy)]
 pub struct Layout {
     pub starts: [usize; KINDS],
     pub lengths: [usize; KINDS],

@@ -1,4 +1,6 @@
 // R22 of docs/RULES.md: 16 times a 32-bit float, between the whole numbers next below and above it.
+#![tactic(auto)]
+
 ghost use Rattle.std.specs.Prelude.{◌≡◌, ◌^◌, ◌<◌, ◌≤◌, T, pos, ◌*ℤ◌};
 ghost use Rattle.integers.specs.Division.{floor_div, ceil_div};
 ghost use Rattle.floats.specs.Brackets.{signed, units_of, sixteenth, finite_within, in_range, whole_next_to, bracket_of};

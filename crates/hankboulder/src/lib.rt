@@ -1,4 +1,6 @@
 // R15 of docs/RULES.md, the entries for C: each act on buffers of bytes, by the number of its answer.
+#![tactic(auto)]
+
 ghost use Rattle.std.specs.Prelude.{◌≡◌};
 ghost use Rattle.hankboulder.specs.Entries.{TestFactorResult, test_factor_entry, test_vector_entry};
 ghost use Rattle.hankboulder.specs.Entries.{JudgeResult, judge_entry, BoxResult, box_entry};

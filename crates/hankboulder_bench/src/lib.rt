@@ -1,4 +1,6 @@
 // An entry that only the bench calls: factoring with its checks, over numbers.
+#![tactic(auto)]
+
 ghost use Rattle.std.specs.Prelude.{◌≡◌};
 ghost use Rattle.tables.specs.Matrix.{at};
 ghost use Rattle.tables.specs.Bounds.{CheckedTables};

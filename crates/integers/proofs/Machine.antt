@@ -120,7 +120,7 @@ clean_element z h = to_z-of_z w64 z (record { sfits = h })
 
 pub clean_result : {n : ℕ} {ps : List (ParamKind n)} {Q : Out n ps (r_s_num w64)} {Γ : Cx} {ar : ArgsT ps Γ.locals} {u : Mo Γ}
     (k : Called ps (r_s_num w64) Q Γ ar u) → to_z w64 (of_z w64 k.result) ≡ k.result
-clean_result k = to_z-of_z w64 k.result (record { sfits = k.ok })
+clean_result k = to_z-of_z w64 k.result (record { sfits = k.type_inv })
 
 -- ---- tests: of numbers as they stand, as a loop's locals are, and of numbers that the machine reads back
 pub lt_holds : {x y : ℤ} → lt_z x y ≡ true → x <ℤ y

@@ -1,4 +1,6 @@
 // Signed 64-bit numbers: the smaller and the greater of two, floor division and whole root, R1.1 and R1.3 of docs/RULES.md.
+#![tactic(auto)]
+
 ghost use Rattle.std.specs.Prelude.{◌≡◌, ◌+◌, ◌*◌, ◌^◌, ◌/◌, ◌≤◌, ◌<◌, pos, ◌≤ℤ◌};
 ghost use Rattle.std.specs.Int.Signed.{mag};
 ghost use Rattle.integers.specs.Numbers.{min_ℤ, max_ℤ};

@@ -1,4 +1,6 @@
 // The program, R19 of docs/RULES.md: a summary file on standard input, its verdict and its box on standard output.
+#![tactic(auto)]
+
 use libc::{STDIN_FILENO, STDOUT_FILENO};
 
 // Room for one byte more than the longest file has.

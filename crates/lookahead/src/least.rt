@@ -11,7 +11,7 @@ use crate::ahead::{OTHER_SIGN_START, Pairs, row_entry};
 use integers::smaller;
 
 // What an entry would add if it were 1, and if it were -1.
-#[derive(Drop)]
+#[derive(Clone, Copy)]
 pub struct Share {
     pub plus: i64,
     pub minus: i64,

@@ -1,4 +1,6 @@
 // R27 of docs/RULES.md: problems pooled into running sums.
+#![tactic(auto)]
+
 pub mod entering;
 pub mod pool;
 pub mod problems;

@@ -15,7 +15,7 @@ use tables::{Checked, GREATEST_ORDER, Refusal, TABLE_ROOM, Table};
 
 // What the factor test answers: accepted, with what the rows have over, which is 0 or more; not accepted, with what they have over, which
 // is negative; or a refusal.
-#[derive(Drop)]
+#[derive(Clone, Copy)]
 pub enum FactorAnswer {
     Accepted(i64),
     NotAccepted(i64),

@@ -1,4 +1,6 @@
 // R13 and R14 of docs/RULES.md: from D, t, t(k), g(k) and the centre to the sides.
+#![tactic(auto)]
+
 ghost use Rattle.std.specs.Prelude.{◌≡◌, pos, ◌+ℤ◌, ◌*ℤ◌, length};
 ghost use Rattle.integers.specs.Numbers.{Within};
 ghost use Rattle.integers.specs.Sum.{sum};

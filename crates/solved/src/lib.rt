@@ -1,5 +1,7 @@
 // R10 of docs/RULES.md: the solved vectors, from the table of a factoring that stopped.
 // Entry (i, k) of the table lies at STRIDE k + i. The vector's first n entries stand in x.
+#![tactic(auto)]
+
 ghost use Rattle.std.specs.Prelude.{◌≡◌, suc, ◌≤◌, ◌<◌, length};
 ghost use Rattle.integers.specs.Numbers.{Within};
 ghost use Rattle.tables.specs.Ranges.{greatest_order};

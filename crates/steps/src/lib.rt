@@ -1,5 +1,7 @@
 // R12 of docs/RULES.md: the steps t and t(k), which can be taken off all diagonal entries, or off entry (k,k) alone.
 // A step t of the tables is 2^32 t of their matrix H: trials are made on a copy of it, of which only diagonal entries are lowered.
+#![tactic(auto)]
+
 ghost use Rattle.std.specs.Prelude.{◌≡◌, suc, ◌-◌, ◌≤◌, ◌<◌, pos, ◌≤ℤ◌, length};
 ghost use Rattle.integers.specs.Numbers.{Within};
 ghost use Rattle.tables.specs.Ranges.{greatest_order};

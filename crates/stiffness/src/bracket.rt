@@ -12,7 +12,7 @@ use tables::{Checked, GREATEST_ORDER, Refusal, TABLE_ROOM, Vector};
 
 // What the act answers: the step t and the bound v, where factoring ends, and else the bound alone. Every member M has x'Mx > t x'x for
 // every nonzero x, and one of them has x'Mx <= v x'x for the vector that is written.
-#[derive(Drop)]
+#[derive(Clone, Copy)]
 pub enum Stiffness {
     Between(i64, i64),
     AtMost(i64),

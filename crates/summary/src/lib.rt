@@ -1,2 +1,4 @@
 // The summary file: the problem that it spells.
+#![tactic(auto)]
+
 pub mod problem;

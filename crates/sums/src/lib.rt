@@ -1,4 +1,6 @@
 // R23 of docs/RULES.md: running sums of any order: their checks, what is added to them, and their halves.
+#![tactic(auto)]
+
 ghost use Rattle.std.specs.Prelude.{◌≡◌};
 ghost use Rattle.sums.specs.Lent.{gathered_code};
 

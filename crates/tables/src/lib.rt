@@ -1,4 +1,6 @@
 // Bounded symmetric matrices, R2, R4 and R5 of docs/RULES.md: refusals, and the checks 1 to 5 and 16 of a problem.
+#![tactic(auto)]
+
 ghost use Rattle.std.specs.Prelude.{◌≡◌, true, false, ◌&&◌, ◌++◌, ◌*◌, ◌≤◌, ◌<◌, pos, nat_abs, ◌≤ℤ◌, length, take, drop};
 ghost use Rattle.tables.specs.Matrix.{at};
 ghost use Rattle.tables.specs.Ranges.{greatest_order};
@@ -56,7 +58,7 @@ pub const CENTRE_RANGE: i64 = 1 << 12;
 pub const GRADIENT_RANGE: i64 = 1 << 20;
 
 // The refusals, in the order of their numbers: refusal k is rule R4.k of docs/RULES.md.
-#[derive(Drop)]
+#[derive(Clone, Copy)]
 pub enum Refusal {
     Order,
     Length,

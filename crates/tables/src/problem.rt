@@ -5,7 +5,7 @@ ghost use Rattle.tables.specs.Problem.{lengths_of, constraint_sized};
 use crate::{Table, Vector, sizes_ok};
 
 // Linear terms between two ends: the first n numbers of each, and zeros.
-#[derive(Drop)]
+#[derive(Clone, Copy)]
 pub struct Linear {
     pub low: Vector,
     pub high: Vector,
@@ -13,7 +13,7 @@ pub struct Linear {
 
 // A quadratic constraint of order n: x'Mx + 2a'x ≤ limit. The bounds of M stand row by row in the first n² numbers of low and high, and
 // zeros follow; those of a are the linear terms' ends.
-#[derive(Drop)]
+#[derive(Clone, Copy)]
 pub struct Constraint {
     pub order: usize,
     pub low: Table,

@@ -1,5 +1,7 @@
 // Text in a buffer (R19.5 of docs/RULES.md): words, numbers in decimal, and lines of them. Each function puts its text at a place of the
 // buffer and answers the place behind it.
+#![tactic(auto)]
+
 ghost use Rattle.std.specs.Prelude.{◌+◌, ◌*◌, ◌≤◌, length, [], ◌∷◌};
 ghost use Rattle.tables.specs.Matrix.{nth};
 ghost use Rattle.text.specs.Text.{natural, decimal, widest, spaced, line_room, numbers, line, lines};

@@ -1,1 +1,2 @@
 // No code: what factoring and the residual test prove of each other is in proofs/.
+#![tactic(auto)]

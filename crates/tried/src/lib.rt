@@ -3,6 +3,8 @@
 // sum so far, and each open entry has what it would add to that. How many entries are left is the parameter of the recursion, which falls
 // to zero: of `left` entries the first is entry n - left. What two entries add stands in one array: 2 L, for two of the same sign, and from
 // entry OTHER_SIGN_START on -2 U, for two of different signs.
+#![tactic(auto)]
+
 ghost use Rattle.std.specs.Prelude.{◌≡◌, ℕ, suc, ◌-◌, ◌*◌, ◌≤◌, ◌<◌, pos, nat_abs, ◌+ℤ◌, length};
 ghost use Rattle.integers.specs.Numbers.{Within};
 ghost use Rattle.tables.specs.Ranges.{greatest_order, table_room, entry_range};

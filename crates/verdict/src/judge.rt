@@ -19,7 +19,7 @@ use tables::entering::{enter, order_of};
 use tables::{Checked, GREATEST_ORDER, Refusal, TABLE_ROOM, Table, Vector};
 
 // What the judge answers. With 'definite' goes what the rows of the residual have over, of the factor that is written: 0 or more.
-#[derive(Drop)]
+#[derive(Clone, Copy)]
 pub enum Verdict {
     Definite(i64),
     NotDefinite,

@@ -1,4 +1,6 @@
 // The judge: whether every member of a bounded matrix is positive definite.
+#![tactic(auto)]
+
 pub mod factor_table;
 pub mod judge;
 pub mod listed;

@@ -1,5 +1,7 @@
 // R1.6 of docs/RULES.md, numbers in byte slices: low byte first, signed numbers in two's complement. Loads and stores are of the same
 // sizes, 4 or 8 bytes.
+#![tactic(auto)]
+
 ghost use Rattle.std.specs.Prelude.{◌≡◌, ◌++◌, ◌+◌, ◌-◌, ◌*◌, ◌^◌, ◌<◌, ◌≤◌, length, drop, nat_abs};
 ghost use Rattle.std.specs.Int.{w64};
 ghost use mir.Val.{to_z, of_z, bits, bytes, Fits};

@@ -1,0 +1,52 @@
+use mathlib.Core.Path.{sym, ap, ◌∙◌}
+use mathlib.Core.List.{List}
+use Prim.Native.Nat.{ℕ, ◌≤◌}
+use native.Mathlib.Omega.{arith}
+use borrow.Author.Rules.{rules}
+use Rattle.bus.specs.Running.{Bus}
+use Rattle.bus.specs.Required.{StopsIn}
+use Rattle.bus.proofs.Worked.{taken-last, taken_next, taken_stop}
+use Rattle.bus.proofs.ticking.keep_column.Lts as lts
+use Rattle.bus.proofs.ticking.keep_column.Tie as tie
+use Rattle.bus.proofs.ticking.keep_column.Reads as reads
+use Rattle.bus.proofs.ticking.keep_column.Goals as goal
+
+abbrev After-step : Type 0
+After-step = lts.After-step tie.the-claims reads.Pre reads.Post
+
+-- a bus whose block is kept
+abbrev kept : List ℕ → List ℕ → Bus
+kept b x = record { block = b; run = x }
+
+-- the rows of a stop
+rows : (c : After-step) → c.in-Stops.m ≤ c.args.j
+unfolding StopsIn
+rows c = rw c.in-Stops.is at c.requires.5
+
+pub overflow_add-m : goal.overflow_add-m
+overflow_add-m c = record { fits = omega (arith, rows c, c.requires.2, c.requires.3) }
+
+pub put_column-requires-in-Stops : goal.put_column-requires-in-Stops
+put_column-requires-in-Stops c =
+    (c.requires.1, omega arith, omega (arith, rows c, c.requires.2, c.requires.3), omega arith, omega (arith, rows c), c.requires.4)
+
+pub shape_of-block : goal.shape_of-block
+shape_of-block c = -- the last column c
+
+pub shape_of-run-then-j-n : goal.shape_of-run-then-j-n
+shape_of-run-then-j-n c =
+    rw c.in-Done.is (c.settle.ensures ∙ sym (taken-last _ _ _ _ _ c.if-j-n.true))
+
+pub returns-then-j-n : goal.returns-then-j-n
+returns-then-j-n c = -- another column c
+
+pub shape_of-run-else-j-n : goal.shape_of-run-else-j-n
+shape_of-run-else-j-n c =
+    rw c.in-Done.is (ap (kept _) c.put_column.ensures ∙ sym (taken_next _ _ _ _ _ c.if-j-n.false))
+
+pub shape_of-run-in-Stops : goal.shape_of-run-in-Stops
+shape_of-run-in-Stops c = -- a stop c
+
+pub returns-in-Stops : goal.returns-in-Stops
+returns-in-Stops c =
+    rw c.in-Stops.is (ap (kept _) c.put_column-in-Stops.ensures ∙ sym (taken_stop _ _ _ _ _ _))

@@ -1,0 +1,46 @@
+use mathlib.Core.Path.{◌∙◌}
+use native.Mathlib.Omega.{arith}
+use borrow.Author.Rules.{rules}
+use lib.IntN.{ℤ, pos}
+use Rattle.integers.proofs.Parts.{≤ℤ_trans, pos_nonneg}
+use Rattle.integers.proofs.Machine.{clean_result, clean_element}
+use Rattle.tables.proofs.Checks.{le_of, read_less, read_not_less}
+use Rattle.cholesky.specs.Store.{upper}
+use Rattle.cholesky.proofs.Taken.{worked-none, worked_stops, worked_some, worked_rooted}
+use Rattle.cholesky.proofs.column_step.work_column.Lts as lts
+use Rattle.cholesky.proofs.column_step.work_column.Tie as tie
+use Rattle.cholesky.proofs.column_step.work_column.Reads as reads
+use Rattle.cholesky.proofs.column_step.work_column.Goals as goal
+
+abbrev Start : Type 0
+Start = lts.Start tie.the-claims reads.Pre reads.Post
+
+-- the diagonal entry of H
+abbrev diagonal : Start → ℤ
+diagonal c = upper c.args.s.now c.args.j c.args.j
+
+pub returns-then-s-j-lt1 : goal.returns-then-s-j-lt1
+unfolding upper
+returns-then-s-j-lt1 c = worked-none c.requires (read_less (diagonal c.before.before) (pos 1) c.t9-1.given (omega arith) c.if-s-j-lt1.true)
+
+pub take_rows-stop-requires : goal.take_rows-stop-requires
+unfolding upper
+take_rows-stop-requires c =
+    (c.requires, le_of (pos 1) _ (read_not_less (diagonal c.before) (pos 1) c.t9-1.given (omega arith) c.if-s-j-lt1.false))
+
+pub returns-then-stop-j : goal.returns-then-stop-j
+unfolding upper
+returns-then-stop-j c = worked_stops c.requires c.take_rows-stop.ensures c.if-stop-j.true
+
+pub whole_root-requires : goal.whole_root-requires
+unfolding upper
+whole_root-requires c =
+    let z = c.requires in
+    rw (clean_element _ c.whole_root-arg-1.given) (≤ℤ_trans (pos_nonneg 1) (worked_some z c.take_rows-stop.ensures c.if-stop-j.false))
+
+pub returns : goal.returns
+unfolding upper
+returns c =
+    let z = c.requires in
+    worked_rooted z c.take_rows-stop.ensures c.if-stop-j.false
+    (clean_result c.whole_root ∙ (rw (clean_element _ c.whole_root-arg-1.given) at c.whole_root.ensures))

@@ -1,0 +1,17 @@
+-- The loop's invariant: no diagonal entry before j is below 1.
+use mathlib.Core.Path.{◌≡◌}
+use mathlib.Core.Logic.{by_cases}
+use Prim.Native.Nat.{ℕ, ◌-◌, ◌≤◌, ◌<◌}
+use native.Mathlib.Omega.{arith}
+use native.Mathlib.Decide.{ℕ_discrete}
+use lib.IntN.{ℤ, pos}
+use lib.Signed.{◌≤ℤ◌}
+use Rattle.tables.proofs.Checks.{le_of, read_less, read_not_less}
+use Rattle.cholesky.specs.Store.{upper}
+use Rattle.cholesky.proofs.factoring.start.Given as goal
+
+abbrev pub invariant-loop-j : goal.invariant-loop-j
+invariant-loop-j l = (l.j ≤ l.n) × ((l : ℕ) → l < l.j → pos 1 ≤ℤ upper l.s l l)
+
+abbrev pub decreases-loop-j : goal.decreases-loop-j
+decreases-loop-j l = l.n - l.j

@@ -1,0 +1,77 @@
+use mathlib.Core.Path.{◌≡◌, sym, ◌∙◌}
+use mathlib.Core.List.{List}
+use Prim.Native.Nat.{ℕ, ◌-◌, ◌≤◌}
+use native.Mathlib.Omega.{arith}
+use borrow.Author.Rules.{rules}
+use lib.ListN.{length}
+use Rattle.fields.specs.declared.field.Found.TheVariants as Found
+use Rattle.fields.specs.declared.layout.Layout.{Layout}
+use Rattle.fields.specs.Fields.{field_at}
+use Rattle.fields.specs.Layouts.{walk, walked}
+use Rattle.fields.proofs.Finding.{found_inside}
+use Rattle.fields.proofs.Walking.{seen_is, falls_is, walk_end, walk_refused, walk_again, walk_falling, walk_more}
+use Rattle.fields.proofs.layout.walk.Lts as lts
+use Rattle.fields.proofs.layout.walk.Tie as tie
+use Rattle.fields.proofs.layout.walk.Reads as reads
+use Rattle.fields.proofs.layout.walk.Goals as goal
+
+abbrev After-known_told : Type 0
+After-known_told = lts.After-known_told tie.the-claims reads.Pre reads.Post goal.the-invariant-loop-field goal.the-decreases-loop-field
+
+-- the field at hand
+here : (c : After-known_told) → field_at c.args.file.now c.loop-field.at ≡ Found.Here c.in-Here.field
+here c = sym c.field_at-found.ensures ∙ c.in-Here.is
+
+-- the walk goes on behind the field's tag, with the field in the layout
+onward : (s : List ℕ) (at : ℕ) {t u : ℕ} {l m : Layout} → u ≡ t → m ≡ l → walk s at t l ≡ walk s at u m
+onward s at e h = rw (e, h)
+
+pub loop-field-init : goal.loop-field-init
+unfolding walked
+loop-field-init c = -- the loop begins c
+
+pub enum_known-found : goal.enum_known-found
+unfolding walked
+enum_known-found c = -- a field c
+
+pub returns-then-again : goal.returns-then-again
+unfolding walked
+returns-then-again c = -- again c
+
+pub returns-then-falls : goal.returns-then-falls
+unfolding walked
+returns-then-falls c = -- falling c
+
+pub loop-field-smaller : goal.loop-field-smaller
+unfolding walked
+loop-field-smaller c =
+    c.stopped-then-falls.ensures
+    ∙ sym (c.loop-field.invariant.1
+    ∙ walk_falling _ _ _ _ _ (here c) (seen_is _ _ c.start_of_lem.ensures c.if-again.false-raw) (falls_is c.in-Here.field.kind _ c.tag_of-tag.ensures c.if-falls.true-raw))
+
+pub loop-field-preserved : goal.loop-field-preserved
+unfolding walked
+loop-field-preserved c = -- the measure, the invariant again c
+
+pub enum_told-1 : goal.enum_told-1
+unfolding walked
+enum_told-1 c = omega (arith, found_inside _ _ _ (here c))
+
+pub returns-in-End : goal.returns-in-End
+unfolding walked
+returns-in-End c =
+    (
+      omega (arith, found_inside _ _ _ (here c)),
+      c.loop-field.invariant.1
+          ∙ walk_more _ _ _ _ _ (here c) (seen_is _ _ c.start_of_lem.ensures c.if-again.false-raw) (falls_is c.in-Here.field.kind _ c.tag_of-tag.ensures c.if-falls.false-raw)
+          ∙ onward _ _ c.tag_of-tag.ensures c.placed-layout.ensures,
+    )
+
+pub enum_known-found-in-Refused-1 : goal.enum_known-found-in-Refused-1
+unfolding walked
+enum_known-found-in-Refused-1 c = -- the end c
+
+pub returns-in-Refused : goal.returns-in-Refused
+unfolding walked
+returns-in-Refused c =
+    c.stopped-in-Refused.ensures ∙ sym (c.loop-field.invariant.1 ∙ walk_refused _ _ _ _ _ (sym c.field_at-found.ensures ∙ c.in-Refused.is))

@@ -1,0 +1,63 @@
+-- The choices of the first entry, each with the least sum over those of the last three.
+use mathlib.Core.Path.{◌∙◌}
+use native.Mathlib.Numerals.{add-one}
+use native.Mathlib.Omega.{arith}
+use borrow.Author.Rules.{rules}
+use Rattle.integers.proofs.Machine.{clean, clean_result}
+use Rattle.lookahead.specs.LeastSums.{shares_after}
+use Rattle.lookahead.proofs.LeastSums.{last_zero, last_one, last-minus-one, first_small, choice_small, choice_is}
+use Rattle.lookahead.proofs.least.least_four.Goals as goal
+
+pub least_three-zero-requires : goal.least_three-zero-requires
+unfolding shares_after
+least_three-zero-requires c = rw (clean c.ranges.sum, add-one) (last_zero c.requires)
+
+pub share_after-b1-requires : goal.share_after-b1-requires
+unfolding shares_after
+share_after-b1-requires c = let f = c.requires in (f.pairs, omega arith, omega arith, omega (arith, f.inside), omega (arith, f.inside, f.pairs.order), first_small (last_zero f))
+
+pub share_after-c1-requires : goal.share_after-c1-requires
+unfolding shares_after
+share_after-c1-requires c = let f = c.requires in (f.pairs, omega arith, omega arith, omega (arith, f.inside), omega (arith, f.inside, f.pairs.order), first_small (last_zero (last_zero f)))
+
+pub share_after-e1-requires : goal.share_after-e1-requires
+unfolding shares_after
+share_after-e1-requires c = let f = c.requires in (f.pairs, omega arith, omega arith, omega (arith, f.inside), omega (arith, f.inside, f.pairs.order), first_small (last_zero (last_zero (last_zero f))))
+
+pub least_three-one-requires : goal.least_three-one-requires
+unfolding shares_after
+least_three-one-requires c = rw (clean c.ranges.sum, c.share_after-b1.ensures, c.share_after-c1.ensures, c.share_after-e1.ensures, add-one c.args.d, add-one, add-one) (last_one c.requires)
+
+pub share_after-b2-requires : goal.share_after-b2-requires
+unfolding shares_after
+share_after-b2-requires c = let f = c.requires in (f.pairs, omega arith, omega arith, omega (arith, f.inside), omega (arith, f.inside, f.pairs.order), first_small (last_zero f))
+
+pub share_after-c2-requires : goal.share_after-c2-requires
+unfolding shares_after
+share_after-c2-requires c = let f = c.requires in (f.pairs, omega arith, omega arith, omega (arith, f.inside), omega (arith, f.inside, f.pairs.order), first_small (last_zero (last_zero f)))
+
+pub share_after-e2-requires : goal.share_after-e2-requires
+unfolding shares_after
+share_after-e2-requires c = let f = c.requires in (f.pairs, omega arith, omega arith, omega (arith, f.inside), omega (arith, f.inside, f.pairs.order), first_small (last_zero (last_zero (last_zero f))))
+
+pub least_three-opposite-requires : goal.least_three-opposite-requires
+unfolding shares_after
+least_three-opposite-requires c = rw (clean c.ranges.sum, c.share_after-b2.ensures, c.share_after-c2.ensures, c.share_after-e2.ensures, add-one c.args.d, add-one, add-one) (last-minus-one c.requires)
+
+pub least_choice-requires : goal.least_choice-requires
+unfolding shares_after
+least_choice-requires c =
+    choice_small 2 c.requires
+    (rw (clean_result c.least_three-one, c.least_three-one.ensures, clean c.fits.sum, c.share_after-b1.ensures, c.share_after-c1.ensures, c.share_after-e1.ensures, add-one c.args.d, add-one, add-one))
+    (rw (clean_result c.least_three-opposite, c.least_three-opposite.ensures, clean c.fits.sum, c.share_after-b2.ensures, c.share_after-c2.ensures, c.share_after-e2.ensures, add-one c.args.d, add-one, add-one))
+    (omega arith)
+
+pub returns : goal.returns
+unfolding shares_after
+returns c =
+    clean_result c.least_choice
+    ∙ c.least_choice.ensures
+    ∙ choice_is 2 c.requires
+    (rw (clean_result c.least_three-one, c.least_three-one.ensures, clean c.ranges.sum, c.share_after-b1.ensures, c.share_after-c1.ensures, c.share_after-e1.ensures, add-one c.args.d, add-one, add-one))
+    (rw (clean_result c.least_three-opposite, c.least_three-opposite.ensures, clean c.ranges.sum, c.share_after-b2.ensures, c.share_after-c2.ensures, c.share_after-e2.ensures, add-one c.args.d, add-one, add-one))
+    (rw (clean_result c.least_three-zero, c.least_three-zero.ensures, clean c.ranges.sum, add-one))

@@ -1,0 +1,12 @@
+-- The least of three.
+use native.Mathlib.Omega.{arith}
+use borrow.Author.Rules.{rules}
+use Rattle.integers.proofs.Machine.{clean, clean_result, fits_within}
+use Rattle.lookahead.specs.LeastSums.{least_one}
+use Rattle.lookahead.proofs.least.least_one.Goals as goal
+
+pub returns : goal.returns
+unfolding least_one
+returns c =
+    let p = c.requires in
+    rw (clean_result c.least_of, c.least_of.ensures, clean c.ranges.sum, clean (fits_within p.plus (omega arith)), clean (fits_within p.minus (omega arith)))

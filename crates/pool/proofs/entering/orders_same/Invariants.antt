@@ -1,0 +1,20 @@
+-- The loop's invariant: the first k numbers are n. The measure is how many are left.
+use mathlib.Core.Path.{◌≡◌}
+use mathlib.Core.Bool.{true}
+use Prim.Native.Nat.{◌-◌, ◌≤◌}
+use native.Mathlib.Omega.{arith}
+use mir.Syntax.{w64}
+use mir.Val.{to_z}
+use borrow.Author.Tests.{le-leb, lt-leb}
+use Rattle.integers.proofs.Machine.{clean}
+use Rattle.tables.specs.Matrix.{nth}
+use Rattle.tables.specs.Checks.{all, same}
+use Rattle.tables.proofs.Checks.{all_none, all_more, all_false, read_same, read_differs}
+use Rattle.pool.specs.Pool.{orders_same}
+use Rattle.pool.proofs.entering.orders_same.Given as goal
+
+abbrev pub invariant-loop-k : goal.invariant-loop-k
+invariant-loop-k l = (l.k ≤ l.count) × (all l.k (λ i. same (nth l.orders i) (to_z w64 l.n)) ≡ true)
+
+abbrev pub decreases-loop-k : goal.decreases-loop-k
+decreases-loop-k l = l.count - l.k

@@ -1,0 +1,27 @@
+use mathlib.Core.Path.{◌≡◌, refl}
+use Prim.Native.Nat.{◌+◌, ◌-◌, ◌≤◌}
+use native.Mathlib.Omega.{arith}
+use native.Mathlib.Numerals.{add-one}
+use lib.ListN.{length}
+use Rattle.integers.proofs.Machine.{clean_element}
+use Rattle.tables.specs.Matrix.{nth}
+use Rattle.tables.specs.Buffers.{Filled}
+use Rattle.tables.proofs.Buffers.{filled_none, filled_more}
+use Rattle.pool.proofs.pool.copy_part.Goals as goal
+
+pub loop-i-init : goal.loop-i-init
+loop-i-init c = (omega arith, filled_none refl)
+
+pub bounds-out-i : goal.bounds-out-i
+bounds-out-i c = omega (arith, c.loop-i.invariant.1.size)
+
+pub loop-i-preserved : goal.loop-i-preserved
+loop-i-preserved c =
+    let l = c.loop-i in
+    (omega arith, rw add-one (filled_more (omega (arith, l.invariant.1.size)) (clean_element _ c.out-1.given) l.invariant.1))
+
+pub shape_of-out : goal.shape_of-out
+shape_of-out c = c.loop-i.invariant.1.size
+
+pub returns : goal.returns
+returns c = let e : c.loop-i.i ≡ c.args.count = omega arith in rw e at c.loop-i.invariant.1

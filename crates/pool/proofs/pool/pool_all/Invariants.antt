@@ -1,0 +1,22 @@
+-- The loop's invariant: k problems are done, and the scratch lists have their lengths.
+use mathlib.Core.Path.{refl, sym, ◌∙◌}
+use mathlib.Core.List.{List}
+use Prim.Native.Nat.{ℕ, ◌-◌, ◌≤◌}
+use native.Mathlib.Omega.{arith}
+use lib.IntN.{ℤ}
+use Rattle.integers.proofs.Machine.{clean, clean_result}
+use Rattle.tables.specs.declared.problem.Constraint.{Constraint}
+use Rattle.pool.specs.Pool.{problem_at}
+use Rattle.pool.specs.Passing.{passing}
+use Rattle.pool.proofs.Going.{Scratch, scratch_rooms, Begun, Going, going_none, going_next, going_rooms, going_ready, going_whole}
+use Rattle.pool.proofs.pool.pool_all.Given as goal
+
+abbrev pub problems : ℕ → List ℤ → List ℤ → List ℤ → List ℤ → List ℤ → ℕ → Constraint
+problems n lows highs froms tos limits = problem_at n (record { lows = lows; highs = highs; froms = froms; tos = tos; limits = limits })
+
+abbrev pub invariant-loop-k : goal.invariant-loop-k
+invariant-loop-k l =
+    (l.k ≤ l.count) × Scratch l.pl l.pu l.pa l.pb × Going l.n (problems l.n l.lows l.highs l.froms l.tos l.limits) l.initial.done l.initial.l l.initial.u l.initial.a l.initial.b l.k l.done l.l l.u l.a l.b
+
+abbrev pub decreases-loop-k : goal.decreases-loop-k
+decreases-loop-k l = l.count - l.k

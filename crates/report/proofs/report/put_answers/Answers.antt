@@ -1,0 +1,13 @@
+use native.Mathlib.Omega.{arith}
+use borrow.Author.Rules.{rules}
+use Rattle.verdict.specs.Deciding.{stated}
+use Rattle.text.proofs.Puts.{put-within, put_then}
+use Rattle.report.specs.Lines.{verdict_text}
+use Rattle.report.specs.Answers.{answers_text}
+use Rattle.report.proofs.report.put_answers.Goals as goal
+
+pub returns : goal.returns
+unfolding answers_text
+returns c =
+    let a = c.args.answers in
+    put-within (put_then {t = verdict_text c.args.n (stated c.args.n a.verdict a.factor a.vector)} c.put_verdict-next.ensures (omega arith) c.put_box.ensures) (omega arith)

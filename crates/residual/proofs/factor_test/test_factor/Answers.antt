@@ -1,0 +1,91 @@
+use mathlib.Core.Path.{◌≡◌, refl, sym, ◌∙◌}
+use mathlib.Core.Bool.{true}
+use native.Mathlib.Omega.{arith}
+use borrow.Author.Rules.{rules}
+use lib.ListN.{length}
+use Rattle.integers.proofs.Machine.{clean}
+use Rattle.tables.specs.Checks.{order_of}
+use Rattle.tables.specs.Entering.{Entered}
+use Rattle.tables.proofs.Checks.{sizes-of}
+use Rattle.tables.proofs.Answers.{exactly}
+use Rattle.tables.proofs.Admission.{order_fits, order-positive, no-order, came-through, entered-refused, entered-passed}
+use Rattle.residual.specs.FactorTest.{factor_sizes, factor_tested, factor_test, Meaning}
+use Rattle.residual.specs.declared.factor_test.FactorAnswer.{FactorAnswer}
+use Rattle.residual.specs.declared.factor_test.FactorAnswer.TheVariants as FactorAnswer
+use Rattle.residual.proofs.Meaning.{tested-means}
+use Rattle.residual.proofs.factor_test.test_factor.Lts as lts
+use Rattle.residual.proofs.factor_test.test_factor.Tie as tie
+use Rattle.residual.proofs.factor_test.test_factor.Reads as reads
+use Rattle.residual.proofs.factor_test.test_factor.Goals as goal
+
+abbrev After-enter : Type 0
+After-enter = lts.After-enter tie.the-claims reads.Pre reads.Post
+
+abbrev After-order_of : Type 0
+After-order_of = lts.After-order_of tie.the-claims reads.Pre reads.Post
+
+abbrev After-sizes_ok : Type 0
+After-sizes_ok = lts.After-sizes_ok tie.the-claims reads.Pre reads.Post
+
+abbrev Start : Type 0
+Start = lts.Start tie.the-claims reads.Pre reads.Post
+
+order : (c : After-order_of) → c.order_of-m.result ≡ order_of c.args.n
+order c = rw (clean c.ranges.n) at c.order_of-m.ensures
+
+-- what check 2 finds
+sized : (c : After-sizes_ok) → let a = c.args in
+    c.sizes_ok-sized.result ≡ factor_sizes (order_of a.n) (length a.low.now) (length a.high.now) (length a.factor.now)
+sized c = rw (order c.before.before) at c.sizes_ok-sized.ensures
+
+-- the door, with what it found
+came : (c : After-enter) → let a = c.args in
+    Entered a.n (factor_sizes (order_of a.n) (length a.low.now) (length a.high.now) (length a.factor.now)) true a.low.now a.high.now
+    c.enter-checked.result c.enter-checked.new.l c.enter-checked.new.u
+came c = rw (clean c.ranges.n, sized c.before.before.before) at c.enter-checked.ensures
+
+-- what an answer means
+abbrev means : Start → FactorAnswer → Type 0
+means s = let a = s.args in Meaning a.n a.low.now a.high.now a.factor.now
+
+meant : (s : Start) → let a = s.args in means s (factor_test a.n a.low.now a.high.now a.factor.now)
+unfolding factor_test
+meant s = let a = s.args in tested-means a.n a.low.now a.high.now a.factor.now _
+
+pub returns-then-m-eq0 : goal.returns-then-m-eq0
+unfolding factor_test factor_tested
+returns-then-m-eq0 c = exactly (means c) (meant c) _ (no-order _ _ _ _ _ FactorAnswer.Refused _ (sym (order c.before) ∙ c.if-m-eq0.true))
+
+pub overflow_mul-m : goal.overflow_mul-m
+unfolding factor_test factor_tested
+overflow_mul-m c = record { fits = omega (arith, order_fits _ (order c.before)) }
+
+pub overflow_mul-m-2 : goal.overflow_mul-m-2
+unfolding factor_test factor_tested
+overflow_mul-m-2 c = record { fits = omega (arith, order_fits _ (order c.before)) }
+
+pub enter-checked-requires : goal.enter-checked-requires
+unfolding factor_test factor_tested
+enter-checked-requires c =
+    ((λ s. rw (clean c.ranges.n) (let z = sizes-of _ _ _ _ _ (sym (sized c) ∙ s) in (z.0, z.1))), refl, refl)
+
+pub returns-in-Refused : goal.returns-in-Refused
+unfolding factor_test factor_tested
+returns-in-Refused c =
+    exactly (means c) (meant c) _ (entered-refused _ _ _ _ _ FactorAnswer.Refused _ (came c) c.in-Refused.is)
+
+pub answer-requires : goal.answer-requires
+unfolding factor_test factor_tested
+answer-requires c =
+    let q = c.in_default.is in
+    let b = came-through _ _ _ _ _ (came c) q in
+    let z = sizes-of _ _ _ _ _ b.sizes in
+    rw (order c.before.before.before.before.before.before.before.before.before) (((came c).held q).tables, (came c).rooms, omega (arith, z.2), order-positive _ b.ordered)
+
+pub returns : goal.returns
+unfolding factor_test factor_tested
+returns c =
+    let q = c.in_default.is in
+    let h = (came c).held q in
+    exactly (means c) (meant c) _
+    ((rw (order c.before.before.before.before.before.before.before, h.low, h.high) at c.answer.ensures) ∙ entered-passed _ _ _ _ _ FactorAnswer.Refused _ (came c) q)

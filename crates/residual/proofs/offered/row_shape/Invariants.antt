@@ -1,0 +1,20 @@
+-- The loop's invariant: the first j entries of row i have their shape. The measure is how many are left.
+use mathlib.Core.Path.{◌≡◌, sym}
+use mathlib.Core.Bool.{true}
+use Prim.Native.Nat.{◌+◌, ◌*◌, ◌-◌, ◌≤◌, ◌<◌}
+use native.Mathlib.Omega.{arith}
+use borrow.Author.Rules.{rules}
+use Rattle.integers.proofs.Machine.{clean_element}
+use Rattle.tables.specs.Ranges.{table_room}
+use Rattle.tables.specs.Matrix.{at}
+use Rattle.tables.specs.Checks.{all}
+use Rattle.tables.proofs.Matrix.{inside, table_fits}
+use Rattle.tables.proofs.Checks.{all_none, all_more, all_false, call_false, call_true}
+use Rattle.residual.specs.FactorTest.{factor_entry}
+use Rattle.residual.proofs.offered.row_shape.Given as goal
+
+abbrev pub invariant-loop-j : goal.invariant-loop-j
+invariant-loop-j l = (l.j ≤ l.n) × (all l.j (λ k. factor_entry l.i k (at l.n l.factor l.i k)) ≡ true)
+
+abbrev pub decreases-loop-j : goal.decreases-loop-j
+decreases-loop-j l = l.n - l.j

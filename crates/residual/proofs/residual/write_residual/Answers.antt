@@ -1,0 +1,88 @@
+use mathlib.Core.Path.{◌≡◌, sym, ap, ◌∙◌}
+use mathlib.Core.Bool.{true, false, false≢true}
+use mathlib.Core.Logic.{⊎_elim}
+use Prim.Native.Nat.{◌*◌, ◌≤◌}
+use mathlib.Core.List.{◌++◌}
+use lib.ListN.{length, take, drop}
+use native.Mathlib.Omega.{arith}
+use borrow.Author.Rules.{rules}
+use Rattle.tables.specs.Matrix.{at, table}
+use Rattle.tables.proofs.Checks.{first_passes, first-refuses, first-none}
+use Rattle.tables.proofs.Matrix.{table_fits}
+use Rattle.tables.proofs.Answers.{after-refused, after-passed}
+use Rattle.residual.specs.Residual.{residual}
+use Rattle.residual.specs.FactorTest.{factor_shape}
+use Rattle.residual.specs.ResidualAct.{kept, tabled}
+use Rattle.residual.specs.Scratch.{Offer}
+use Rattle.residual.proofs.Worked.{low-size, high-size, low-table, high-table}
+use Rattle.residual.proofs.residual.write_residual.Lts as lts
+use Rattle.residual.proofs.residual.write_residual.Tie as tie
+use Rattle.residual.proofs.residual.write_residual.Reads as reads
+use Rattle.residual.proofs.residual.write_residual.Goals as goal
+
+abbrev After-factor_shape : Type 0
+After-factor_shape = lts.After-factor_shape tie.the-claims reads.Pre reads.Post
+
+abbrev Joined1 : Type 0
+Joined1 = lts.Joined1 tie.the-claims reads.Pre reads.Post
+
+-- what the residual is worked out from, where the factor passes check 6
+offer : (c : After-factor_shape) → c.factor_shape-shaped.result ≡ true → let a = c.args in Offer a.n a.low.now a.high.now a.factor.now
+offer c h =
+    let p = c.requires in
+    record { factor = record { order = p.0.order; size = p.2; shape = sym c.factor_shape-shaped.ensures ∙ h }; rooms = p.1; tables = p.0 }
+
+-- a refusal writes no entry
+none : (c : Joined1) → c.factor_shape-shaped.result ≡ false → c.if-shaped.written ≡ 0
+none c h = ⊎_elim (λ w. absurd (false≢true (sym h ∙ w.0.taken))) (λ w. w.3) c.if-shaped.branch
+
+-- else all are those of the residual
+low_full : (c : Joined1) → c.factor_shape-shaped.result ≡ true → let a = c.args in
+    take c.if-shaped.written c.if-shaped.low ++ drop c.if-shaped.written a.low-residual.now ≡ table a.n (residual a.n (at a.n a.factor.now) (at a.n a.low.now))
+low_full c h =
+    ⊎_elim (λ w. rw (w.4, w.6, w.3.ensures.0) (low-table (offer c.before h) c.args.low-residual.now c.requires.3)) (λ w. absurd (false≢true (sym w.0.left ∙ h))) c.if-shaped.branch
+
+high_full : (c : Joined1) → c.factor_shape-shaped.result ≡ true → let a = c.args in
+    take c.if-shaped.written c.if-shaped.high ++ drop c.if-shaped.written a.high-residual.now ≡ table a.n (residual a.n (at a.n a.factor.now) (at a.n a.high.now))
+high_full c h =
+    ⊎_elim (λ w. rw (w.5, w.6, w.3.ensures.1) (high-table (offer c.before h) c.args.high-residual.now c.requires.4)) (λ w. absurd (false≢true (sym w.0.left ∙ h))) c.if-shaped.branch
+
+-- no more is written than there is, and the scratch tables have it
+few : (c : Joined1) → let n = c.args.n in c.if-shaped.written ≤ n * n
+few c = ⊎_elim (λ w. omega (arith, w.6)) (λ w. omega (arith, w.3)) c.if-shaped.branch
+
+low_room : (c : Joined1) → let n = c.args.n in n * n ≤ length c.if-shaped.low
+low_room c =
+    let p = c.requires in
+    ⊎_elim (λ w. rw (w.4, w.3.ensures.0) (omega (arith, low-size (offer c.before w.0.taken), table_fits p.0.order)))
+    (λ w. omega (arith, ap length w.1, p.1.low-size, table_fits p.0.order)) c.if-shaped.branch
+
+high_room : (c : Joined1) → let n = c.args.n in n * n ≤ length c.if-shaped.high
+high_room c =
+    let p = c.requires in
+    ⊎_elim (λ w. rw (w.5, w.3.ensures.1) (omega (arith, high-size (offer c.before w.0.taken), table_fits p.0.order)))
+    (λ w. omega (arith, ap length w.2, p.1.high-size, table_fits p.0.order)) c.if-shaped.branch
+
+pub turn-requires : goal.turn-requires
+unfolding tabled
+turn-requires c = offer c.before.before.before c.if-shaped.true
+
+pub copy_numbers-requires : goal.copy_numbers-requires
+unfolding tabled
+copy_numbers-requires c = (omega (arith, few c, low_room c), omega (arith, few c, c.requires.3))
+
+pub copy_numbers-requires-2 : goal.copy_numbers-requires-2
+unfolding tabled
+copy_numbers-requires-2 c = (omega (arith, few c, high_room c), omega (arith, few c, c.requires.4))
+
+pub returns-then-shaped-2 : goal.returns-then-shaped-2
+unfolding tabled
+returns-then-shaped-2 c =
+    rw (c.copy_numbers.ensures ∙ low_full c c.if-shaped-2.true, c.copy_numbers-2.ensures ∙ high_full c c.if-shaped-2.true)
+    (after-passed (kept _ _) _ (first_passes _ _ (sym c.factor_shape-shaped.ensures ∙ c.if-shaped-2.true) ∙ first-none))
+
+pub returns-else-shaped-2 : goal.returns-else-shaped-2
+unfolding tabled
+returns-else-shaped-2 c =
+    rw (c.copy_numbers.ensures, c.copy_numbers-2.ensures, none c c.if-shaped-2.false)
+    (after-refused (kept _ _) _ _ (first-refuses _ _ (sym c.factor_shape-shaped.ensures ∙ c.if-shaped-2.false)))

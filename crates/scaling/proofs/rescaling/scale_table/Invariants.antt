@@ -1,0 +1,18 @@
+-- The loop's invariant: the rows before i are scaled.
+use mathlib.Core.Path.{◌≡◌, refl, sym, ◌∙◌}
+use mathlib.Core.Bool.{false, false≢true}
+use Prim.Native.Nat.{suc, ◌+◌, ◌*◌, ◌-◌, ◌≤◌}
+use native.Mathlib.Omega.{arith}
+use lib.ListN.{length}
+use Rattle.tables.specs.Ranges.{table_room}
+use Rattle.tables.specs.Matrix.{at}
+use Rattle.tables.proofs.Checks.{call_true, call_false}
+use Rattle.scaling.specs.Scratch.{scale_in, Part}
+use Rattle.scaling.proofs.Parts.{part_none, part_join, part_range, row_leaves, all_stay}
+use Rattle.scaling.proofs.rescaling.scale_table.Given as goal
+
+abbrev pub invariant-loop-i : goal.invariant-loop-i
+invariant-loop-i l = (l.i ≤ l.n) × (length l.t ≡ table_room) × Part l.n (scale_in l.x) (at l.n l.initial.t) 0 (l.i * l.n) l.t
+
+abbrev pub decreases-loop-i : goal.decreases-loop-i
+decreases-loop-i l = l.n - l.i

@@ -1,0 +1,23 @@
+-- The loop's invariant: Y(i) is filled in for each i passed.
+use mathlib.Core.Path.{◌≡◌, ◌∙◌}
+use Prim.Native.Nat.{◌-◌, ◌≤◌}
+use native.Mathlib.Omega.{arith}
+use native.Mathlib.Numerals.{add-one}
+use lib.IntN.{◌+ℤ◌}
+use mir.Syntax.{w64}
+use mir.Val.{to_z, of_z}
+use Rattle.integers.specs.Division.{ceil_div}
+use Rattle.integers.specs.Root.{least_root}
+use Rattle.integers.proofs.Machine.{clean, clean_element, clean_result}
+use Rattle.tables.specs.Ranges.{greatest_order}
+use Rattle.tables.specs.Matrix.{nth}
+use Rattle.tables.specs.Buffers.{Filled}
+use Rattle.tables.proofs.Buffers.{filled_none, filled_more}
+use Rattle.sides.proofs.HalfSides.{gradient_numerator, half_fits}
+use Rattle.sides.proofs.first_halves.Given as goal
+
+abbrev pub invariant-loop-k : goal.invariant-loop-k
+invariant-loop-k l = (l.k ≤ l.n) × Filled greatest_order l.k (λ i. ceil_div (nth l.g i) (to_z w64 l.t) +ℤ least_root (to_z w64 l.t) (to_z w64 l.b)) l.y
+
+abbrev pub decreases-loop-k : goal.decreases-loop-k
+decreases-loop-k l = l.n - l.k

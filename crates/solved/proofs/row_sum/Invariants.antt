@@ -1,0 +1,18 @@
+-- The loop's invariant: s is the sum over the k passed.
+use mathlib.Core.Path.{◌≡◌, ◌∙◌}
+use Prim.Native.Nat.{suc, ◌-◌, ◌≤◌, ◌<◌}
+use native.Mathlib.Omega.{arith}
+use native.Mathlib.Numerals.{add-one}
+use mir.Syntax.{w64}
+use mir.Val.{to_z}
+use Rattle.integers.proofs.Machine.{clean, clean_element}
+use Rattle.cholesky.specs.Store.{upper}
+use Rattle.solved.specs.Stopped.{row_sum}
+use Rattle.solved.proofs.Sizes.{row-sum-none, row-sum_suc, product_fits, next_fits}
+use Rattle.solved.proofs.row_sum.Given as goal
+
+abbrev pub invariant-loop-k : goal.invariant-loop-k
+invariant-loop-k l = (l.i < l.k) × (l.k ≤ suc l.j) × (to_z w64 l.s ≡ row_sum l.t l.x l.i l.k)
+
+abbrev pub decreases-loop-k : goal.decreases-loop-k
+decreases-loop-k l = suc l.j - l.k

@@ -1,0 +1,29 @@
+use mathlib.Core.Path.{refl, sym, ◌∙◌}
+use borrow.Author.Rules.{rules}
+use Rattle.integers.proofs.Machine.{clean_element, lt_holds, lt_fails}
+use Rattle.cholesky.specs.Store.{upper}
+use Rattle.cholesky.proofs.Filling.{checked_lent, scaled_factorable}
+use Rattle.steps.proofs.Walked.{ends_is, none-ends}
+use Rattle.steps.proofs.ends.Goals as goal
+
+pub scale-requires : goal.scale-requires
+unfolding upper
+scale-requires c = (checked_lent c.requires.0, refl)
+
+pub returns-then-h-lt1 : goal.returns-then-h-lt1
+unfolding upper
+returns-then-h-lt1 c =
+    let p = c.requires in
+    sym (none-ends _ _ p.1 (lt_holds (rw (clean_element _ c.t9-1.given) at c.if-h-lt1.true))) ∙ ends_is p.0.bounds p.0.order c.scale.ensures
+
+pub ends_from-requires : goal.ends_from-requires
+unfolding upper
+ends_from-requires c =
+    let p = c.requires in
+    (scaled_factorable p.0.bounds p.0.order c.scale.ensures, p.1, lt_fails (rw (clean_element _ c.t9-1.given) at c.if-h-lt1.false))
+
+pub returns : goal.returns
+unfolding upper
+returns c =
+    let p = c.requires in
+    rw c.ends_from.ensures (ends_is p.0.bounds p.0.order c.scale.ensures)

@@ -1,0 +1,16 @@
+use mathlib.Core.Path.{refl, ◌∙◌}
+use Rattle.integers.proofs.Machine.{clean_result}
+use Rattle.cholesky.proofs.Filling.{checked_lent}
+use Rattle.steps.proofs.Walked.{scaled_triable, step_is}
+use Rattle.steps.proofs.step.Goals as goal
+
+pub scale-requires : goal.scale-requires
+scale-requires c = (checked_lent c.requires, refl)
+
+pub search-requires : goal.search-requires
+search-requires c = let p = c.requires in scaled_triable p.bounds p.order c.scale.ensures
+
+pub returns : goal.returns
+returns c =
+    let p = c.requires in
+    clean_result c.search ∙ c.search.ensures ∙ step_is p.bounds p.order c.scale.ensures

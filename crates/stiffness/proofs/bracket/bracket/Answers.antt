@@ -1,0 +1,93 @@
+use mathlib.Core.Path.{◌≡◌, refl, sym, ap, ◌∙◌}
+use mathlib.Core.Bool.{Bool, true}
+use Prim.Native.Nat.{◌*◌}
+use native.Mathlib.Omega.{arith}
+use borrow.Author.Rules.{rules}
+use lib.ListN.{length}
+use Rattle.integers.proofs.Machine.{clean}
+use Rattle.tables.specs.Checks.{order_of, sizes_ok}
+use Rattle.tables.specs.Entering.{Entered}
+use Rattle.tables.proofs.Answers.{exactly}
+use Rattle.tables.proofs.Checks.{sizes-of}
+use Rattle.tables.proofs.Admission.{order_fits, order-positive, no-order, came-through, entered-refused, entered-passed}
+use Rattle.stiffness.specs.Bracket.{Bracketing, refused, Bracketed, written, bracketing, bracket, Meaning}
+use Rattle.stiffness.proofs.Meanings.{bracketing-means}
+use Rattle.stiffness.proofs.bracket.bracket.Lts as lts
+use Rattle.stiffness.proofs.bracket.bracket.Tie as tie
+use Rattle.stiffness.proofs.bracket.bracket.Reads as reads
+use Rattle.stiffness.proofs.bracket.bracket.Goals as goal
+
+abbrev After-enter : Type 0
+After-enter = lts.After-enter tie.the-claims reads.Pre reads.Post
+
+abbrev After-order_of : Type 0
+After-order_of = lts.After-order_of tie.the-claims reads.Pre reads.Post
+
+abbrev After-sizes_ok : Type 0
+After-sizes_ok = lts.After-sizes_ok tie.the-claims reads.Pre reads.Post
+
+abbrev Start : Type 0
+Start = lts.Start tie.the-claims reads.Pre reads.Post
+
+order : (c : After-order_of) → c.order_of-m.result ≡ order_of c.args.n
+order c = rw (clean c.ranges.n) at c.order_of-m.ensures
+
+-- what check 2 finds
+abbrev sizes : Start → Bool
+sizes s =
+    let a = s.args in
+    let k = order_of a.n in
+    sizes_ok (k * k) k (length a.low.now) (length a.high.now) (length a.vector.now)
+
+sized : (c : After-sizes_ok) → c.sizes_ok-sized.result ≡ sizes c.before.before.before
+sized c = rw (order c.before.before) at c.sizes_ok-sized.ensures
+
+-- the door, with what it found
+came : (c : After-enter) → let a = c.args in
+    Entered a.n (sizes c.before.before.before.before.before.before) true a.low.now a.high.now c.enter-checked.result c.enter-checked.new.l c.enter-checked.new.u
+came c = rw (clean c.ranges.n, sized c.before.before.before) at c.enter-checked.ensures
+
+-- what an answer means
+abbrev means : Start → Bracketed → Type 0
+means s j = let a = s.args in Meaning a.n a.low.now a.high.now j.stiffness j.vector
+
+shown : (s : Start) → let a = s.args in means s (bracket a.n a.low.now a.high.now a.vector.now)
+unfolding bracket
+shown s = let a = s.args in bracketing-means a.n _ a.low.now a.high.now a.vector.now
+
+-- the buffer with it
+abbrev given : Start → Bracketing → Bracketed
+given s g = written g s.args.vector.now
+
+pub returns-then-m-eq0 : goal.returns-then-m-eq0
+unfolding bracket bracketing
+returns-then-m-eq0 c = exactly (means c) (shown c) _ (ap (given c) (no-order _ _ _ _ _ refused _ (sym (order c.before) ∙ c.if-m-eq0.true)))
+
+pub overflow_mul-m : goal.overflow_mul-m
+unfolding bracket bracketing
+overflow_mul-m c = record { fits = omega (arith, order_fits _ (order c.before)) }
+
+pub enter-checked-requires : goal.enter-checked-requires
+unfolding bracket bracketing
+enter-checked-requires c =
+    ((λ s. rw (clean c.ranges.n) (let z = sizes-of _ _ _ _ _ (sym (sized c) ∙ s) in (z.0, z.1))), refl, refl)
+
+pub returns-in-Refused : goal.returns-in-Refused
+unfolding bracket bracketing
+returns-in-Refused c =
+    exactly (means c) (shown c) _ (ap (given c) (entered-refused _ _ _ _ _ refused _ (came c) c.in-Refused.is))
+
+pub bracket_bounds-requires : goal.bracket_bounds-requires
+unfolding bracket bracketing
+bracket_bounds-requires c =
+    let q = c.in_default.is in
+    let b = came-through _ _ _ _ _ (came c) q in
+    rw (order c.before.before.before.before.before.before.before) (((came c).held q).tables, order-positive _ b.ordered, (sizes-of _ _ _ _ _ b.sizes).2)
+
+pub returns : goal.returns
+unfolding bracket bracketing
+returns c =
+    let q = c.in_default.is in
+    let h = (came c).held q in
+    exactly (means c) (shown c) _
+    ((rw (order c.before.before.before.before.before.before.before, h.low, h.high) at c.bracket_bounds.ensures) ∙ ap (given c) (entered-passed _ _ _ _ _ refused _ (came c) q))

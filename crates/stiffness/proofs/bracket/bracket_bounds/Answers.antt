@@ -1,0 +1,11 @@
+use mathlib.Core.Path.{◌∙◌}
+use native.Mathlib.Omega.{arith}
+use borrow.Author.Rules.{rules}
+use Rattle.tables.proofs.Buffers.{copied-whole}
+use Rattle.stiffness.proofs.Stating.{stated-written}
+use Rattle.stiffness.proofs.bracket.bracket_bounds.Goals as goal
+
+pub returns : goal.returns
+returns c =
+    let g = c.find-found.ensures in
+    rw (c.copy_numbers.ensures ∙ copied-whole _ _ (omega (arith, c.requires.0.order, g.size)) c.requires.2) (stated-written _ _ _ g _)

@@ -1,0 +1,22 @@
+-- The loop's invariant: the first k fields have the lengths called for. The measure is how many are left.
+use mathlib.Core.Path.{◌≡◌, sym, ap, ◌∙◌}
+use mathlib.Core.Bool.{true}
+use mathlib.Core.List.{List}
+use Prim.Native.Nat.{ℕ, ◌-◌, ◌≤◌}
+use native.Mathlib.Omega.{arith}
+use borrow.Author.Rules.{rules}
+use borrow.Author.Tests.{eq-eqb, ne_eqb}
+use lib.Dec.{eqb}
+use lib.ListN.{get_or}
+use Rattle.tables.specs.Checks.{all}
+use Rattle.tables.proofs.Checks.{all_none, all_more, all_false}
+use Rattle.fields.specs.declared.layout.Layout.{Layout}
+use Rattle.fields.specs.Fields.{kind_count}
+use Rattle.summary.specs.Problems.{lengths_for, lengths_ok}
+use Rattle.summary.proofs.problem.lengths_ok.Given as goal
+
+abbrev pub invariant-loop-k : goal.invariant-loop-k
+invariant-loop-k l = (l.k ≤ kind_count) × (all l.k (λ i. eqb (get_or l.lengths i 0) (get_or l.called i 0)) ≡ true)
+
+abbrev pub decreases-loop-k : goal.decreases-loop-k
+decreases-loop-k l = kind_count - l.k

@@ -1,0 +1,36 @@
+use mathlib.Core.Path.{◌≡◌, refl, ap, ◌∙◌}
+use Prim.Native.Nat.{◌-◌, ◌≤◌}
+use native.Mathlib.Omega.{arith}
+use native.Mathlib.Numerals.{add-one}
+use lib.ListN.{length}
+use Rattle.integers.proofs.Machine.{clean_result, within_more}
+use Rattle.integers.proofs.Parts.{≤_in}
+use Rattle.tables.specs.Matrix.{nth}
+use Rattle.sums.specs.Halving.{half_up}
+use Rattle.sums.proofs.InPlace.{Replaced, replaced_none, replaced_more, read_next}
+use Rattle.sums.proofs.halving.halve_up.Goals as goal
+
+pub loop-k-init : goal.loop-k-init
+loop-k-init c = (omega arith, replaced_none refl)
+
+pub ceil_div-requires : goal.ceil_div-requires
+ceil_div-requires c = (
+  rw (read_next _ c.ceil_div-arg-1.given c.loop-k.invariant.1) (within_more (omega arith) (c.requires.small c.loop-k.k c.loop-k-test.true)),
+  ≤_in (omega arith),
+)
+
+pub loop-k-preserved : goal.loop-k-preserved
+loop-k-preserved c = (
+  omega arith,
+  rw add-one
+      (replaced_more (omega arith) (clean_result c.ceil_div ∙ c.ceil_div.ensures ∙ ap half_up (read_next _ c.ceil_div-arg-1.given c.loop-k.invariant.1))
+      c.loop-k.invariant.1),
+)
+
+pub shape_of-x : goal.shape_of-x
+shape_of-x c = c.loop-k.invariant.1.front.size
+
+pub returns : goal.returns
+returns c =
+    let e : c.loop-k.k ≡ c.args.count = omega arith in
+    rw e at c.loop-k.invariant.1.front

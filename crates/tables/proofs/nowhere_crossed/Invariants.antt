@@ -1,0 +1,15 @@
+-- The loop's invariant: none of the first k numbers of low is above that of high. The measure is how many are left.
+use mathlib.Core.Path.{◌≡◌, sym}
+use mathlib.Core.Bool.{true}
+use Prim.Native.Nat.{◌-◌, ◌≤◌}
+use native.Mathlib.Omega.{arith}
+use Rattle.tables.specs.Matrix.{nth}
+use Rattle.tables.specs.Checks.{nowhere_crossed}
+use Rattle.tables.proofs.Checks.{all_none, all_more, all_false, read_less, read_not_less}
+use Rattle.tables.proofs.nowhere_crossed.Given as goal
+
+abbrev pub invariant-loop-k : goal.invariant-loop-k
+invariant-loop-k l = (l.k ≤ l.count) × (nowhere_crossed l.k l.low l.high ≡ true)
+
+abbrev pub decreases-loop-k : goal.decreases-loop-k
+decreases-loop-k l = l.count - l.k

@@ -1,0 +1,46 @@
+use mathlib.Core.Path.{◌≡◌, sym}
+use mathlib.Core.Bool.{Bool, true}
+use Prim.Native.Nat.{◌-◌, ◌≤◌}
+use native.Mathlib.Omega.{arith}
+use Rattle.tables.specs.Checks.{all}
+use Rattle.tables.specs.Pairs.{row_bounded, tables_bounded}
+use Rattle.tables.proofs.Checks.{all_none, all_more, all_false, call_false, call_true}
+use Rattle.tables.proofs.tables_bounded.Lts as lts
+use Rattle.tables.proofs.tables_bounded.Tie as tie
+use Rattle.tables.proofs.tables_bounded.Reads as reads
+use Rattle.tables.proofs.tables_bounded.Goals as goal
+
+abbrev At-loop : Type 0
+At-loop = lts.At-loop tie.the-claims reads.Pre reads.Post goal.the-invariant-loop-i goal.the-decreases-loop-i
+
+-- what row i gives
+abbrev row : At-loop → Bool
+row c = let a = c.args in row_bounded a.n a.even a.low.now a.high.now c.loop-i.i
+
+pub loop-i-init : goal.loop-i-init
+unfolding tables_bounded
+loop-i-init c = -- what `row_bounded` requires c
+
+pub returns-then-not-row_bounded : goal.returns-then-not-row_bounded
+unfolding tables_bounded
+returns-then-not-row_bounded c = -- return false c
+
+pub overflow_add-i : goal.overflow_add-i
+unfolding tables_bounded
+overflow_add-i c =
+    let l = c.loop-i in
+    sym (all_false _ _ l.i c.loop-i-test.true (call_false {t = row c.before.before.before} c.row_bounded.ensures c.if-not-row_bounded.true-raw))
+
+pub loop-i-smaller : goal.loop-i-smaller
+unfolding tables_bounded
+loop-i-smaller c = -- i + 1, the measure, the invariant again c
+
+pub loop-i-preserved : goal.loop-i-preserved
+unfolding tables_bounded
+loop-i-preserved c = -- return true c
+
+pub returns : goal.returns
+unfolding tables_bounded
+returns c =
+    let e : c.loop-i.i ≡ c.args.n = omega arith in
+    sym (rw e at c.loop-i.invariant.1)

@@ -1,0 +1,18 @@
+use mathlib.Core.Path.{◌≡◌, refl, ◌∙◌}
+use Prim.Native.Nat.{◌+◌, ◌-◌, ◌*◌, ◌≤◌, ◌<◌}
+use native.Mathlib.Nat.{suc-mul}
+use native.Mathlib.Numerals.{add-one}
+use native.Mathlib.Omega.{arith}
+use lib.ListN.{length}
+use Rattle.tables.specs.Matrix.{nth}
+use Rattle.text.specs.Putting.{Put}
+use Rattle.text.specs.Text.{line, lines, line_room}
+use Rattle.text.proofs.Puts.{put_nothing, put-within, put_then, one_more}
+use Rattle.text.proofs.put_lines.Given as goal
+
+abbrev pub invariant-loop-i : goal.invariant-loop-i
+invariant-loop-i l =
+    (l.i ≤ l.count) × (length l.out ≡ length l.initial.out) × Put l.initial.out l.at (lines l.word l.x l.width l.i) (l.i * line_room (length l.word) l.width) l.next l.out
+
+abbrev pub decreases-loop-i : goal.decreases-loop-i
+decreases-loop-i l = l.count - l.i

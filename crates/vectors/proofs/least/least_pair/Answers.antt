@@ -1,0 +1,26 @@
+use mathlib.Core.Path.{◌∙◌}
+use borrow.Author.Rules.{rules}
+use Rattle.integers.proofs.Machine.{clean, clean_element, clean_result}
+use Rattle.tables.specs.Matrix.{nth}
+use Rattle.vectors.specs.LeastShares.{least_pair}
+use Rattle.tables.proofs.CheckedTables.{low-within, high-within}
+use Rattle.vectors.proofs.Values.{product_within, product_fits}
+use Rattle.vectors.proofs.least.least_pair.Goals as goal
+
+pub overflow_mul-x : goal.overflow_mul-x
+overflow_mul-x c =
+    let p = c.requires in
+    rw (clean_element (nth c.args.x.now c.args.i) c.least_term-arg-1.given, clean_element _ c.least_term-arg-2-1.given) (product_fits p.0 p.1 p.2)
+
+pub least_term-requires : goal.least_term-requires
+unfolding least_pair
+least_term-requires c =
+    let p = c.requires in
+    rw (clean_result c.entry-l, clean_result c.entry-u, c.entry-l.ensures, c.entry-u.ensures, clean (overflow_mul-x c), clean_element (nth c.args.x.now c.args.i) c.least_term-arg-1.given, clean_element _ c.least_term-arg-2-1.given)
+    (low-within p.0.tables p.1 p.2, high-within p.0.tables p.1 p.2, product_within p.0 p.1 p.2)
+
+pub returns : goal.returns
+unfolding least_pair
+returns c =
+    clean_result c.least_term ∙ c.least_term.ensures
+    ∙ rw (clean_result c.entry-l, clean_result c.entry-u, c.entry-l.ensures, c.entry-u.ensures, clean (overflow_mul-x c), clean_element (nth c.args.x.now c.args.i) c.least_term-arg-1.given, clean_element _ c.least_term-arg-2-1.given)

@@ -1,0 +1,51 @@
+-- The factoring, and where it stops the listed vectors.
+use mathlib.Core.Path.{◌≡◌, refl, sym, ap}
+use mathlib.Core.Bool.{Bool, true, false}
+use mathlib.Core.List.{List}
+use borrow.Author.Rules.{rules}
+use lib.IntN.{ℤ}
+use Rattle.integers.proofs.Machine.{clean_result}
+use Rattle.solved.proofs.Stops.{stopped_ready}
+use Rattle.verdict.specs.Deciding.{stated, shown_verdict, left_by}
+use Rattle.verdict.specs.declared.judge.Verdict.{Verdict}
+use Rattle.verdict.proofs.Decisions.{decided_shown}
+use Rattle.verdict.proofs.judge.decide.Goals as goal
+
+-- a factoring that stopped leaves the lent numbers as they were
+shown-left : (b : Bool) (f₀ f : List ℤ) {r : Verdict} → r ≡ shown_verdict b → left_by r f₀ f ≡ f₀
+unfolding shown_verdict left_by
+shown-left true f₀ f e = ap (λ (r : Verdict). left_by r f₀ f) e
+shown-left false f₀ f e = ap (λ (r : Verdict). left_by r f₀ f) e
+
+pub certify-requires : goal.certify-requires
+unfolding stated left_by
+certify-requires c =
+    let p = c.requires in
+    (p.0, p.1, p.2, rw c.in-Ends.is at c.factor_tables-outcome.ensures, p.3)
+
+pub first_listed-requires : goal.first_listed-requires
+unfolding stated left_by
+first_listed-requires c =
+    let p = c.requires in
+    (p.0, stopped_ready p.0.bounds p.0.order (rw c.in-Stops.is at c.factor_tables-outcome.ensures), p.4)
+
+pub returns-in-Ends : goal.returns-in-Ends
+unfolding stated left_by
+returns-in-Ends c =
+    record {
+      verdict = rw (clean_result c.certify) c.certify.ensures;
+      left = refl;
+      room = c.certify.auto.1.1.1.1.0;
+      size = c.requires.4;
+    }
+
+pub returns-in-Stops : goal.returns-in-Stops
+unfolding stated left_by
+returns-in-Stops c =
+    let f = c.first_listed.ensures in
+    record {
+      verdict = decided_shown _ _ _ _ _ _ (rw c.in-Stops.is at c.factor_tables-outcome.ensures) f c.shown.ensures;
+      left = sym (shown-left _ _ _ c.shown.ensures);
+      room = refl;
+      size = f.size;
+    }

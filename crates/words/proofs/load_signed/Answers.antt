@@ -1,0 +1,38 @@
+use mathlib.Core.Path.{◌≡◌, ap, ◌∙◌}
+use Prim.Native.Nat.{ℕ}
+use native.Mathlib.Omega.{arith}
+use borrow.Author.Rules.{sfits_of}
+use mir.Syntax.{w64}
+use mir.Val.{to_z, bytes}
+use mir.Facts.{to_z-of_z}
+use Rattle.words.specs.Numbers.{width_of, unsigned_at, signed_at}
+use Rattle.words.proofs.Laws.{unsigned_at_fits}
+use Rattle.words.proofs.Sign.{narrow-of}
+use Rattle.words.proofs.load_signed.Lts as lts
+use Rattle.words.proofs.load_signed.Tie as tie
+use Rattle.words.proofs.load_signed.Reads as reads
+use Rattle.words.proofs.load_signed.Goals as goal
+
+abbrev After-load_unsigned : Type 0
+After-load_unsigned = lts.After-load_unsigned tie.the-claims reads.Pre reads.Post
+
+read : (c : After-load_unsigned)
+    → c.Load-unsigned.result ≡ unsigned_at (bytes (width_of c.args.size)) c.args.b.now c.args.at
+read c =
+    let a = c.args in
+    c.Load-unsigned.ensures ∙ ap (λ (n : ℕ). unsigned_at n a.b.now a.at) c.requires.0
+
+pub load_unsigned-requires : goal.load_unsigned-requires
+unfolding signed_at
+load_unsigned-requires c = omega (arith, narrow-of c.args.size)
+
+pub signed_of-requires : goal.signed_of-requires
+unfolding signed_at
+signed_of-requires c =
+    let a = c.args in
+    rw (read c) (unsigned_at_fits (width_of a.size) a.b.now a.at (record { each = λ j. omega (arith, c.shared_slice_known-1.given j) }))
+
+pub returns : goal.returns
+unfolding signed_at
+returns c =
+    to_z-of_z {w = w64} (sfits_of c.Signed-of.type-inv) ∙ c.Signed-of.ensures ∙ ap (to_z (width_of c.args.size)) (read c.before)
