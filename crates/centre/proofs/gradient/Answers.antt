@@ -54,8 +54,8 @@ overflow_add-greatest c =
     let p = c.requires in
     rw (next-greatest c, c.loop-j.invariant.2) (picked_fits p.0 p.1 max_ℤ (λ x y v w. within_max v w) c.loop-j-test.true)
 
-pub loop-j-smaller : goal.loop-j-smaller
-loop-j-smaller c =
+pub loop-j-preserved : goal.loop-j-preserved
+loop-j-preserved c =
     let l = c.loop-j in (
       omega arith,
       clean (overflow_add-least c.before) ∙ rw (next-least c.before, l.invariant.1, add-one) (sym (sum_suc l.j _)),
@@ -97,10 +97,6 @@ product-l-requires c = let p = c.requires in low_factors p.0 p.1 c.loop-j-test.t
 pub product-u-requires : goal.product-u-requires
 unfolding gradient low_gradient high_gradient
 product-u-requires c = let p = c.requires in high_factors p.0 p.1 c.loop-j-test.true
-
-pub loop-j-preserved : goal.loop-j-preserved
-unfolding gradient low_gradient high_gradient
-loop-j-preserved c = -- a[k], b[k] c
 
 pub offset_bounds-a-k : goal.offset_bounds-a-k
 unfolding gradient low_gradient high_gradient

@@ -13,13 +13,13 @@ use Rattle.tables.proofs.Checks.{all_none, all_more, all_false}
 use Rattle.centre.proofs.near.Goals as goal
 
 pub loop-k-init : goal.loop-k-init
-loop-k-init c = let p = c.requires in omega arith
+loop-k-init c = (omega arith, all_none _)
 
 pub offset_bounds-g-k : goal.offset_bounds-g-k
 offset_bounds-g-k c = let p = c.requires in omega arith
 
 pub bounds-g-k : goal.bounds-g-k
-bounds-g-k c = -- return false c
+bounds-g-k c = let p = c.requires in omega arith
 
 pub returns-then-g-k-gt-GRADIENT_RANGE : goal.returns-then-g-k-gt-GRADIENT_RANGE
 returns-then-g-k-gt-GRADIENT_RANGE c =
@@ -28,20 +28,14 @@ returns-then-g-k-gt-GRADIENT_RANGE c =
     sym (all_false _ c.args.n l.k (omega arith)
     (le_z_false {x = x} {y = pos gradient_range} (lt_yes {x = pos gradient_range} {y = x} (fits_literal tt) (record { sfits = c.t8-1.given }) c.if-g-k-gt-GRADIENT_RANGE.true)))
 
-pub overflow_add-k : goal.overflow_add-k
-overflow_add-k c = -- k + 1, the measure, the invariant again c
-
-pub loop-k-smaller : goal.loop-k-smaller
-loop-k-smaller c =
+pub loop-k-preserved : goal.loop-k-preserved
+loop-k-preserved c =
     let l = c.loop-k in
     let x = nth c.args.g.now l.k in (
       omega arith,
       all_more _ l.k l.invariant.1
           (le_z_true {x = x} {y = pos gradient_range} (lt_no {x = pos gradient_range} {y = x} (fits_literal tt) (record { sfits = c.t8-1.given }) c.if-g-k-gt-GRADIENT_RANGE.false)),
     )
-
-pub loop-k-preserved : goal.loop-k-preserved
-loop-k-preserved c = -- return true c
 
 pub returns : goal.returns
 returns c = let e : c.loop-k.k ≡ c.args.n = omega arith in sym (rw e at c.loop-k.invariant.1)

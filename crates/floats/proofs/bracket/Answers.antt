@@ -27,7 +27,7 @@ passed : (c : Then1) → in_range (x c.before.before) ≡ true
 passed c = sym c.in_range.ensures ∙ c.if-in_range.true
 
 exact : (c : Then1) → Sixteenfold (x c.before.before) (mul binary32 (x c.before.before) sixteen)
-exact c = nothing_lost (x c) (passes _ c.well-formed.0.1) (subst T (sym (passed c)) tt)
+exact c = nothing_lost (x c) (passes _ c.well_formed.0.1) (subst T (sym (passed c)) tt)
 
 pub next_to-requires : goal.next_to-requires
 unfolding of_bits

@@ -21,7 +21,7 @@ abbrev bits : Start → ℕ
 bits s = to_bits binary32 s.args.p
 
 fits_32 : (s : Start) → T (fits binary32 s.args.p)
-fits_32 s = passes _ s.well-formed.0.1
+fits_32 s = passes _ s.well_formed.0.1
 
 exponent_small : (s : Start) → exponent (bits s) ≤ 134
 exponent_small s = exponent-bounded s.args.p (fits_32 s) s.requires

@@ -55,9 +55,9 @@ bound-no c =
 -- the Y(k)
 filled : (c : After-first_halves) →
     let a = c.args in
-    Filled greatest_order a.n (λ k. ceil_div (nth a.g.now k) a.t +ℤ least_root a.t (bound a.n a.d a.t (nth a.g.now))) c.first_Halves.new.1.1.1.1.0
+    Filled greatest_order a.n (λ k. ceil_div (nth a.g.now k) a.t +ℤ least_root a.t (bound a.n a.d a.t (nth a.g.now))) c.first_halves.new.y
 filled c =
-    rw (clean_result c.bound-b, bound_is c, clean c.ranges.t) at c.first_Halves.ensures
+    rw (clean_result c.bound-b, bound_is c, clean c.ranges.t) at c.first_halves.ensures
 
 -- B2
 second-bound_is : (c : After-second_bound) →

@@ -38,11 +38,13 @@ half c =
 module _ (c : After-x) where
   abbrev x : ℤ
   x = to_z w64 (of_z w64 (nth c.args.c.now c.loop-k.k))
+
   abbrev h : ℤ
   h =
       let a = c.args in
       let k = c.loop-k.k in
       smaller_half (nth a.y.now k) (nth a.tk.now k) a.b
+
   sizes : Both (neg_ℤ (pos centre_range) ≤ℤ x) (Both (x ≤ℤ pos centre_range) (Both (neg_ℤ (pos half_range) ≤ℤ h) (h ≤ℤ pos half_range)))
   sizes =
       let q = c.requires.0 in
@@ -61,7 +63,7 @@ overflow_add-high c =
     (order (x c ∷ h c ∷ []) (sizes c) (search solver depth 40 fits 20000) (omega arith))) (omega arith))
 
 pub loop-k-init : goal.loop-k-init
-loop-k-init c = -- y[k], tk[k], and what `half_side` requires c
+loop-k-init c = (omega arith, sides_none c.requires.1)
 
 pub offset_bounds-y-k : goal.offset_bounds-y-k
 offset_bounds-y-k c = let order = c.requires.0.order in omega arith
@@ -79,10 +81,10 @@ pub half_side-h-requires : goal.half_side-h-requires
 half_side-h-requires c = rw (clean c.ranges.b) c.requires.0.bound
 
 pub offset_bounds-c-k : goal.offset_bounds-c-k
-offset_bounds-c-k c = let size = c.requires.0.centre-length in omega arith
+offset_bounds-c-k c = let order = c.requires.0.order in omega arith
 
 pub bounds-c-k : goal.bounds-c-k
-bounds-c-k c = -- the two ends and their stores c
+bounds-c-k c = let size = c.requires.0.centre-length in omega arith
 
 pub overflow_mul-low : goal.overflow_mul-low
 overflow_mul-low c = let order = c.requires.0.order in omega arith
@@ -106,10 +108,7 @@ pub bounds-out-k-in-loop-k : goal.bounds-out-k-in-loop-k
 bounds-out-k-in-loop-k c = let order = c.requires.0.order in omega arith
 
 pub overflow_add-k : goal.overflow_add-k
-overflow_add-k c = -- k + 1, the measure, the invariant again c
-
-pub loop-k-smaller : goal.loop-k-smaller
-loop-k-smaller c = let order = c.requires.0.order in omega arith
+overflow_add-k c = let order = c.requires.0.order in omega arith
 
 pub loop-k-preserved : goal.loop-k-preserved
 loop-k-preserved c =

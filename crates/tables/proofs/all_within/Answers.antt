@@ -14,15 +14,7 @@ use Rattle.tables.proofs.all_within.Goals as goal
 
 pub loop-k-init : goal.loop-k-init
 unfolding all_within
-loop-k-init c = -- the loop begins c
-
-pub offset_bounds-x-k : goal.offset_bounds-x-k
-unfolding all_within
-offset_bounds-x-k c = (omega arith, all_none _)
-
-pub bounds-x-k : goal.bounds-x-k
-unfolding all_within
-bounds-x-k c = -- x[k], and what `within` requires c
+loop-k-init c = (omega arith, all_none _)
 
 pub within-requires : goal.within-requires
 unfolding all_within
@@ -32,25 +24,17 @@ pub returns-then-not-within : goal.returns-then-not-within
 unfolding all_within
 returns-then-not-within c =
     let l = c.loop-k in
-    let x = clean_element (nth c.args.x.now l.k) c.Within-arg.given in
+    let x = clean_element (nth c.args.x.now l.k) c.within-arg-1.given in
     let t = not-true c.within.result c.if-not-within.true-raw in
     rw (← clean c.ranges.bound) (sym (all_false _ c.args.count l.k (omega arith) (cc (x, t))))
 
-pub overflow_add-k : goal.overflow_add-k
-unfolding all_within
-overflow_add-k c = -- k + 1, the measure, the invariant again c
-
-pub loop-k-smaller : goal.loop-k-smaller
-unfolding all_within
-loop-k-smaller c =
-    let l = c.loop-k in
-    let x = clean_element (nth c.args.x.now l.k) c.Within-arg.given in
-    let t = not-false c.within.result c.if-not-within.false-raw in
-    (omega arith, all_more _ l.k l.invariant.1 (cc (x, t)))
-
 pub loop-k-preserved : goal.loop-k-preserved
 unfolding all_within
-loop-k-preserved c = -- return true c
+loop-k-preserved c =
+    let l = c.loop-k in
+    let x = clean_element (nth c.args.x.now l.k) c.within-arg-1.given in
+    let t = not-false c.within.result c.if-not-within.false-raw in
+    (omega arith, all_more _ l.k l.invariant.1 (cc (x, t)))
 
 pub returns : goal.returns
 unfolding all_within

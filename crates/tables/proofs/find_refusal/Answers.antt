@@ -5,19 +5,15 @@ use Rattle.tables.specs.Checks.{check_lopsided, bounds_checks}
 use Rattle.tables.proofs.Checks.{false_of, call_false, call_true, first_passes, first-refuses, first-none, passed-bounded}
 use Rattle.tables.proofs.find_refusal.Goals as goal
 
-pub overflow_mul-count : goal.overflow_mul-count
-unfolding bounds_checks
-overflow_mul-count c = -- range c
-
 pub returns-then-not-entries : goal.returns-then-not-entries
 unfolding bounds_checks
-returns-then-not-entries c =
-    sym (first_passes _ _ (call_true c.entries_within-entries.ensures c.if-not-entries.false-raw)
-    ∙ first-refuses _ _ (call_false c.nowhere_crossed-ordered.ensures c.if-not-ordered.true-raw))
+returns-then-not-entries c = sym (first-refuses _ _ (call_false c.entries_within-entries.ensures c.if-not-entries.true-raw))
 
 pub returns-then-not-ordered : goal.returns-then-not-ordered
 unfolding bounds_checks
-returns-then-not-ordered c = -- lopsided: with 5 all would pass c
+returns-then-not-ordered c =
+    sym (first_passes _ _ (call_true c.entries_within-entries.ensures c.if-not-entries.false-raw)
+    ∙ first-refuses _ _ (call_false c.nowhere_crossed-ordered.ensures c.if-not-ordered.true-raw))
 
 pub returns : goal.returns
 unfolding bounds_checks

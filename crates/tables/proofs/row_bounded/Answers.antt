@@ -29,20 +29,16 @@ found c =
     ) at c.pair_bounded.ensures
 
 pub loop-j-init : goal.loop-j-init
-loop-j-init c = -- the calls c
+loop-j-init c = (omega arith, all_none _)
 
 pub returns-then-not-pair_bounded : goal.returns-then-not-pair_bounded
-returns-then-not-pair_bounded c = -- return false c
-
-pub overflow_add-j : goal.overflow_add-j
-overflow_add-j c =
+returns-then-not-pair_bounded c =
     sym (all_false _ (suc c.args.i) c.loop-j.j (omega arith) (call_false (found c.before) c.if-not-pair_bounded.true-raw))
 
-pub loop-j-smaller : goal.loop-j-smaller
-loop-j-smaller c = -- j + 1, the measure, the invariant again c
-
 pub loop-j-preserved : goal.loop-j-preserved
-loop-j-preserved c = -- return true c
+loop-j-preserved c =
+    let l = c.loop-j in
+    (omega arith, all_more _ l.j l.invariant.1 (call_true (found c.before) c.if-not-pair_bounded.false-raw))
 
 pub returns : goal.returns
 returns c =

@@ -12,7 +12,7 @@ use Rattle.tables.proofs.Checks.{all_none, all_more, all_false, call_false, call
 use Rattle.tables.proofs.row_bounded.Given as goal
 
 abbrev pub invariant-loop-j : goal.invariant-loop-j
-invariant-loop-j l = (l.j ≤ suc l.i) × (all l.j (λ l.j. pair_bounded l.even (at l.n l.low l.i l.j) (at l.n l.low l.j l.i) (at l.n l.high l.i l.j) (at l.n l.high l.j l.i)) ≡ true)
+invariant-loop-j l = (l.j ≤ suc l.i) × (all l.j (λ j. pair_bounded l.even (at l.n l.low l.i j) (at l.n l.low j l.i) (at l.n l.high l.i j) (at l.n l.high j l.i)) ≡ true)
 
 abbrev pub decreases-loop-j : goal.decreases-loop-j
 decreases-loop-j l = suc l.i - l.j

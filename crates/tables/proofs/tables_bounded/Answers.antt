@@ -19,25 +19,19 @@ row c = let a = c.args in row_bounded a.n a.even a.low.now a.high.now c.loop-i.i
 
 pub loop-i-init : goal.loop-i-init
 unfolding tables_bounded
-loop-i-init c = -- what `row_bounded` requires c
+loop-i-init c = (omega arith, all_none _)
 
 pub returns-then-not-row_bounded : goal.returns-then-not-row_bounded
 unfolding tables_bounded
-returns-then-not-row_bounded c = -- return false c
-
-pub overflow_add-i : goal.overflow_add-i
-unfolding tables_bounded
-overflow_add-i c =
+returns-then-not-row_bounded c =
     let l = c.loop-i in
     sym (all_false _ _ l.i c.loop-i-test.true (call_false {t = row c.before.before.before} c.row_bounded.ensures c.if-not-row_bounded.true-raw))
 
-pub loop-i-smaller : goal.loop-i-smaller
-unfolding tables_bounded
-loop-i-smaller c = -- i + 1, the measure, the invariant again c
-
 pub loop-i-preserved : goal.loop-i-preserved
 unfolding tables_bounded
-loop-i-preserved c = -- return true c
+loop-i-preserved c =
+    let l = c.loop-i in
+    (omega arith, all_more _ l.i l.invariant.1 (call_true {t = row c.before.before.before} c.row_bounded.ensures c.if-not-row_bounded.false-raw))
 
 pub returns : goal.returns
 unfolding tables_bounded

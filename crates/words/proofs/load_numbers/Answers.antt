@@ -47,7 +47,7 @@ loop-i-preserved c =
     let l = c.loop-i in
     let a = c.args in
     let e = ap (λ (n : ℕ). signed_at (width_of a.size) a.b.now (l.i * n)) c.requires.0 in
-    let v = to_z-of_z {w = w64} (sfits_of c.load_signed-v.type-inv) ∙ c.load_signed-v.ensures ∙ e in
+    let v = to_z-of_z {w = w64} (sfits_of c.load_signed-v.type_inv) ∙ c.load_signed-v.ensures ∙ e in
     (omega arith, rw (l.invariant.1, v) (fill_number (width_of a.size) a.b.now a.out.now l.i (omega arith)))
 
 pub shape_of-out : goal.shape_of-out

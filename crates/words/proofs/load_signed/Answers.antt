@@ -17,10 +17,10 @@ abbrev After-load_unsigned : Type 0
 After-load_unsigned = lts.After-load_unsigned tie.the-claims reads.Pre reads.Post
 
 read : (c : After-load_unsigned)
-    → c.Load-unsigned.result ≡ unsigned_at (bytes (width_of c.args.size)) c.args.b.now c.args.at
+    → c.load_unsigned.result ≡ unsigned_at (bytes (width_of c.args.size)) c.args.b.now c.args.at
 read c =
     let a = c.args in
-    c.Load-unsigned.ensures ∙ ap (λ (n : ℕ). unsigned_at n a.b.now a.at) c.requires.0
+    c.load_unsigned.ensures ∙ ap (λ (n : ℕ). unsigned_at n a.b.now a.at) c.requires.0
 
 pub load_unsigned-requires : goal.load_unsigned-requires
 unfolding signed_at
@@ -35,4 +35,4 @@ signed_of-requires c =
 pub returns : goal.returns
 unfolding signed_at
 returns c =
-    to_z-of_z {w = w64} (sfits_of c.Signed-of.type-inv) ∙ c.Signed-of.ensures ∙ ap (to_z (width_of c.args.size)) (read c.before)
+    to_z-of_z {w = w64} (sfits_of c.signed_of.type_inv) ∙ c.signed_of.ensures ∙ ap (to_z (width_of c.args.size)) (read c.before)

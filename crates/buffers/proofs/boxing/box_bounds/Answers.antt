@@ -36,7 +36,7 @@ store_numbers-requires c =
 
 pub returns-in-Sides : goal.returns-in-Sides
 returns-in-Sides c =
-    given_sides _ _ {b = of c} (rw (clean c.fits.limit) at c.box_bounds-given.ensures) _ c.in-Sides.is
+    given_sides _ _ {b = of c} (rw (clean c.ranges.limit) at c.box_bounds-given.ensures) _ c.in-Sides.is
     (c.store_numbers.ensures ∙ numbers-stored _ (c.args.n + c.args.n) _ c.requires.2)
 
 pub returns-in-Empty : goal.returns-in-Empty

@@ -105,7 +105,7 @@ asked : (c : After-sized_within) → c.sized_within-within.result ≡ (sizes c.b
 asked c =
     let a = c.args in
     terms-spelled (order_of a.n) (sizes c) a.from.now a.to.now a.centre.now _ _ _ a.limit c.sized_within-within.ensures
-    (sized c.before.before.before.before.before.before.before.before.before.before.before) (order c.before.before.before.before.before.before.before.before.before.before.before.before.before.before) (clean c.fits.limit) (low-ends c) (high-ends c) (centre c)
+    (sized c.before.before.before.before.before.before.before.before.before.before.before) (order c.before.before.before.before.before.before.before.before.before.before.before.before.before.before) (clean c.ranges.limit) (low-ends c) (high-ends c) (centre c)
 
 -- where both pass, so do the numbers that were loaded
 in_range_lem : (c : After-sized_within) → sizes c.before.before.before.before.before.before.before.before.before.before.before.before.before.before.before.before.before.before.before.before.before ≡ true → others c.before.before.before.before.before.before.before.before.before.before.before.before.before.before.before.before.before.before.before.before.before ≡ true →
@@ -281,4 +281,4 @@ returns c =
     let h = (came c).held q in
     let z = (passed c).sizes in
     rw (← constraint_passed refused _ _ _ (posed c.before.before.before.before.before.before.before.before.before.before.before.before.before.before.before.before.before.before.before.before.before) _ (came c) q (sym (ends c) ∙ c.in_default-ordered.is))
-    (rw (order c.before.before.before.before.before.before.before.before.before.before.before.before.before.before, h.low, h.high, (low-ends c).numbers z, (high-ends c).numbers z, (centre c).numbers z, clean c.fits.limit) at c.box_bounds.ensures)
+    (rw (order c.before.before.before.before.before.before.before.before.before.before.before.before.before.before, h.low, h.high, (low-ends c).numbers z, (high-ends c).numbers z, (centre c).numbers z, clean c.ranges.limit) at c.box_bounds.ensures)

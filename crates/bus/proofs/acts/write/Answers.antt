@@ -47,7 +47,7 @@ returns-then-not-bus_sized c = rw (write, where_sized, call_false c.bus_sized.en
 pub returns-then-address-lt0 : goal.returns-then-address-lt0
 unfolding write where_sized written
 returns-then-address-lt0 c =
-    rw (write, where_sized, sized c.before, written, le_z_false {x = pos 0} {y = c.args.address} (lt_yes c.fits.address (fits_literal tt) c.if-address-lt0.true))
+    rw (write, where_sized, sized c.before, written, le_z_false {x = pos 0} {y = c.args.address} (lt_yes c.ranges.address (fits_literal tt) c.if-address-lt0.true))
 
 pub overflow_cast-address : goal.overflow_cast-address
 unfolding write where_sized written
@@ -63,9 +63,9 @@ pub returns-then-address : goal.returns-then-address
 unfolding write where_sized written
 returns-then-address c =
     rw (write, where_sized, sized c.before.before, written, le_z_true {x = pos 0} {y = c.args.address} (low c.before), high c)
-    (rw (clean c.fits.address) at c.write_at.ensures)
+    (rw (clean c.ranges.address) at c.write_at.ensures)
 
 pub returns : goal.returns
 unfolding write where_sized written
 returns c =
-    rw (write, where_sized, sized c.before.before, written, le_z_true {x = pos 0} {y = c.args.address} (low c.before), rw (clean c.fits.address) at c.if-address.false)
+    rw (write, where_sized, sized c.before.before, written, le_z_true {x = pos 0} {y = c.args.address} (low c.before), rw (clean c.ranges.address) at c.if-address.false)

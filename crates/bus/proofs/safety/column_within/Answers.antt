@@ -15,15 +15,7 @@ use Rattle.bus.proofs.safety.column_within.Goals as goal
 
 pub loop-k-init : goal.loop-k-init
 unfolding upper
-loop-k-init c = -- the loop begins c
-
-pub overflow_mul-j : goal.overflow_mul-j
-unfolding upper
-overflow_mul-j c = (omega arith, all_none _)
-
-pub overflow_add-j : goal.overflow_add-j
-unfolding upper
-overflow_add-j c = -- t[8 j + k], and what `within` requires c
+loop-k-init c = (omega arith, all_none _)
 
 pub within-requires : goal.within-requires
 unfolding upper
@@ -33,25 +25,17 @@ pub returns-then-not-within : goal.returns-then-not-within
 unfolding upper
 returns-then-not-within c =
     let l = c.loop-k in
-    let x = clean_element (nth c.args.t.now (stride * c.args.j + l.k)) c.Within-arg.given in
+    let x = clean_element (nth c.args.t.now (stride * c.args.j + l.k)) c.within-arg-1.given in
     let t = not-true c.within.result c.if-not-within.true-raw in
     rw (← clean c.ranges.bound) (sym (all_false _ c.args.count l.k (omega arith) (cc (x, t))))
 
-pub overflow_add-k : goal.overflow_add-k
-unfolding upper
-overflow_add-k c = -- k + 1, the measure, the invariant again c
-
-pub loop-k-smaller : goal.loop-k-smaller
-unfolding upper
-loop-k-smaller c =
-    let l = c.loop-k in
-    let x = clean_element (nth c.args.t.now (stride * c.args.j + l.k)) c.Within-arg.given in
-    let t = not-false c.within.result c.if-not-within.false-raw in
-    (omega arith, all_more _ l.k l.invariant.1 (cc (x, t)))
-
 pub loop-k-preserved : goal.loop-k-preserved
 unfolding upper
-loop-k-preserved c = -- return true c
+loop-k-preserved c =
+    let l = c.loop-k in
+    let x = clean_element (nth c.args.t.now (stride * c.args.j + l.k)) c.within-arg-1.given in
+    let t = not-false c.within.result c.if-not-within.false-raw in
+    (omega arith, all_more _ l.k l.invariant.1 (cc (x, t)))
 
 pub returns : goal.returns
 unfolding upper

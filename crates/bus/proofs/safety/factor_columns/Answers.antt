@@ -33,6 +33,7 @@ and_second_false false e = refl
 module _ (c : After-column_within) where
   abbrev ranged : Bool
   ranged = let l = c.loop-l.l in all (suc l) (λ k. within factor_range (upper c.args.t.now k l))
+
   found : c.column_within.result ≡ ranged
   found = rw (← add-one c.loop-l.l) c.column_within.ensures
 
@@ -40,52 +41,27 @@ pub loop-l-init : goal.loop-l-init
 unfolding factor_columns upper
 loop-l-init c = (omega arith, all_none _)
 
-pub overflow_add-l : goal.overflow_add-l
-unfolding factor_columns upper
-overflow_add-l c = -- l + 1, and what `column_within` requires c
-
 pub column_within-requires : goal.column_within-requires
 unfolding factor_columns upper
 column_within-requires c = (omega arith, omega arith, c.requires.1, pos_nonneg factor_range)
 
 pub returns-then-not-column_within : goal.returns-then-not-column_within
 unfolding factor_columns upper
-returns-then-not-column_within c = -- return false c
-
-pub overflow_mul-l : goal.overflow_mul-l
-unfolding factor_columns upper
-overflow_mul-l c =
+returns-then-not-column_within c =
     sym (all_false _ _ c.loop-l.l c.loop-l-test.true (and_first_false _ (call_false (found c) c.if-not-column_within.true-raw)))
-
-pub overflow_add-l-in-loop-l : goal.overflow_add-l-in-loop-l
-unfolding factor_columns upper
-overflow_add-l-in-loop-l c = -- t[8 l + l] c
-
-pub offset_bounds-t-l : goal.offset_bounds-t-l
-unfolding factor_columns upper
-offset_bounds-t-l c = -- return false c
-
-pub bounds-t-l : goal.bounds-t-l
-unfolding factor_columns upper
-bounds-t-l c =
-    sym (all_false _ _ c.before.before.loop-l.l c.loop-l-test.true (and_second_false (ranged c) (read_less (diagonal c.before.before) (pos 1) c.t11-1.given (omega arith) c.if-t-l-lt1.true)))
 
 pub returns-then-t-l-lt1 : goal.returns-then-t-l-lt1
 unfolding factor_columns upper
-returns-then-t-l-lt1 c = -- l + 1, the measure, the invariant again c
-
-pub loop-l-smaller : goal.loop-l-smaller
-unfolding factor_columns upper
-loop-l-smaller c =
-    (
-      omega arith,
-      all_more _ c.loop-l.l c.loop-l.invariant.1
-          (and_of (call_true (found c.before) c.if-not-column_within.false-raw) (read_not_less (diagonal c) (pos 1) c.t11-1.given (omega arith) c.if-t-l-lt1.false)),
-    )
+returns-then-t-l-lt1 c =
+    sym (all_false _ _ c.loop-l.l c.loop-l-test.true (and_second_false (ranged c) (read_less (diagonal c) (pos 1) c.t11-1.given (omega arith) c.if-t-l-lt1.true)))
 
 pub loop-l-preserved : goal.loop-l-preserved
 unfolding factor_columns upper
-loop-l-preserved c = -- return true c
+loop-l-preserved c = (
+  omega arith,
+  all_more _ c.loop-l.l c.loop-l.invariant.1
+      (and_of (call_true (found c.before) c.if-not-column_within.false-raw) (read_not_less (diagonal c) (pos 1) c.t11-1.given (omega arith) c.if-t-l-lt1.false)),
+)
 
 pub returns : goal.returns
 unfolding factor_columns upper

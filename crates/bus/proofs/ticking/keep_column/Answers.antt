@@ -30,22 +30,13 @@ pub put_column-requires-in-Stops : goal.put_column-requires-in-Stops
 put_column-requires-in-Stops c =
     (c.requires.1, omega arith, omega (arith, rows c, c.requires.2, c.requires.3), omega arith, omega (arith, rows c), c.requires.4)
 
-pub shape_of-block : goal.shape_of-block
-shape_of-block c = -- the last column c
-
-pub shape_of-run-then-j-n : goal.shape_of-run-then-j-n
-shape_of-run-then-j-n c =
+pub returns-then-j-n : goal.returns-then-j-n
+returns-then-j-n c =
     rw c.in-Done.is (c.settle.ensures ∙ sym (taken-last _ _ _ _ _ c.if-j-n.true))
 
-pub returns-then-j-n : goal.returns-then-j-n
-returns-then-j-n c = -- another column c
-
-pub shape_of-run-else-j-n : goal.shape_of-run-else-j-n
-shape_of-run-else-j-n c =
+pub returns-else-j-n : goal.returns-else-j-n
+returns-else-j-n c =
     rw c.in-Done.is (ap (kept _) c.put_column.ensures ∙ sym (taken_next _ _ _ _ _ c.if-j-n.false))
-
-pub shape_of-run-in-Stops : goal.shape_of-run-in-Stops
-shape_of-run-in-Stops c = -- a stop c
 
 pub returns-in-Stops : goal.returns-in-Stops
 returns-in-Stops c =

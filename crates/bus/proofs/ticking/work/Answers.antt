@@ -37,12 +37,12 @@ next s = read_i64 (s.args.j + 1) (omega (arith, s.requires.2, s.requires.3)) ∙
 -- 1 ≤ p
 module _ (c : Then1) where
   one : le_z (pos 1) c.args.p ≡ true
-  one = rw (clean c.fits.p) at c.if-p-ge1.true
+  one = rw (clean c.ranges.p) at c.if-p-ge1.true
 
 -- p ≤ j + 1
 module _ (c : Then2) where
   few : le_z c.args.p (pos (suc c.args.j)) ≡ true
-  few = rw (clean c.fits.p, next c) at c.if-p-j.true
+  few = rw (clean c.ranges.p, next c) at c.if-p-j.true
 
   row : (c.args.p -ℤ pos 1 ≡ pos (nat_abs c.args.p - 1)) × (nat_abs c.args.p - 1 ≤ c.args.j)
   row = stop_row c.args.p c.args.j (le_of _ _ (one c.before)) (le_of _ _ few)
@@ -51,7 +51,7 @@ module _ (c : Then2) where
   fit = rw row.0 (fits (omega (arith, row.1, c.requires.2, c.requires.3)))
 
   read : nat_abs (to_z w64 (of_z w64 (to_z w64 (of_z w64 c.args.p) -ℤ pos 1))) ≡ nat_abs c.args.p - 1
-  read = rw (clean c.fits.p, clean fit, row.0)
+  read = rw (clean c.ranges.p, clean fit, row.0)
 
 -- p < 1
 none : (c : Else1) → le_z (pos 1) c.args.p ≡ false

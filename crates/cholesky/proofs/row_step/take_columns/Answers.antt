@@ -21,7 +21,7 @@ After-take_column = lts.After-take_column tie.the-claims reads.Pre reads.Post go
 module _ (c : After-take_column) where
   column_taken_lem : ColumnTaken c.loop-j.s c.args.i c.loop-j.j
       (floor_div (upper c.loop-j.s c.args.i c.loop-j.j) (whole_root (upper c.args.s.now c.args.i c.args.i))) c.take_column.result c.take_column.new.s
-  column_taken_lem = rw (clean c.fits.d, c.requires.3) at c.take_column.ensures
+  column_taken_lem = rw (clean c.ranges.d, c.requires.3) at c.take_column.ensures
 
 pub overflow_add-j : goal.overflow_add-j
 overflow_add-j c = omega (arith, c.requires.0.order, c.requires.1)

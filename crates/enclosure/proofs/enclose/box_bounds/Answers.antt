@@ -42,7 +42,7 @@ box_of-requires c =
     let p = c.requires in
     let t = c.step-t in
     let d = c.at_centre-d in (
-      rw (clean_result d, d.ensures, clean_result t, t.ensures, clean c.fits.limit)
+      rw (clean_result d, d.ensures, clean_result t, t.ensures, clean c.ranges.limit)
           (ready_of p.0 (one_of _ (steep c.before)) c.gradients.ensures (call_true c.near-close.ensures c.if-not-close.left) p.1),
       p.2,
     )
@@ -57,15 +57,20 @@ pub near-close-requires : goal.near-close-requires
 near-close-requires c = c.requires.0.tables.order
 
 pub returns-then-t-le0 : goal.returns-then-t-le0
-returns-then-t-le0 c = -- 8, then 9 c
-
-pub returns-then-not-close : goal.returns-then-not-close
-returns-then-not-close c =
+returns-then-t-le0 c =
     let t = c.step-t in
     stated-refused _ (box_flat _ _ _ _ _ _ (rw (clean_result t, t.ensures) at c.if-t-le0.true)) c.requires.2
 
+pub returns-then-not-close : goal.returns-then-not-close
+returns-then-not-close c =
+    stated-refused _
+    (box_far _ _ _ (ends c.before.before.before.before.before.before.before) _ _ (steep c.before) _ c.gradients.ensures.entries (call_false c.near-close.ensures c.if-not-close.true-raw)) c.requires.2
+
+pub steps_at-requires : goal.steps_at-requires
+steps_at-requires c = (c.requires.0.tables, refl)
+
 pub at_centre-d-requires : goal.at_centre-d-requires
-at_centre-d-requires c = (c.requires.0.tables, refl)
+at_centre-d-requires c = (c.requires.0, rw (clean c.ranges.limit) c.requires.1)
 
 pub returns-then-box_of : goal.returns-then-box_of
 returns-then-box_of c =
@@ -73,7 +78,7 @@ returns-then-box_of c =
     let d = c.at_centre-d in
     stated_sides
     (box_near _ _ _ (ends c.before.before.before.before.before.before.before) _ _ (steep c.before) _ c.gradients.ensures.entries (call_true c.near-close.ensures c.if-not-close.left) _ c.steps_at.ensures.entries)
-    (rw (clean_result d, d.ensures, clean_result t, t.ensures, clean c.fits.limit, c.if-box_of.true) at c.box_of.ensures)
+    (rw (clean_result d, d.ensures, clean_result t, t.ensures, clean c.ranges.limit, c.if-box_of.true) at c.box_of.ensures)
 
 pub returns : goal.returns
 returns c =
@@ -81,4 +86,4 @@ returns c =
     let d = c.at_centre-d in
     stated_empty
     (box_near _ _ _ (ends c.before.before.before.before.before.before.before) _ _ (steep c.before) _ c.gradients.ensures.entries (call_true c.near-close.ensures c.if-not-close.left) _ c.steps_at.ensures.entries)
-    (rw (clean_result d, d.ensures, clean_result t, t.ensures, clean c.fits.limit, c.if-box_of.false) at c.box_of.ensures)
+    (rw (clean_result d, d.ensures, clean_result t, t.ensures, clean c.ranges.limit, c.if-box_of.false) at c.box_of.ensures)

@@ -79,7 +79,7 @@ others s = let a = s.args in terms_within (order_of a.n) a.from.now a.to.now a.l
 
 asked : (c : After-sized_within) → c.sized_within-within.result ≡ (sizes c.before.before.before.before.before && others c.before.before.before.before.before)
 asked c =
-    rw (← sized c.before) (rw (order c, clean c.fits.limit) at c.sized_within-within.ensures)
+    rw (← sized c.before) (rw (order c, clean c.ranges.limit) at c.sized_within-within.ensures)
 
 -- the door, with what it found
 came : (c : After-enter) → let a = c.args in
@@ -159,7 +159,7 @@ enclose_bounds-requires c =
     let q = c.in_default.is in
     let b = came-through _ _ _ _ _ (came c) q in
     let z = behind-sized c in
-    rw (order c.before.before.before.before.before.before.before, clean c.fits.limit)
+    rw (order c.before.before.before.before.before.before.before, clean c.ranges.limit)
     (centred _ _ _ _ _ b.within ((came c).held q).tables (omega (arith, z.linear_low)) (omega (arith, z.linear_high)) (omega (arith, z.centre)), limit-within _ _ _ _ _ b.within, z.sides)
 
 pub returns : goal.returns
@@ -169,4 +169,4 @@ returns c =
     let h = (came c).held q in
     exactly (means c) (shown c) _
     (rw (← constraint_passed refused _ _ _ (posed c) _ (came c) q (sym (ends c) ∙ c.in_default-ordered.is))
-    (rw (order c.before.before.before.before.before.before.before, h.low, h.high, clean c.fits.limit) at c.enclose_bounds.ensures))
+    (rw (order c.before.before.before.before.before.before.before, h.low, h.high, clean c.ranges.limit) at c.enclose_bounds.ensures))

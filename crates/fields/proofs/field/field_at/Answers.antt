@@ -7,27 +7,15 @@ use Rattle.fields.proofs.field.field_at.Goals as goal
 
 pub returns-then-size-at : goal.returns-then-size-at
 unfolding tagged
-returns-then-size-at c = -- the end, and just 1 or 2 bytes c
-
-pub overflow_sub-size : goal.overflow_sub-size
-unfolding tagged
-overflow_sub-size c = sym (field_end _ _ c.if-size-at.true)
+returns-then-size-at c = sym (field_end _ _ c.if-size-at.true)
 
 pub returns-then-size-at-lt-HEAD : goal.returns-then-size-at-lt-HEAD
 unfolding tagged
 returns-then-size-at-lt-HEAD c = sym (field-head_cut _ _ c.if-size-at.false (omega arith))
 
-pub overflow_add-start : goal.overflow_add-start
-unfolding tagged
-overflow_add-start c = -- the length c
-
-pub overflow_sub-size-2 : goal.overflow_sub-size-2
-unfolding tagged
-overflow_sub-size-2 c = let e = c.length_at-length.ensures in sym (field_cut _ _ (omega arith) (omega arith))
-
 pub returns-then-size-start : goal.returns-then-size-start
 unfolding tagged
-returns-then-size-start c = -- the tag c
+returns-then-size-start c = let e = c.length_at-length.ensures in sym (field_cut _ _ (omega arith) (omega arith))
 
 pub returns-in-Known : goal.returns-in-Known
 unfolding tagged

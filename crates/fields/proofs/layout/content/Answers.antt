@@ -15,4 +15,4 @@ unfolding content
 part s l k {a} {n} start size = let e : a + n - a ≡ n = omega arith in rw (e, start, size)
 
 pub returns : goal.returns
-returns c = part _ _ _ c.start_of_lem.ensures c.length_of-length.ensures
+returns c = part _ _ _ c.start_of-start.ensures c.length_of-length.ensures

@@ -28,48 +28,36 @@ onward s at e h = rw (e, h)
 
 pub loop-field-init : goal.loop-field-init
 unfolding walked
-loop-field-init c = -- the loop begins c
-
-pub enum_known-found : goal.enum_known-found
-unfolding walked
-enum_known-found c = -- a field c
+loop-field-init c = (omega arith, rw c.unseen-layout.ensures)
 
 pub returns-then-again : goal.returns-then-again
 unfolding walked
-returns-then-again c = -- again c
+returns-then-again c =
+    c.stopped.ensures ∙ sym (c.loop-field.invariant.1 ∙ walk_again _ _ _ _ _ (here c) (seen_is _ _ c.start_of-again.ensures c.if-again.true-raw))
 
 pub returns-then-falls : goal.returns-then-falls
 unfolding walked
-returns-then-falls c = -- falling c
+returns-then-falls c =
+    c.stopped-then-falls.ensures
+    ∙ sym (c.loop-field.invariant.1
+    ∙ walk_falling _ _ _ _ _ (here c) (seen_is _ _ c.start_of-again.ensures c.if-again.false-raw) (falls_is c.in-Here.field.kind _ c.tag_of-tag.ensures c.if-falls.true-raw))
 
 pub loop-field-smaller : goal.loop-field-smaller
 unfolding walked
-loop-field-smaller c =
-    c.stopped-then-falls.ensures
-    ∙ sym (c.loop-field.invariant.1
-    ∙ walk_falling _ _ _ _ _ (here c) (seen_is _ _ c.start_of_lem.ensures c.if-again.false-raw) (falls_is c.in-Here.field.kind _ c.tag_of-tag.ensures c.if-falls.true-raw))
+loop-field-smaller c = omega (arith, found_inside _ _ _ (here c))
 
 pub loop-field-preserved : goal.loop-field-preserved
 unfolding walked
-loop-field-preserved c = -- the measure, the invariant again c
-
-pub enum_told-1 : goal.enum_told-1
-unfolding walked
-enum_told-1 c = omega (arith, found_inside _ _ _ (here c))
+loop-field-preserved c = (
+  omega (arith, found_inside _ _ _ (here c)),
+  c.loop-field.invariant.1
+      ∙ walk_more _ _ _ _ _ (here c) (seen_is _ _ c.start_of-again.ensures c.if-again.false-raw) (falls_is c.in-Here.field.kind _ c.tag_of-tag.ensures c.if-falls.false-raw)
+      ∙ onward _ _ c.tag_of-tag.ensures c.placed-layout.ensures,
+)
 
 pub returns-in-End : goal.returns-in-End
 unfolding walked
-returns-in-End c =
-    (
-      omega (arith, found_inside _ _ _ (here c)),
-      c.loop-field.invariant.1
-          ∙ walk_more _ _ _ _ _ (here c) (seen_is _ _ c.start_of_lem.ensures c.if-again.false-raw) (falls_is c.in-Here.field.kind _ c.tag_of-tag.ensures c.if-falls.false-raw)
-          ∙ onward _ _ c.tag_of-tag.ensures c.placed-layout.ensures,
-    )
-
-pub enum_known-found-in-Refused-1 : goal.enum_known-found-in-Refused-1
-unfolding walked
-enum_known-found-in-Refused-1 c = -- the end c
+returns-in-End c = sym (c.loop-field.invariant.1 ∙ walk_end _ _ _ _ (sym c.field_at-found.ensures ∙ c.in-End.is))
 
 pub returns-in-Refused : goal.returns-in-Refused
 unfolding walked

@@ -34,29 +34,17 @@ stands : (c : After-known_told) (at : ℕ) → (let a = c.args in a.found ≡ fi
     (let a = c.args in Stands a.file.now at c.in-Here.field)
 stands c at e = found_inside _ _ _ (here c at e)
 
-pub enum_known-found : goal.enum_known-found
-unfolding content_at content_of
-enum_known-found c = -- no field that was found in this file c
-
-pub slice_bounds-result-end : goal.slice_bounds-result-end
-unfolding content_at content_of
-slice_bounds-result-end c = (λ c at e. let k = stands c.before.before at e in absurd (omega (arith, k.ends))) c
-
 pub returns-then-next-start : goal.returns-then-next-start
 unfolding content_at content_of
-returns-then-next-start c = (λ c at e. let k = stands c.before.before.before at e in absurd (omega (arith, k.inside))) c
+returns-then-next-start c = (λ c at e. let k = stands c.before.before at e in absurd (omega (arith, k.ends))) c
 
-pub slice_bounds-result-end-then-file-next : goal.slice_bounds-result-end-then-file-next
+pub returns-then-file-next : goal.returns-then-file-next
 unfolding content_at content_of
-slice_bounds-result-end-then-file-next c = -- a field c
-
-pub slice_bounds-result-end-in-Refused : goal.slice_bounds-result-end-in-Refused
-unfolding content_at content_of
-slice_bounds-result-end-in-Refused c = (λ c at e. content-here _ _ _ (here c.before.before.before at e)) c
+returns-then-file-next c = (λ c at e. let k = stands c.before.before.before at e in absurd (omega (arith, k.inside))) c
 
 pub returns-else-file-next : goal.returns-else-file-next
 unfolding content_at content_of
-returns-else-file-next c = -- the end, and what is refused c
+returns-else-file-next c = (λ c at e. content-here _ _ _ (here c.before.before.before at e)) c
 
 pub returns-in-End : goal.returns-in-End
 unfolding content_at content_of

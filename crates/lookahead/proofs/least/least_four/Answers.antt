@@ -48,8 +48,8 @@ pub least_choice-requires : goal.least_choice-requires
 unfolding shares_after
 least_choice-requires c =
     choice_small 2 c.requires
-    (rw (clean_result c.least_three-one, c.least_three-one.ensures, clean c.fits.sum, c.share_after-b1.ensures, c.share_after-c1.ensures, c.share_after-e1.ensures, add-one c.args.d, add-one, add-one))
-    (rw (clean_result c.least_three-opposite, c.least_three-opposite.ensures, clean c.fits.sum, c.share_after-b2.ensures, c.share_after-c2.ensures, c.share_after-e2.ensures, add-one c.args.d, add-one, add-one))
+    (rw (clean_result c.least_three-one, c.least_three-one.ensures, clean c.ranges.sum, c.share_after-b1.ensures, c.share_after-c1.ensures, c.share_after-e1.ensures, add-one c.args.d, add-one, add-one))
+    (rw (clean_result c.least_three-opposite, c.least_three-opposite.ensures, clean c.ranges.sum, c.share_after-b2.ensures, c.share_after-c2.ensures, c.share_after-e2.ensures, add-one c.args.d, add-one, add-one))
     (omega arith)
 
 pub returns : goal.returns

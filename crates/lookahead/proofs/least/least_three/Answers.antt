@@ -40,8 +40,8 @@ pub least_choice-requires : goal.least_choice-requires
 unfolding shares_after
 least_choice-requires c =
     choice_small 1 c.requires
-    (rw (clean_result c.least_two-one, c.least_two-one.ensures, clean c.fits.sum, c.share_after-b1.ensures, c.share_after-c1.ensures, add-one c.args.d, add-one))
-    (rw (clean_result c.least_two-opposite, c.least_two-opposite.ensures, clean c.fits.sum, c.share_after-b2.ensures, c.share_after-c2.ensures, add-one c.args.d, add-one))
+    (rw (clean_result c.least_two-one, c.least_two-one.ensures, clean c.ranges.sum, c.share_after-b1.ensures, c.share_after-c1.ensures, add-one c.args.d, add-one))
+    (rw (clean_result c.least_two-opposite, c.least_two-opposite.ensures, clean c.ranges.sum, c.share_after-b2.ensures, c.share_after-c2.ensures, add-one c.args.d, add-one))
     (omega arith)
 
 pub returns : goal.returns

@@ -32,8 +32,8 @@ pub least_choice-requires : goal.least_choice-requires
 unfolding shares_after least_shares
 least_choice-requires c =
     choice_small 0 c.requires
-    (rw (clean_result c.least_one-one, c.least_one-one.ensures, clean c.fits.sum, c.share_after.ensures, add-one))
-    (rw (clean_result c.least_one-opposite, c.least_one-opposite.ensures, clean c.fits.sum, c.share_after-2.ensures, add-one))
+    (rw (clean_result c.least_one-one, c.least_one-one.ensures, clean c.ranges.sum, c.share_after.ensures, add-one))
+    (rw (clean_result c.least_one-opposite, c.least_one-opposite.ensures, clean c.ranges.sum, c.share_after-2.ensures, add-one))
     (omega arith)
 
 pub returns : goal.returns

@@ -45,7 +45,7 @@ pub add_fitted-requires : goal.add_fitted-requires
 unfolding stated added_next
 add_fitted-requires c = (
   c.before.before.before.before.before.before.before.requires.0,
-  rw (clean c.before.before.before.before.before.before.before.fits.limit) (mended-ranged _ c.before.before.before.before.before.before.before.requires.1 (checks c.before.before.before.before.before.before.before) c.before.before.before.before.before.before.before.args.limit c.in-Passed.is refl),
+  rw (clean c.before.before.before.before.before.before.before.ranges.limit) (mended-ranged _ c.before.before.before.before.before.before.before.requires.1 (checks c.before.before.before.before.before.before.before) c.before.before.before.before.before.before.before.args.limit c.in-Passed.is refl),
   rw (clean_element c.in-Within.running c.known_told-1.given.0.1) (c.before.before.before.before.before.before.before.requires.3.ranged _ c.in-Within.is),
 )
 
@@ -59,7 +59,7 @@ returns-in-Within c =
           (ap (λ (g : Constraint). fitted g at) (mended-front _ c.before.before.before.before.before.before.before.before.before.before.before.before.requires.1 (checks c.before.before.before.before.before.before.before.before.before.before.before.before) a.limit told)
           ∙ ap (λ (r : Summed). added_next (mended_constraint (posed c.before.before.before.before.before.before.before.before.before.before.before.before)) (stated a.n r a.l.now a.u.now a.a.now a.b.now)) (sym c.in-Within.is)
           ∙ sym (next-passed (posed c.before.before.before.before.before.before.before.before.before.before.before.before) _ (sym (mended_answer _ c.before.before.before.before.before.before.before.before.before.before.before.before.requires.1 (checks c.before.before.before.before.before.before.before.before.before.before.before.before) a.limit) ∙ told)))
-          (rw (clean c.before.before.before.before.before.before.before.before.before.before.before.before.fits.limit, clean_element c.in-Within.running c.known_told-1.given.0.1) at c.add_fitted.ensures),
+          (rw (clean c.before.before.before.before.before.before.before.before.before.before.before.before.ranges.limit, clean_element c.in-Within.running c.known_told-1.given.0.1) at c.add_fitted.ensures),
       mended_rooms _ c.before.before.before.before.before.before.before.before.before.before.before.before.requires.1 (checks c.before.before.before.before.before.before.before.before.before.before.before.before),
     )
 

@@ -32,7 +32,7 @@ within-requires c = pos_nonneg limit_range
 pub returns-in-Passed : goal.returns-in-Passed
 unfolding stated
 returns-in-Passed c =
-    rw (clean c.fits.limit)
+    rw (clean c.ranges.limit)
     (record {
       outcome = sym (after-passed refused _ (sym (mended_answer _ c.requires.1 (checks c) c.args.limit) ∙ c.in-Passed.is)) ∙ ap taken (sym (mended-front _ c.requires.1 (checks c) c.args.limit c.in-Passed.is));
       rooms = mended_rooms _ c.requires.1 (checks c);

@@ -75,7 +75,7 @@ checks : (c : After-check_entry) → c.check_entry-checked.result ≡ first_refu
 checks c =
     let m = c.count_of-count.result in
     let orders = c.args.orders.now in
-    (rw (c.lengths_of-problems.ensures, c.lengths_of-sums.ensures, clean c.fits.n) at c.check_entry-checked.ensures)
+    (rw (c.lengths_of-problems.ensures, c.lengths_of-sums.ensures, clean c.ranges.n) at c.check_entry-checked.ensures)
     ∙ ap first_refusal (entry-front c.args.n m _ (numbers_of w64 orders m) (sized c m) (each c.before.before.before))
     ∙ ap (λ (m : ℕ). first_refusal (pool_entry_checks c.args.n m (numbers_of w64 orders m) (sized c m))) c.count_of-count.ensures
 

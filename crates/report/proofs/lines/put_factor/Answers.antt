@@ -39,5 +39,5 @@ returns c =
     let over = over_text (to_z w64 (of_z w64 c.args.over)) in
     let room = put_room c.put_text-rows.ensures 0 (omega (arith, c.requires.2)) in
     let both = put_then {c = rows} c.put_lines-next.ensures {c = over} (omega arith) c.put_line.ensures in
-    rw (← clean c.fits.over, ← first-lines (ascii "row") c.args.f.now n n (n * n) (omega arith))
+    rw (← clean c.ranges.over, ← first-lines (ascii "row") c.args.f.now n n (n * n) (omega arith))
     (put-within (put_then c.put_text-rows.ensures {c = rows ++ over} (omega (arith, c.requires.2)) both) (omega (arith, rows_room c.requires.0)))

@@ -13,32 +13,16 @@ returns-in-Definite c =
     let v = c.verdict-1.given in
     rw (v.1, ← clean_element v.0.0 c.known_told-1.given.0.1) c.put_factor.ensures
 
-pub shape_of-out-in-Definite : goal.shape_of-out-in-Definite
-unfolding stated verdict_text
-shape_of-out-in-Definite c = -- definite c
-
-pub shape_of-out-in-NotDefinite : goal.shape_of-out-in-NotDefinite
-unfolding stated verdict_text
-shape_of-out-in-NotDefinite c = -- not definite c
-
 pub returns-in-NotDefinite : goal.returns-in-NotDefinite
 unfolding stated verdict_text
 returns-in-NotDefinite c = rw c.in-NotDefinite.is c.put_vector.ensures
-
-pub shape_of-out-in-Undecided : goal.shape_of-out-in-Undecided
-unfolding stated verdict_text
-shape_of-out-in-Undecided c = -- undecided c
 
 pub returns-in-Undecided : goal.returns-in-Undecided
 unfolding stated verdict_text
 returns-in-Undecided c =
     rw c.in-Undecided.is (put-within c.put_text.ensures (omega arith))
 
-pub shape_of-out-in-Refused : goal.shape_of-out-in-Refused
-unfolding stated verdict_text
-shape_of-out-in-Refused c = -- refused c
-
 pub returns-in-Refused : goal.returns-in-Refused
 unfolding stated verdict_text
 returns-in-Refused c =
-    rw c.in-Refused.is (put-within c.Put-refused.ensures (omega arith))
+    rw c.in-Refused.is (put-within c.put_refused.ensures (omega arith))

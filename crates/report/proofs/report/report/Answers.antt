@@ -23,7 +23,7 @@ returns-in-Passed c =
 
 pub returns-in-Refused : goal.returns-in-Refused
 returns-in-Refused c =
-    output_is _ (printed-refused _ c.read-reading.ensures.0 _ c.in-Refused.is) c.Put-refused.ensures (omega arith)
+    output_is _ (printed-refused _ c.read-reading.ensures.0 _ c.in-Refused.is) c.put_refused-length.ensures (omega arith)
 
 pub work_out-requires : goal.work_out-requires
 work_out-requires c = passed c.before.before

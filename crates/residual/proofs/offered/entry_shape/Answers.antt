@@ -6,10 +6,11 @@ use Rattle.residual.proofs.OfferedFactor.{factor-entry-above, factor-entry-low, 
 use Rattle.residual.proofs.offered.entry_shape.Goals as goal
 
 pub returns-then-j-i : goal.returns-then-j-i
-returns-then-j-i c = -- above it c
+returns-then-j-i c = zero_test c.ranges.x ∙ sym (factor-entry-below c.args.i c.args.j c.args.x c.if-j-i.true)
 
 pub returns-then-i-j : goal.returns-then-i-j
-returns-then-i-j c = -- on it c
+returns-then-i-j c =
+    c.within.ensures ∙ rw (clean c.ranges.x) (sym (factor-entry-above c.args.i c.args.j c.args.x c.if-i-j.true))
 
 pub returns-then-x-lt1 : goal.returns-then-x-lt1
 returns-then-x-lt1 c =

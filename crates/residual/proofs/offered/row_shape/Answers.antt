@@ -27,7 +27,7 @@ small c = table_fits c.requires.0
 
 pub loop-j-init : goal.loop-j-init
 unfolding at
-loop-j-init c = -- factor[i * n + j] c
+loop-j-init c = (omega arith, all_none _)
 
 pub overflow_mul-i : goal.overflow_mul-i
 unfolding at
@@ -47,21 +47,15 @@ bounds-factor-i c = omega (arith, place c)
 
 pub returns-then-not-entry_shape : goal.returns-then-not-entry_shape
 unfolding at
-returns-then-not-entry_shape c = -- return false c
-
-pub overflow_add-j : goal.overflow_add-j
-unfolding at
-overflow_add-j c =
+returns-then-not-entry_shape c =
     let l = c.loop-j in
     sym (all_false _ _ l.j (omega arith) (rw (clean_element _ c.entry_shape-arg-1.given) at (call_false c.entry_shape.ensures c.if-not-entry_shape.true-raw)))
 
-pub loop-j-smaller : goal.loop-j-smaller
-unfolding at
-loop-j-smaller c = -- j + 1, the measure, the invariant again c
-
 pub loop-j-preserved : goal.loop-j-preserved
 unfolding at
-loop-j-preserved c = -- return true c
+loop-j-preserved c =
+    let l = c.loop-j in
+    (omega arith, all_more _ l.j l.invariant.1 (rw (clean_element _ c.entry_shape-arg-1.given) at (call_true c.entry_shape.ensures c.if-not-entry_shape.false-raw)))
 
 pub returns : goal.returns
 unfolding at

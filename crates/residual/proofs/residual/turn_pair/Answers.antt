@@ -21,38 +21,38 @@ here c = omega (arith, inside c.requires.1 c.requires.2, table_fits c.requires.0
 across : (c : Start) → let a = c.args in a.j * a.n + a.i < table_room
 across c = omega (arith, inside c.requires.2 c.requires.1, table_fits c.requires.0)
 
-pub bounds-t-here : goal.bounds-t-here
-unfolding at
-bounds-t-here c = rw (clean_element _ c.x-1.given) (scaled_fits c.before.requires.3.entry)
-
 pub overflow_mul-x : goal.overflow_mul-x
 unfolding at
-overflow_mul-x c =
-    rw (clean (bounds-t-here c.before), clean c.ranges.p, clean_element _ c.x-1.given) (residual_fits c.requires.3.entry c.requires.4)
+overflow_mul-x c = rw (clean_element _ c.x-1.given) (scaled_fits c.requires.3.entry)
+
+pub overflow_sub-x : goal.overflow_sub-x
+unfolding at
+overflow_sub-x c =
+    rw (clean (overflow_mul-x c), clean c.ranges.p, clean_element _ c.x-1.given) (residual_fits c.requires.3.entry c.requires.4)
 
 pub overflow_mul-here : goal.overflow_mul-here
 unfolding at
-overflow_mul-here c = omega (arith, across c)
+overflow_mul-here c = omega (arith, here c)
 
 pub overflow_add-here : goal.overflow_add-here
 unfolding at
-overflow_add-here c = omega (arith, across c)
+overflow_add-here c = omega (arith, here c)
 
 pub overflow_mul-across : goal.overflow_mul-across
 unfolding at
-overflow_mul-across c = -- 2^32 t[here] - p c
+overflow_mul-across c = omega (arith, across c)
 
 pub overflow_add-across : goal.overflow_add-across
 unfolding at
-overflow_add-across c = omega (arith, here c)
+overflow_add-across c = omega (arith, across c)
 
 pub offset_bounds-t-here : goal.offset_bounds-t-here
 unfolding at
 offset_bounds-t-here c = omega (arith, here c)
 
-pub overflow_sub-x : goal.overflow_sub-x
+pub bounds-t-here : goal.bounds-t-here
 unfolding at
-overflow_sub-x c = -- the stores c
+bounds-t-here c = omega (arith, here c)
 
 pub offset_bounds-t-here-2 : goal.offset_bounds-t-here-2
 unfolding at
@@ -72,4 +72,4 @@ bounds-t-across c = omega (arith, here c.before, across c.before)
 
 pub returns : goal.returns
 unfolding at
-returns c = rw (clean (overflow_mul-x c), clean (bounds-t-here c.before), clean c.ranges.p, clean_element _ c.x-1.given)
+returns c = rw (clean (overflow_sub-x c), clean (overflow_mul-x c), clean c.ranges.p, clean_element _ c.x-1.given)

@@ -32,7 +32,7 @@ Start = lts.Start tie.the-claims reads.Pre reads.Post
 -- the numbers of the sample are of 32 bits
 narrow : (s : Start) → Narrow s.args.sample
 narrow s =
-    let g = s.well-formed.0.1.1 in
+    let g = s.well_formed.0.1.1 in
     record { rolling = g.0.1; climb = g.1.0.1; air = g.1.1.0.1; start = g.1.1.1.0.1; draw = g.1.1.1.1.0.1 }
 
 -- the sums that are lent

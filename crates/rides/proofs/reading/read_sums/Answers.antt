@@ -65,7 +65,7 @@ shown s = reading-means s.args.n (sizes s) s.args.allowance (sums s)
 
 read : (c : After-read_checked) → c.read_checked.result ≡ checked_reading c.before.before.before.before.before.before.args.allowance (sums c.before.before.before.before.before.before)
 read c =
-    rw (order c, clean c.fits.running, clean c.fits.allowance) at c.read_checked.ensures
+    rw (order c, clean c.ranges.running, clean c.ranges.allowance) at c.read_checked.ensures
 
 pub returns-then-m-eq0 : goal.returns-then-m-eq0
 unfolding read_sums constraint_entered

@@ -71,7 +71,7 @@ slice_bounds-add_fitted-end-4 c = sym (arrays c.before.before.before.before).lin
 pub add_fitted-requires : goal.add_fitted-requires
 unfolding stated
 add_fitted-requires c =
-    rw (clean_result c.lay_gains-more, clean c.fits.limit)
+    rw (clean_result c.lay_gains-more, clean c.ranges.limit)
     (omega arith, gains-ranged c.args.m c.requires.0 c.lay_gains-more.ensures, mended-ranged _ (arrays_rooms c.requires.1) (checks c) c.args.limit c.in_default.is refl)
 
 pub returns : goal.returns
@@ -81,4 +81,4 @@ returns c =
     stated_by
     (sums-added (factor_of c.args.m) c.args.m.draw (posed c) (sym (answer c) ∙ c.in_default.is) (gains-front _ _ c.lay_gains-more.ensures)
     (mended-front _ (arrays_rooms z) (checks c) c.args.limit c.in_default.is ∙ ap mended_constraint (arrays_front z c.args.limit)))
-    (rw (clean_result c.lay_gains-more, clean c.fits.limit) at c.add_fitted.ensures)
+    (rw (clean_result c.lay_gains-more, clean c.ranges.limit) at c.add_fitted.ensures)

@@ -25,7 +25,7 @@ module _ (s : Start) where
   small = omega (arith, s.requires.0.high, s.requires.1.high)
 
   added : to_z w64 (of_z w64 s.args.a) +ℤ to_z w64 (of_z w64 s.args.b) ≡ pos k
-  added = rw (clean s.fits.a, clean s.fits.b) (exponents-sum s.requires.0 s.requires.1)
+  added = rw (clean s.ranges.a, clean s.ranges.b) (exponents-sum s.requires.0 s.requires.1)
 
   fitting : SFits w64 (pos k)
   fitting = fits (omega (arith, small))

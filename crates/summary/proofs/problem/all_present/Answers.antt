@@ -15,29 +15,13 @@ pub loop-init : goal.loop-init
 unfolding all_present
 loop-init c = (omega arith, all_none _)
 
-pub offset_bounds-starts-place : goal.offset_bounds-starts-place
-unfolding all_present
-offset_bounds-starts-place c = -- starts[place] c
-
-pub bounds-starts-place : goal.bounds-starts-place
-unfolding all_present
-bounds-starts-place c = -- return false c
-
 pub returns-then-starts-eq0 : goal.returns-then-starts-eq0
 unfolding all_present
 returns-then-starts-eq0 c = sym (all_false _ kind_count c.loop-place.place (omega arith) (ap (ltb 0) c.if-starts-eq0.true))
 
-pub overflow_add-place : goal.overflow_add-place
-unfolding all_present
-overflow_add-place c = -- place + 1, the measure, the invariant again c
-
-pub loop-smaller : goal.loop-smaller
-unfolding all_present
-loop-smaller c = let l = c.loop-place in (omega arith, all_more _ l.place l.invariant.1 (lt-ltb 0 (get_or c.args.layout.starts l.place 0) (omega arith)))
-
 pub loop-preserved : goal.loop-preserved
 unfolding all_present
-loop-preserved c = -- return true c
+loop-preserved c = let l = c.loop-place in (omega arith, all_more _ l.place l.invariant.1 (lt-ltb 0 (get_or c.args.layout.starts l.place 0) (omega arith)))
 
 pub returns : goal.returns
 unfolding all_present

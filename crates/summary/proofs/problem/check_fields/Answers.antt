@@ -55,15 +55,11 @@ last c = first_passes _ _ (present c.before.before.before.before.before) ∙ fir
 
 pub returns-then-not-all_present : goal.returns-then-not-all_present
 unfolding field_checks
-returns-then-not-all_present c = -- the length of tag 01, and the order c
+returns-then-not-all_present c = sym (first-refuses _ _ (call_false c.all_present.ensures c.if-not-all_present.true-raw))
 
-pub length_of-sized-requires : goal.length_of-sized-requires
+pub order_in-n-requires : goal.order_in-n-requires
 unfolding field_checks
-length_of-sized-requires c = c.requires
-
-pub overflow_cast-n : goal.overflow_cast-n
-unfolding field_checks
-overflow_cast-n c = -- 14 for tag 01, then 1 c
+order_in-n-requires c = c.requires
 
 pub returns-then-not-sized : goal.returns-then-not-sized
 unfolding field_checks
@@ -74,10 +70,6 @@ pub returns-then-not-ordered : goal.returns-then-not-ordered
 unfolding field_checks
 returns-then-not-ordered c =
     sym (first_passes _ _ (present c.before.before.before) ∙ first_passes _ _ (one_byte c.before) ∙ first-refuses _ _ (found c ∙ not-true _ c.if-not-ordered.true-raw))
-
-pub overflow_cast-n-2 : goal.overflow_cast-n-2
-unfolding field_checks
-overflow_cast-n-2 c = -- 14 for the other tags c
 
 pub lengths_ok-requires : goal.lengths_ok-requires
 unfolding field_checks

@@ -20,30 +20,15 @@ unfolding lengths_ok
 as_called l n e = ap (λ (called : List ℕ). all kind_count (λ i. eqb (get_or l.lengths i 0) (get_or called i 0))) e
 
 pub loop-k-init : goal.loop-k-init
-loop-k-init c = -- the loop begins c
+loop-k-init c = (omega arith, all_none _)
 
-pub offset_bounds-lengths-k : goal.offset_bounds-lengths-k
-offset_bounds-lengths-k c = (omega arith, all_none _)
-
-pub bounds-lengths-k : goal.bounds-lengths-k
-bounds-lengths-k c = -- lengths[k] and called[k] c
-
-pub offset_bounds-called-k : goal.offset_bounds-called-k
-offset_bounds-called-k c = -- return false c
-
-pub bounds-called-k : goal.bounds-called-k
-bounds-called-k c =
+pub returns-then-lengths-k : goal.returns-then-lengths-k
+returns-then-lengths-k c =
     let l = c.loop-k in
     sym (all_false _ kind_count l.k (omega arith) (ne_eqb _ _ c.if-lengths-k.true)) ∙ as_called _ _ c.lengths_for-called.ensures
 
-pub returns-then-lengths-k : goal.returns-then-lengths-k
-returns-then-lengths-k c = -- k + 1, the measure, the invariant again c
-
-pub loop-k-smaller : goal.loop-k-smaller
-loop-k-smaller c = let l = c.loop-k in (omega arith, all_more _ l.k l.invariant.1 (eq-eqb _ _ c.if-lengths-k.false))
-
 pub loop-k-preserved : goal.loop-k-preserved
-loop-k-preserved c = -- return true c
+loop-k-preserved c = let l = c.loop-k in (omega arith, all_more _ l.k l.invariant.1 (eq-eqb _ _ c.if-lengths-k.false))
 
 pub returns : goal.returns
 returns c =

@@ -37,14 +37,11 @@ bounds : (c : After-check_laid) →
     Mended (bounds_checks (problem_within p) d.order d.low d.high) d.order d.low d.high e.result e.new.1.1.0 e.new.1.1.1.0
 bounds c = rw (within c.before.before.before) at c.check_laid-checked.ensures
 
-pub sized_within-within-requires : goal.sized_within-within-requires
-sized_within-within-requires c = let z = c.requires in (z.order, table_fits z.order, record { low-size = z.low; high-size = z.high })
+pub check_laid-checked-requires : goal.check_laid-checked-requires
+check_laid-checked-requires c = let z = c.requires in (z.order, table_fits z.order, record { low-size = z.low; high-size = z.high })
 
-pub enum_told-1 : goal.enum_told-1
-enum_told-1 c = -- 16 decides c
-
-pub enum_known-checked : goal.enum_known-checked
-enum_known-checked c =
+pub returns-in-Passed : goal.returns-in-Passed
+returns-in-Passed c =
     let m = bounds c.before.before in
     let passed = c.in-Passed.is in
     record {
@@ -54,9 +51,6 @@ enum_known-checked c =
       low = λ q. m.low passed;
       high = λ q. m.high passed;
     }
-
-pub returns-in-Passed : goal.returns-in-Passed
-returns-in-Passed c = -- refused by 3, 4 or 5 c
 
 pub returns-in-Refused : goal.returns-in-Refused
 returns-in-Refused c =

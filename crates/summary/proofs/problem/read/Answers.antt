@@ -21,20 +21,12 @@ means c = reading-means c.args.file.now (record { each = λ j. omega (arith, c.s
 
 pub returns-then-file-gt-LONGEST : goal.returns-then-file-gt-LONGEST
 unfolding read_as
-returns-then-file-gt-LONGEST c = -- 15 c
+returns-then-file-gt-LONGEST c =
+    exactly (ReadingMeaning c.args.file.now) (means c) _ (rw c.no_problem.ensures (sym (reading-long _ (omega arith))))
 
-pub enum_told-1 : goal.enum_told-1
+pub read_in-requires : goal.read_in-requires
 unfolding read_as
-enum_told-1 c =
-    exactly (ReadingMeaning c.args.file.now) (means c.before) _ (rw c.no_problem.ensures (sym (reading-long _ (omega arith))))
-
-pub enum_known-checked : goal.enum_known-checked
-unfolding read_as
-enum_known-checked c = -- the fields c
-
-pub no_problem-requires-in-Refused : goal.no_problem-requires-in-Refused
-unfolding read_as
-no_problem-requires-in-Refused c = let e = c.walk-walked.ensures in rw e (walked_inside _)
+read_in-requires c = let e = c.walk-walked.ensures in rw e (walked_inside _)
 
 pub returns-in-Passed : goal.returns-in-Passed
 unfolding read_as

@@ -38,10 +38,6 @@ pub mend_problem-checked-requires : goal.mend_problem-checked-requires
 unfolding read_as
 mend_problem-checked-requires c = rw (limit-clean c.before.before.before.before.before.before) c.before.before.before.before.before.before.requires
 
-pub enum_known-checked : goal.enum_known-checked
-unfolding read_as
-enum_known-checked c = -- passed, and refused c
-
 pub returns-in-Passed : goal.returns-in-Passed
 unfolding read_as
 returns-in-Passed c = reading-mended _ (limit-clean c.before.before.before.before.before.before.before.before.before) (mended c) c.in-Passed.is

@@ -25,7 +25,7 @@ added s = let a = s.args in sums_at a.n a.gl.now a.gu.now a.ga.now a.gb.now a.mo
 tried : (c : After-add_inside) → let a = c.args in
     let o = c.add_inside-whole.new.1.1.1.1.1.1.1 in
     Tried a.n (added c) a.l.now a.u.now a.a.now a.b.now a.limit c.add_inside-whole.result o.0 o.1.0 o.1.1.0 o.1.1.1.0
-tried c = rw (clean c.fits.limit, clean c.fits.more) at c.add_inside-whole.ensures
+tried c = rw (clean c.ranges.limit, clean c.ranges.more) at c.add_inside-whole.ensures
 
 halves : (c : After-halve) → let a = c.before.before.before.before.before.args in
     let o = c.before.before.before.before.before.add_inside-whole.last.1.1.1.1.1.1.1 in
@@ -35,12 +35,12 @@ halves c = rw (clean c.before.before.before.before.before.before.before.before.b
 
 pub halve-half-requires : goal.halve-half-requires
 halve-half-requires c =
-    (c.before.before.before.before.before.before.before.before.before.before.requires.0, rw (clean c.before.before.before.before.before.before.before.before.before.before.fits.limit) (kept-ranged c.in-Refused.is (tried c.before.before.before.before.before.before.before.before.before.before) c.before.before.before.before.before.before.before.before.before.before.requires.2))
+    (c.before.before.before.before.before.before.before.before.before.before.requires.0, rw (clean c.before.before.before.before.before.before.before.before.before.before.ranges.limit) (kept-ranged c.in-Refused.is (tried c.before.before.before.before.before.before.before.before.before.before) c.before.before.before.before.before.before.before.before.before.before.requires.2))
 
 pub add_inside-requires : goal.add_inside-requires
 add_inside-requires c = (
   c.before.before.before.before.before.before.requires.0,
-  rw (clean c.before.before.before.before.before.before.fits.more) c.before.before.before.before.before.before.requires.1,
+  rw (clean c.before.before.before.before.before.before.ranges.more) c.before.before.before.before.before.before.requires.1,
   rw (clean_result c.halve-half) (halves-ranged c.in-Refused.is (tried c.before.before.before.before.before.before) (halves c) c.before.before.before.before.before.before.requires.2),
 )
 

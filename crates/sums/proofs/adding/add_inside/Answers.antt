@@ -15,12 +15,12 @@ After-sums_within = lts.After-sums_within tie.the-claims reads.Pre reads.Post
 asked : (c : After-sums_within) → let a = c.args in
     c.sums_within.result
     ≡ sums_within (plus (sums_at a.n a.gl.now a.gu.now a.ga.now a.gb.now a.more) (sums_at a.n a.l.now a.u.now a.a.now a.b.now a.limit))
-asked c = rw (clean c.fits.limit, clean c.fits.more) at c.sums_within.ensures
+asked c = rw (clean c.ranges.limit, clean c.ranges.more) at c.sums_within.ensures
 
 pub returns-then-sums_within : goal.returns-then-sums_within
 returns-then-sums_within c =
     rw (clean_result c.add_sums-sum)
-    (tried_in (sym (asked c.before) ∙ c.if-sums_within.true) (rw (clean c.fits.limit, clean c.fits.more) at c.add_sums-sum.ensures))
+    (tried_in (sym (asked c.before) ∙ c.if-sums_within.true) (rw (clean c.ranges.limit, clean c.ranges.more) at c.add_sums-sum.ensures))
 
 pub returns : goal.returns
 returns c = tried_full (sym (asked c.before) ∙ c.if-sums_within.false) c.requires.2.rooms

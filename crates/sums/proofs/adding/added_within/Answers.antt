@@ -25,7 +25,7 @@ After-within-arg2 = lts.After-within-arg2 tie.the-claims reads.Pre reads.Post go
 sum : (c : After-within-arg2) → to_z w64 (of_z w64 (nth c.args.x.now c.loop-k.k)) +ℤ to_z w64 (of_z w64 (nth c.args.g.now c.loop-k.k))
     ≡ nth c.args.x.now c.loop-k.k +ℤ nth c.args.g.now c.loop-k.k
 sum c =
-    rw (clean_element (nth c.args.x.now c.loop-k.k) c.Within-arg.given, clean_element (nth c.args.g.now c.loop-k.k) c.within-arg-in-loop-k-1.given)
+    rw (clean_element (nth c.args.x.now c.loop-k.k) c.within-arg-1.given, clean_element (nth c.args.g.now c.loop-k.k) c.within-arg-in-loop-k-1.given)
 
 pub overflow_add-x : goal.overflow_add-x
 overflow_add-x c =

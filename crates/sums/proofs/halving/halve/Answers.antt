@@ -14,11 +14,11 @@ pub halve_up-requires-2 : goal.halve_up-requires-2
 halve_up-requires-2 c = ranged-to c.requires.1
 
 pub ceil_div-requires : goal.ceil_div-requires
-ceil_div-requires c = (rw (clean c.fits.limit) (within_more (omega arith) (ranged-limit c.requires.1)), ≤_in (omega arith))
+ceil_div-requires c = (rw (clean c.ranges.limit) (within_more (omega arith) (ranged-limit c.requires.1)), ≤_in (omega arith))
 
 pub returns : goal.returns
 returns c =
     let a = c.args in
     sums-filled c.requires.1.rooms c.halve_down.ensures c.halve_up.ensures c.halve_down-2.ensures c.halve_up-2.ensures
-    (clean_result c.ceil_div ∙ c.ceil_div.ensures ∙ ap half_up (clean c.fits.limit))
+    (clean_result c.ceil_div ∙ c.ceil_div.ensures ∙ ap half_up (clean c.ranges.limit))
     (halved-front a.n a.l.now a.u.now a.a.now a.b.now a.limit)

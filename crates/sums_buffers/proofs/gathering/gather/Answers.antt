@@ -26,7 +26,7 @@ Start = lts.Start tie.the-claims reads.Pre reads.Post
 -- the numbers of the sample are of 32 bits
 narrow : (s : Start) → Narrow s.args.sample
 narrow s =
-    let g = s.well-formed.0.1.1 in
+    let g = s.well_formed.0.1.1 in
     record { rolling = g.0.1; climb = g.1.0.1; air = g.1.1.0.1; start = g.1.1.1.0.1; draw = g.1.1.1.1.0.1 }
 
 -- the sums that are lent
@@ -50,7 +50,7 @@ gather_measured-requires c = inside_near _ (narrow c.before.before.before.before
 
 pub returns-in-Inside : goal.returns-in-Inside
 returns-in-Inside c =
-    rw (← gathering_inside c.args.sample c.args.n (sized c) (posed c) (inside c)) (rw (clean c.fits.n) at c.gather_measured.ensures)
+    rw (← gathering_inside c.args.sample c.args.n (sized c) (posed c) (inside c)) (rw (clean c.ranges.n) at c.gather_measured.ensures)
 
 pub returns-in-Outside : goal.returns-in-Outside
 returns-in-Outside c =

@@ -91,7 +91,7 @@ read c =
     reading-spelled (order_of a.n) a.low.now a.high.now a.from.now a.to.now _ _ _ _ a.running (order_small a.n)
     (laid_by a.low.now a.high.now (order c.before.before.before.before.before.before.before.before) (passed c) c.load_bounds.ensures)
     (terms_by (order c.before.before.before.before.before.before.before.before) (passed c) c.load_terms.ensures) (terms_by (order c.before.before.before.before.before.before.before.before) (passed c) c.load_terms-2.ensures) a.allowance
-    c.read_checked-reading.ensures (order c.before.before.before.before.before.before.before.before) (clean c.fits.running) (clean c.fits.allowance)
+    c.read_checked-reading.ensures (order c.before.before.before.before.before.before.before.before) (clean c.ranges.running) (clean c.ranges.allowance)
     ∙ reading-sized a.n (sizes c) a.allowance (sums c) (order-given a.n (λ z. c.if-m-eq0.left (order c.before.before.before.before.before.before.before.before ∙ z))) (sym (sized c.before.before.before.before.before.before.before.before) ∙ passed c) refl
 
 -- what check 3 finds beside the tables

@@ -34,17 +34,11 @@ kept others n l u e = record { answered = e; low-size = refl; high-size = refl; 
 pub returns-then-not-within : goal.returns-then-not-within
 returns-then-not-within c = rw (not-true c.args.within c.if-not-within.true-raw) (kept false _ _ _ (sym (others_outside _ _ _)))
 
-pub shape_of-low-in-Passed : goal.shape_of-low-in-Passed
-shape_of-low-in-Passed c = -- mended c
-
-pub shape_of-high-in-Passed : goal.shape_of-high-in-Passed
-shape_of-high-in-Passed c =
+pub returns-in-Passed : goal.returns-in-Passed
+returns-in-Passed c =
     let p = c.before.before.before.requires in
     rw (not-false c.before.before.before.args.within c.before.before.before.if-not-within.false-raw)
     (apart _ _ _ p.1 p.2 (sym c.in-Passed.is ∙ c.check_apart-checked.ensures) c.mend.ensures.0 c.mend.ensures.1)
-
-pub shape_of-high-in-Refused : goal.shape_of-high-in-Refused
-shape_of-high-in-Refused c = -- refused c
 
 pub returns-in-Refused : goal.returns-in-Refused
 returns-in-Refused c =

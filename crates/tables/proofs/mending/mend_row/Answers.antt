@@ -31,6 +31,7 @@ In-loop = lts.In-loop tie.the-claims reads.Pre reads.Post goal.the-invariant-loo
 module _ (c : At-loop) where
   low-kept : length c.loop-j.low ≡ length c.args.low.now
   low-kept = let a = c.args in ap length c.loop-j.invariant.1 ∙ row-size greater_pairing a.n a.low.now (omega arith) a.i c.loop-j.j (omega arith) (omega arith)
+
   high-kept : length c.loop-j.high ≡ length c.args.high.now
   high-kept = let a = c.args in ap length c.loop-j.invariant.2 ∙ row-size smaller_pairing a.n a.high.now (omega arith) a.i c.loop-j.j (omega arith) (omega arith)
 
@@ -45,20 +46,28 @@ row o h = record { fits = omega (arith, table_fits o, inside {j = 0} h (omega ar
 module _ (c : In-loop) where
   column : c.loop-j.j < c.args.n
   column = omega arith
+
   abbrev p : ℕ
   p = c.args.i * c.args.n + c.loop-j.j
+
   abbrev q : ℕ
   q = c.loop-j.j * c.args.n + c.args.i
+
   low_first : p < length c.loop-j.low
   low_first = omega (arith, inside c.requires.1 column, low-kept c)
+
   low_second : q < length c.loop-j.low
   low_second = omega (arith, inside column c.requires.1, low-kept c)
+
   high-first : p < length c.loop-j.high
   high-first = omega (arith, inside c.requires.1 column, high-kept c)
+
   high-second : q < length c.loop-j.high
   high-second = omega (arith, inside column c.requires.1, high-kept c)
+
   eighth_first : Fits w64 (p * 8)
   eighth_first = record { fits = omega (arith, table_fits c.requires.0, inside c.requires.1 column) }
+
   eighth_second : Fits w64 (q * 8)
   eighth_second = record { fits = omega (arith, table_fits c.requires.0, inside column c.requires.1) }
 
@@ -78,23 +87,23 @@ loop-j-preserved c =
 
 pub loop-j-init : goal.loop-j-init
 unfolding joined_row
-loop-j-init c = let s = c.requires in row s.0 s.1
+loop-j-init c = (omega arith, refl, refl)
 
 pub overflow_mul-p : goal.overflow_mul-p
 unfolding joined_row
-overflow_mul-p c = let s = c.requires in place s.0 s.1 (omega arith)
+overflow_mul-p c = let s = c.requires in row s.0 s.1
 
 pub overflow_add-p : goal.overflow_add-p
 unfolding joined_row
-overflow_add-p c = let s = c.requires in row s.0 (omega arith)
+overflow_add-p c = let s = c.requires in place s.0 s.1 (omega arith)
 
 pub overflow_mul-q : goal.overflow_mul-q
 unfolding joined_row
-overflow_mul-q c = let s = c.requires in place s.0 (omega arith) s.1
+overflow_mul-q c = let s = c.requires in row s.0 (omega arith)
 
 pub overflow_add-q : goal.overflow_add-q
 unfolding joined_row
-overflow_add-q c = -- the greater low c
+overflow_add-q c = let s = c.requires in place s.0 (omega arith) s.1
 
 pub offset_bounds-low-p : goal.offset_bounds-low-p
 unfolding joined_row

@@ -41,7 +41,7 @@ returns c =
     put-within
     (next-put (from c ∷ limit c ∷ centre c ∷ []) (to c) (omega arith)
     (next-put (from c ∷ limit c ∷ []) (centre c) (omega arith)
-    (next-put (from c ∷ []) (limit c) (omega arith) (one-put (from c) c.put_numbers-at_limit.ensures) (put_by (ap (λ (α : ℤ). entry_bytes (number α)) (clean c.fits.limit)) c.put_numbers-at_centre.ensures))
+    (next-put (from c ∷ []) (limit c) (omega arith) (one-put (from c) c.put_numbers-at_limit.ensures) (put_by (ap (λ (α : ℤ). entry_bytes (number α)) (clean c.ranges.limit)) c.put_numbers-at_centre.ensures))
     c.put_numbers-at_high.ensures)
     c.put_numbers.ensures)
     (omega arith)
