@@ -181,10 +181,14 @@ module _ {w : Width} (n : Narrow w) where
   unfolding numbers_of bytes_of signed_at
   numbers_of-bytes_of a t zero f h = refl
   numbers_of-bytes_of a t (suc k) f h =
-      let u = of_z w (get_or a k (pos 0)) in
+      let v = get_or a k (pos 0) in
+      let u = of_z w v in
+      let b = to_le_bytes (bytes w) u in
+      let d = append_assoc (bytes_of w a k) (to_le_bytes (bytes w) (of_z w64 v)) t ∙ ap (λ (x : List ℕ). bytes_of w a k ++ (x ++ t)) (low_bytes v (f.each k)) in
       let e = unsigned_at-put (bytes w) (bytes_of w a k) t (k * bytes w) u (length-bytes_of w a k) (bits_below w (f.each k)) in
-      rw (low_bytes (get_or a k (pos 0)) (f.each k), e, append_assoc (bytes_of w a k))
-      (rw (numbers_of-bytes_of a (to_le_bytes (bytes w) u ++ t) k f (omega arith), to_z-of_z (f.each k), take-suc a k (pos 0) (omega arith)))
+      let r = numbers_of-bytes_of a (b ++ t) k f (omega arith) in
+      ap (λ (x : List ℕ). numbers_of w x (suc k)) d
+      ∙ rw (← append_assoc (bytes_of w a k), e) (rw (r, to_z-of_z (f.each k), take-suc a k (pos 0) (omega arith)))
 
   -- bytes that are read and written out again, whatever stands behind the numbers
   pub bytes_of-numbers_of : (s : List ℕ) (t : List ℤ) (k : ℕ) → AllBytes s → k * bytes w ≤ length s → bytes_of w (numbers_of w s k ++ t) k ≡ take (k * bytes w) s
@@ -193,5 +197,7 @@ module _ {w : Width} (n : Narrow w) where
   bytes_of-numbers_of s t (suc k) b h =
       let x = signed_at w s (k * bytes w) in
       let m : suc k * bytes w ≡ k * bytes w + bytes w = omega arith in
-      rw (append_snoc (numbers_of w s k), get_or_at (numbers_of w s k) x t (pos 0) k (length-numbers_of w s k), bytes_of-numbers_of s (x ∷ t) k b (omega arith))
-      (rw (low_bytes_signed_at s (k * bytes w) b, bytes_at (bytes w) s (k * bytes w) b (omega arith), m, take-add))
+      let p = numbers_of w s k in
+      let r = bytes_of-numbers_of s (x ∷ t) k b (omega arith) in
+      ap (λ (y : List ℤ). bytes_of w y (suc k)) (append_snoc p x t)
+      ∙ rw (get_or_at p x t (pos 0) k (length-numbers_of w s k), r, low_bytes_signed_at s (k * bytes w) b, bytes_at (bytes w) s (k * bytes w) b (omega arith), m, take-add)

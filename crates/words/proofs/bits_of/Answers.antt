@@ -5,7 +5,6 @@ use mir.Syntax.{w64}
 use mir.Facts.{to_z_pos}
 use Rattle.words.proofs.Sign.{Nonnegative, Negative, nonnegative_of, negative_of}
 use Rattle.words.proofs.bits_of.Lts as lts
-use Rattle.words.proofs.bits_of.Tie as tie
 use Rattle.words.proofs.bits_of.Reads as reads
 use Rattle.words.proofs.bits_of.Goals as goal
 

@@ -1,24 +1,18 @@
 use mathlib.Core.Path.{◌≡◌, refl, ap, ◌∙◌}
-use mathlib.Core.List.{◌++◌}
-use Prim.Native.Nat.{ℕ, suc, ◌≤◌, ◌-◌, ◌*◌}
+use Prim.Native.Nat.{ℕ, suc, ◌≤◌, ◌*◌}
 use native.Mathlib.Nat.{mul-le-mul_right}
 use native.Mathlib.Omega.{arith}
 use borrow.Author.Rules.{sfits_of}
-use lib.ListN.{length, drop}
+use lib.ListN.{length}
 use mir.Syntax.{w64}
 use mir.Facts.{to_z-of_z}
 use Rattle.words.specs.Numbers.{width_of, signed_at, numbers_of}
 use Rattle.words.proofs.Filling.{length-filled, fill_number}
-use Rattle.words.proofs.load_numbers.Lts as lts
-use Rattle.words.proofs.load_numbers.Tie as tie
-use Rattle.words.proofs.load_numbers.Reads as reads
 use Rattle.words.proofs.load_numbers.Goals as goal
-
-abbrev In-loop : Type 0
-In-loop = lts.In-loop tie.the-claims reads.Pre reads.Post goal.the-invariant-loop-i goal.the-decreases-loop-i
+use Rattle.words.proofs.load_numbers.Goals.{In-loop-i}
 
 -- number i ends where the k numbers end, or before
-room : (c : In-loop)
+room : (c : In-loop-i)
     → suc c.loop-i.i * c.args.size ≤ c.args.k * c.args.size
 room c = mul-le-mul_right c.args.size (omega arith)
 

@@ -2,22 +2,16 @@ use mathlib.Core.Path.{◌≡◌}
 use Prim.Native.Nat.{suc, ◌≤◌, ◌<◌, ◌-◌, ◌+◌, ◌^◌}
 use native.Mathlib.Nat.{sub-zero, sub_self, add-zero, pow-le-pow_right}
 use native.Mathlib.Omega.{arith}
-use borrow.Author.Rules.{rules}
 use Rattle.words.specs.Numbers.{unsigned_at, from_le_bytes}
 use Rattle.words.proofs.Laws.{unsigned_at-below, unsigned_at_suc}
-use Rattle.words.proofs.load_unsigned.Lts as lts
-use Rattle.words.proofs.load_unsigned.Tie as tie
-use Rattle.words.proofs.load_unsigned.Reads as reads
 use Rattle.words.proofs.load_unsigned.Goals as goal
+use Rattle.words.proofs.load_unsigned.Goals.{After-wide-x}
 
-abbrev After-wide : Type 0
-After-wide = lts.After-wide tie.the-claims reads.Pre reads.Post goal.the-invariant-loop-i goal.the-decreases-loop-i
-
-below : (c : After-wide) → c.loop-i.u < 256 ^ 7
+below : (c : After-wide-x) → c.loop-i.u < 256 ^ 7
 below c =
     let l = c.loop-i in
     let a = c.args in
-    let h = unsigned_at-below (a.k - l.i) a.b.now (a.at + l.i) (record { each = λ j. omega (arith, c.shared_slice_known-in-loop-i-1.given j) }) in
+    let h = unsigned_at-below (a.k - l.i) a.b.now (a.at + l.i) (record { each = λ j. omega (arith, c.type_inv.b j) }) in
     let p : 256 ^ (a.k - l.i) ≤ 256 ^ 7 = pow-le-pow_right {n = 256} (omega arith) {j = 7} (omega arith) in
     omega arith
 

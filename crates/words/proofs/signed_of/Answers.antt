@@ -2,7 +2,6 @@ use mathlib.Core.Path.{◌≡◌, ◌∙◌}
 use lib.IntN.{negsuc, ◌-ℤ◌}
 use Prim.Native.Nat.{◌-◌}
 use native.Mathlib.Omega.{arith}
-use borrow.Author.Rules.{rules}
 use mir.Syntax.{w64}
 use mir.Val.{to_z}
 use mir.Facts.{to_z-of_z}

@@ -1,26 +1,20 @@
 use mathlib.Core.Path.{◌≡◌, refl, ap, ◌∙◌}
-use mathlib.Core.List.{◌++◌}
-use Prim.Native.Nat.{ℕ, suc, ◌≤◌, ◌-◌, ◌*◌}
+use Prim.Native.Nat.{ℕ, suc, ◌≤◌, ◌*◌}
 use native.Mathlib.Nat.{zero-mul, mul-le-mul_right}
 use native.Mathlib.Omega.{arith}
 use borrow.Author.Rules.{sfits_of}
-use lib.ListN.{length, drop, get_or}
+use lib.ListN.{get_or}
 use lib.IntN.{pos}
 use mir.Syntax.{w64}
 use mir.Val.{bytes}
 use mir.Facts.{to_z-of_z}
 use Rattle.words.specs.Numbers.{width_of, with_signed, bytes_of}
 use Rattle.words.proofs.Filling.{fill_bytes}
-use Rattle.words.proofs.store_numbers.Lts as lts
-use Rattle.words.proofs.store_numbers.Tie as tie
-use Rattle.words.proofs.store_numbers.Reads as reads
 use Rattle.words.proofs.store_numbers.Goals as goal
-
-abbrev In-loop : Type 0
-In-loop = lts.In-loop tie.the-claims reads.Pre reads.Post goal.the-invariant-loop-i goal.the-decreases-loop-i
+use Rattle.words.proofs.store_numbers.Goals.{In-loop-i}
 
 -- the bytes of number i end where those of the k numbers end, or before
-room : (c : In-loop)
+room : (c : In-loop-i)
     → suc c.loop-i.i * c.args.size ≤ c.args.k * c.args.size
 room c = mul-le-mul_right c.args.size (omega arith)
 
@@ -44,7 +38,7 @@ loop-i-preserved c =
     let a = c.args in
     let v = c.v-1.given in
     let e = ap (λ (n : ℕ). with_signed (width_of a.size) l.out (l.i * n) (get_or a.a.now l.i (pos 0))) c.requires.0 in
-    (omega arith, s.auto.0 ∙ l.invariant.1, rw (to_z-of_z {w = w64} (sfits_of v)) at s.ensures ∙ e ∙ rw l.invariant.2 (fill_bytes (width_of a.size) a.a.now a.out.now l.i))
+    (omega arith, s.auto.b ∙ l.invariant.1, rw (to_z-of_z {w = w64} (sfits_of v)) at s.ensures ∙ e ∙ rw l.invariant.2 (fill_bytes (width_of a.size) a.a.now a.out.now l.i))
 
 pub returns : goal.returns
 unfolding bytes_of

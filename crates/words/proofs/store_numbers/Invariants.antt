@@ -1,16 +1,9 @@
-use mathlib.Core.Path.{◌≡◌, refl, ap, ◌∙◌}
+use mathlib.Core.Path.{◌≡◌}
 use mathlib.Core.List.{◌++◌}
-use Prim.Native.Nat.{ℕ, suc, ◌≤◌, ◌-◌, ◌*◌}
-use native.Mathlib.Nat.{zero-mul, mul-le-mul_right}
-use native.Mathlib.Omega.{arith}
-use borrow.Author.Rules.{sfits_of}
-use lib.ListN.{length, drop, get_or}
-use lib.IntN.{pos}
-use mir.Syntax.{w64}
+use Prim.Native.Nat.{◌≤◌, ◌-◌, ◌*◌}
+use lib.ListN.{length, drop}
 use mir.Val.{bytes}
-use mir.Facts.{to_z-of_z}
-use Rattle.words.specs.Numbers.{width_of, with_signed, bytes_of}
-use Rattle.words.proofs.Filling.{fill_bytes}
+use Rattle.words.specs.Numbers.{width_of, bytes_of}
 use Rattle.words.proofs.store_numbers.Given as goal
 
 abbrev pub invariant-loop-i : goal.invariant-loop-i

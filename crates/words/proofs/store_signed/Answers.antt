@@ -3,7 +3,6 @@ use Prim.Native.Nat.{ℕ}
 use mir.Syntax.{w64}
 use mir.Val.{of_z}
 use mir.Facts.{to_z-of_z}
-use borrow.Author.Rules.{rules}
 use Rattle.words.specs.Numbers.{with_unsigned, with_signed}
 use Rattle.words.proofs.store_signed.Goals as goal
 

@@ -1,9 +1,8 @@
 use mathlib.Core.Path.{◌≡◌, refl, sym, ◌∙◌}
-use Prim.Native.Nat.{suc, ◌≤◌, ◌-◌, ◌+◌}
+use Prim.Native.Nat.{suc, ◌-◌, ◌+◌}
 use native.Mathlib.Nat.{sub-zero, add-zero}
 use native.Mathlib.Omega.{arith}
-use lib.ListN.{length, length-set}
-use Rattle.words.specs.Numbers.{with_unsigned}
+use lib.ListN.{length-set}
 use Rattle.words.proofs.Laws.{with_unsigned_zero, with_unsigned_suc}
 use Rattle.words.proofs.store_unsigned.Goals as goal
 

@@ -1,10 +1,7 @@
-use mathlib.Core.Path.{◌≡◌, refl, sym, ◌∙◌}
-use Prim.Native.Nat.{suc, ◌≤◌, ◌-◌, ◌+◌}
-use native.Mathlib.Nat.{sub-zero, add-zero}
-use native.Mathlib.Omega.{arith}
-use lib.ListN.{length, length-set}
+use mathlib.Core.Path.{◌≡◌}
+use Prim.Native.Nat.{◌≤◌, ◌-◌, ◌+◌}
+use lib.ListN.{length}
 use Rattle.words.specs.Numbers.{with_unsigned}
-use Rattle.words.proofs.Laws.{with_unsigned_zero, with_unsigned_suc}
 use Rattle.words.proofs.store_unsigned.Given as goal
 
 abbrev pub invariant-loop-i : goal.invariant-loop-i
