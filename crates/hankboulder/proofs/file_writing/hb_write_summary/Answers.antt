@@ -22,8 +22,8 @@ left c = record { answer = c.write_summary.result; file = c.write_summary.new.fi
 lent : (c : After-shared_slice_known5) → let a = c.args in Bytes a.linear_low.now a.linear_high.now a.centre.now
 lent c =
     record {
-      c.before.before = record { each = λ i. omega (arith, c.shared_slice_known-3-1.given i) };
-      c.before = record { each = λ i. omega (arith, c.shared_slice_known-4-1.given i) };
+      from = record { each = λ i. omega (arith, c.shared_slice_known-3-1.given i) };
+      to = record { each = λ i. omega (arith, c.shared_slice_known-4-1.given i) };
       centre = record { each = λ i. omega (arith, c.shared_slice_known-5-1.given i) };
     }
 
