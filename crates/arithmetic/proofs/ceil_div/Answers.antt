@@ -27,7 +27,7 @@ overflow_sub-a c =
 quotient : (c : After-floor_div) → Within bound_range c.floor_div.result
 quotient c =
     let w = c.requires.0 in
-    rw (c.floor_div.ensures, clean (overflow_sub-a c), clean c.ranges.a)
+    rw (c.floor_div.ensures, clean (overflow_sub-a c.before), clean c.ranges.a)
     (within_floor _ (within_in (order (c.args.a ∷ []) (within_low w & within-high w) (search solver depth 40 fits 20000) (omega arith))
     (order (c.args.a ∷ []) (within_low w & within-high w) (search solver depth 40 fits 20000) (omega arith))))
 
@@ -41,4 +41,4 @@ overflow_sub-result c =
 pub returns : goal.returns
 unfolding ceil_div
 returns c =
-    clean (overflow_sub-result c) ∙ rw (clean_result c.floor_div, c.floor_div.ensures, clean (overflow_sub-a c), clean c.ranges.a, clean c.ranges.d, +ℤ_idl (neg_ℤ c.args.a), +ℤ_idl)
+    clean (overflow_sub-result c) ∙ rw (clean_result c.floor_div, c.floor_div.ensures, clean (overflow_sub-a c.before), clean c.ranges.a, clean c.ranges.d, +ℤ_idl (neg_ℤ c.args.a), +ℤ_idl)

@@ -56,9 +56,9 @@ overflow_sub-q c =
 
 root : (c : After-whole_root) → Within bound_range c.whole_root.result
 root c =
-    rw (c.whole_root.ensures, clean (overflow_sub-q c), clean_result c.ceil_div-q, quotient c.before)
-    (within-whole_root (order (above c ∷ []) (some c) (search solver depth 40 fits 20000) (omega arith))
-    (nonneg-within (order (above c ∷ []) (some c) (search solver depth 40 fits 20000) (omega arith)) (order (above c ∷ []) (most c) (search solver depth 40 fits 20000) (omega arith))))
+    rw (c.whole_root.ensures, clean (overflow_sub-q c.before), clean_result c.ceil_div-q, quotient c.before.before)
+    (within-whole_root (order (above c.before ∷ []) (some c.before) (search solver depth 40 fits 20000) (omega arith))
+    (nonneg-within (order (above c.before ∷ []) (some c.before) (search solver depth 40 fits 20000) (omega arith)) (order (above c.before ∷ []) (most c.before) (search solver depth 40 fits 20000) (omega arith))))
 
 pub overflow_add-result : goal.overflow_add-result
 overflow_add-result c =
@@ -76,5 +76,5 @@ whole_root-requires c =
 
 pub returns : goal.returns
 returns c =
-    clean (overflow_add-result c) ∙ rw (clean_result c.whole_root, c.whole_root.ensures, clean (overflow_sub-q c.before), clean_result c.ceil_div-q, quotient c)
+    clean (overflow_add-result c) ∙ rw (clean_result c.whole_root, c.whole_root.ensures, clean (overflow_sub-q c.before), clean_result c.ceil_div-q, quotient c.before.before)
     (root_some c.args.t c.args.b (some c.before))

@@ -77,13 +77,13 @@ passed c =
 pub overflow_add-least-2 : goal.overflow_add-least-2
 overflow_add-least-2 c =
     let p = c.requires in
-    rw ((passed c).0, clean_element _ c.from-1.given)
+    rw ((passed c.before.before).0, clean_element _ c.from-1.given)
     (fits_within (picked-row p.0 p.1 min_ℤ (λ x y v w. within_min v w) (p.0.terms.low _ p.1)) (omega arith))
 
 pub overflow_add-greatest-2 : goal.overflow_add-greatest-2
 overflow_add-greatest-2 c =
     let p = c.requires in
-    rw ((passed c).1, clean_element _ c.to-1.given)
+    rw ((passed c.before.before.before).1, clean_element _ c.to-1.given)
     (fits_within (picked-row p.0 p.1 max_ℤ (λ x y v w. within_max v w) (p.0.terms.high _ p.1)) (omega arith))
 
 pub loop-j-init : goal.loop-j-init
@@ -118,14 +118,14 @@ pub absolute-x-requires : goal.absolute-x-requires
 unfolding gradient low_gradient high_gradient
 absolute-x-requires c =
     let p = c.requires in
-    rw (clean (overflow_add-least-2 c), (passed c).0, clean_element _ c.from-1.given)
+    rw (clean (overflow_add-least-2 c), (passed c.before.before).0, clean_element _ c.from-1.given)
     (within_more (omega arith) (picked-row p.0 p.1 min_ℤ (λ x y v w. within_min v w) (p.0.terms.low _ p.1)))
 
 pub absolute-y-requires : goal.absolute-y-requires
 unfolding gradient low_gradient high_gradient
 absolute-y-requires c =
     let p = c.requires in
-    rw (clean (overflow_add-greatest-2 c), (passed c).1, clean_element _ c.to-1.given)
+    rw (clean (overflow_add-greatest-2 c), (passed c.before.before.before).1, clean_element _ c.to-1.given)
     (within_more (omega arith) (picked-row p.0 p.1 max_ℤ (λ x y v w. within_max v w) (p.0.terms.high _ p.1)))
 
 pub returns : goal.returns
@@ -133,4 +133,4 @@ unfolding gradient low_gradient high_gradient
 returns c =
     let a = c.args in
     clean_result c.greater ∙ c.greater.ensures
-    ∙ rw (clean_result c.absolute-x, c.absolute-x.ensures, clean_result c.absolute-y, c.absolute-y.ensures, clean (overflow_add-least-2 c), clean (overflow_add-greatest-2 c), (passed c).0, (passed c).1, clean_element (nth a.a.now a.k) c.from-1.given, clean_element (nth a.b.now a.k) c.to-1.given)
+    ∙ rw (clean_result c.absolute-x, c.absolute-x.ensures, clean_result c.absolute-y, c.absolute-y.ensures, clean (overflow_add-least-2 c.before.before.before), clean (overflow_add-greatest-2 c.before.before), (passed c.before.before.before.before.before).0, (passed c.before.before.before.before.before).1, clean_element (nth a.a.now a.k) c.from-1.given, clean_element (nth a.b.now a.k) c.to-1.given)

@@ -28,5 +28,5 @@ unfolding box_entry box_stored
 returns c =
     let a = c.args in
     rw (clean_result c.box_code, c.box_code.ensures)
-    (exactly (means c) (box_means a.n a.low.now a.high.now a.linear_low.now a.linear_high.now a.limit a.centre.now a.sides.now) _
+    (exactly (means c.before.before.before.before.before.before.before.before.before.before.before) (box_means a.n a.low.now a.high.now a.linear_low.now a.linear_high.now a.limit a.centre.now a.sides.now) _
     (ap numbered (rw (clean c.ranges.n, clean c.ranges.limit) at c.enclose.ensures)))

@@ -27,5 +27,5 @@ unfolding judge_entry judge_stored
 returns c =
     let a = c.args in
     rw (clean_result c.verdict_code, c.verdict_code.ensures)
-    (exactly (means c) (judge-means a.n a.low.now a.high.now a.factor.now a.vector.now a.over.now) _
+    (exactly (means c.before.before.before.before.before.before.before.before.before.before.before.before.before.before.before.before) (judge-means a.n a.low.now a.high.now a.factor.now a.vector.now a.over.now) _
     (ap numbered (rw (clean c.ranges.n) at c.judge.ensures)))

@@ -27,5 +27,5 @@ unfolding test_factor_entry test_stored
 returns c =
     let a = c.args in
     rw (clean_result c.factor_code, c.factor_code.ensures)
-    (exactly (means c) (factor-means a.n a.low.now a.high.now a.factor.now a.over.now) _
+    (exactly (means c.before.before.before.before.before.before.before.before.before) (factor-means a.n a.low.now a.high.now a.factor.now a.over.now) _
     (ap numbered (rw (clean c.ranges.n) at c.test_factor.ensures)))

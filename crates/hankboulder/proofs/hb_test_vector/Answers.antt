@@ -23,4 +23,4 @@ unfolding test_vector_entry
 returns c =
     let a = c.args in
     rw (clean_result c.answer_code)
-    (exactly (means c) (vector-means a.n a.low.now a.high.now a.vector.now) _ (c.answer_code.ensures ∙ ap answer_code (rw (clean c.ranges.n) at c.test_vector.ensures)))
+    (exactly (means c.before.before.before.before.before) (vector-means a.n a.low.now a.high.now a.vector.now) _ (c.answer_code.ensures ∙ ap answer_code (rw (clean c.ranges.n) at c.test_vector.ensures)))

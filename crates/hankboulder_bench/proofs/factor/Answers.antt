@@ -54,12 +54,12 @@ overflow_mul-size c = record { fits = omega (arith, order_fits _ (order c.before
 pub enter-checked-requires : goal.enter-checked-requires
 unfolding factoring
 enter-checked-requires c =
-    ((λ s. rw (clean c.ranges.n) (let z = sizes-of _ _ _ _ _ (sym (sized c) ∙ s) in (z.0, z.1))), refl, refl)
+    ((λ s. rw (clean c.ranges.n) (let z = sizes-of _ _ _ _ _ (sym (sized c.before.before) ∙ s) in (z.0, z.1))), refl, refl)
 
 pub returns-in-Refused : goal.returns-in-Refused
 unfolding factoring
 returns-in-Refused c =
-    entered-refused _ _ _ _ _ Answer.Refused _ (came c.before.before.before) c.in-Refused.is
+    entered-refused _ _ _ _ _ Answer.Refused _ (came c.before) c.in-Refused.is
 
 pub slice_bounds-ends-end : goal.slice_bounds-ends-end
 unfolding factoring
@@ -73,11 +73,11 @@ pub ends-requires : goal.ends-requires
 unfolding factoring
 ends-requires c =
     let q = c.in_default.is in
-    rw (order c.before.before.before.before.before.before.before.before.before) ((came c).held q).tables
+    rw (order c.before.before.before.before.before.before.before.before) ((came c.before.before.before).held q).tables
 
 pub returns : goal.returns
 unfolding factoring
 returns c =
     let q = c.in_default.is in
-    let h = (came c).held q in
-    (rw (order c.before.before.before.before.before.before.before, h.low, h.high) at c.ends.ensures) ∙ entered-passed _ _ _ _ _ Answer.Refused _ (came c) q
+    let h = (came c.before.before.before.before).held q in
+    (rw (order c.before.before.before.before.before.before.before.before.before, h.low, h.high) at c.ends.ensures) ∙ entered-passed _ _ _ _ _ Answer.Refused _ (came c.before.before.before.before) q

@@ -57,14 +57,14 @@ filled : (c : After-first_halves) →
     let a = c.args in
     Filled greatest_order a.n (λ k. ceil_div (nth a.g.now k) a.t +ℤ least_root a.t (bound a.n a.d a.t (nth a.g.now))) c.first_halves.new.y
 filled c =
-    rw (clean_result c.bound-b, bound_is c, clean c.ranges.t) at c.first_halves.ensures
+    rw (clean_result c.bound-b, bound_is c.before.before.before, clean c.ranges.t) at c.first_halves.ensures
 
 -- B2
 second-bound_is : (c : After-second_bound) →
     let a = c.args in
     c.second_bound-b2.result ≡ second_bound a.n a.d a.t (nth a.g.now)
 second-bound_is c =
-    rw (clean c.ranges.d, second_is c.args.n (nth c.args.c.now) c.args.d c.args.t (nth c.args.tk.now) (nth c.args.g.now) (filled c))
+    rw (clean c.ranges.d, second_is c.args.n (nth c.args.c.now) c.args.d c.args.t (nth c.args.tk.now) (nth c.args.g.now) (filled c.before.before))
     at c.second_bound-b2.ensures
 
 second-yes : (c : Else2) →
@@ -89,7 +89,7 @@ returns-then-b-lt0 c = record { answer = box_none _ _ _ _ _ _ _ (bound-no c); si
 
 pub first_halves-requires : goal.first_halves-requires
 first_halves-requires c =
-    rw (clean c.ranges.t, clean_result c.bound-b, bound_is c) (c.requires.0.near, bound-within c.requires.0.near c.requires.0.difference, refl)
+    rw (clean c.ranges.t, clean_result c.bound-b, bound_is c.before.before) (c.requires.0.near, bound-within c.requires.0.near c.requires.0.difference, refl)
 
 pub second_bound-b2-requires : goal.second_bound-b2-requires
 second_bound-b2-requires c =
@@ -98,7 +98,7 @@ second_bound-b2-requires c =
 
 pub returns-then-b2-lt0 : goal.returns-then-b2-lt0
 returns-then-b2-lt0 c =
-    record { answer = box_empty _ _ _ _ _ _ (filled c) (bound-yes c.before.before) _ (second-no c); size = c.requires.1 }
+    record { answer = box_empty _ _ _ _ _ _ (filled c.before.before.before) (bound-yes c.before.before.before.before.before) _ (second-no c); size = c.requires.1 }
 
 pub write_sides-requires : goal.write_sides-requires
 write_sides-requires c =
@@ -108,13 +108,13 @@ write_sides-requires c =
         order = q.near.order;
         centre-length = q.centre-length;
         centre = q.centre;
-        halves = halves-within q.near w (filled c);
-        bound = rw (clean_result c.second_bound-b2, c.second_bound-b2.ensures, clean c.ranges.d) (second-within (half-terms q.near w (filled c)) q.difference);
+        halves = halves-within q.near w (filled c.before.before.before.before.before);
+        bound = rw (clean_result c.second_bound-b2, c.second_bound-b2.ensures, clean c.ranges.d) (second-within (half-terms q.near w (filled c.before.before.before.before.before)) q.difference);
       },
       c.requires.1,
     )
 
 pub returns : goal.returns
 returns c =
-    let w = rw (clean_result c.second_bound-b2, second-bound_is c) at c.write_sides.ensures in
-    record { answer = box_sides _ _ _ _ _ _ (filled c) (bound-yes c.before.before) (second-yes c.before.before.before) w; size = w.size }
+    let w = rw (clean_result c.second_bound-b2, second-bound_is c.before.before.before.before) at c.write_sides.ensures in
+    record { answer = box_sides _ _ _ _ _ _ (filled c.before.before.before.before.before.before) (bound-yes c.before.before.before.before.before.before.before.before) (second-yes c.before.before.before) w; size = w.size }

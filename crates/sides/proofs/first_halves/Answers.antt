@@ -36,7 +36,7 @@ root c = let f = c.ranges in clean_result c.least_root-s ∙ c.least_root-s.ensu
 
 pub overflow_add-y : goal.overflow_add-y
 overflow_add-y c =
-    rw (quotient c, root c.before.before) (half_fits c.requires.0 c.requires.1 c.loop-k-test.true)
+    rw (quotient c, root c.before.before.before.before) (half_fits c.requires.0 c.requires.1 c.loop-k-test.true)
 
 pub least_root-s-requires : goal.least_root-s-requires
 least_root-s-requires c = rw (clean c.ranges.t, clean c.ranges.b) (c.requires.1, c.requires.0.step)
@@ -68,7 +68,7 @@ loop-k-preserved c =
     let order = c.requires.0.order in (
       omega arith,
       rw (add-one, clean c.ranges.t, clean c.ranges.b)
-          (filled_more (omega arith) (clean (overflow_add-y c) ∙ rw (quotient c, root c.before)) (rw (clean c.ranges.t, clean c.ranges.b) at c.loop-k.invariant.1)),
+          (filled_more (omega arith) (clean (overflow_add-y c) ∙ rw (quotient c, root c.before.before.before.before)) (rw (clean c.ranges.t, clean c.ranges.b) at c.loop-k.invariant.1)),
     )
 
 pub returns : goal.returns

@@ -26,7 +26,7 @@ pub overflow_sub-result : goal.overflow_sub-result
 unfolding upper
 overflow_sub-result c =
     let s = c.row_sum-sum in
-    rw (clean_result c.floor_div, c.floor_div.ensures, clean (overflow_add-sum c), clean (overflow_mul-diagonal-2 c), clean (overflow_mul-sum c), clean_result s, s.ensures, clean_element _ c.diagonal-1.given)
+    rw (clean_result c.floor_div, c.floor_div.ensures, clean (overflow_add-sum c.before), clean (overflow_mul-diagonal-2 c.before), clean (overflow_mul-sum c.before), clean_result s, s.ensures, clean_element _ c.diagonal-1.given)
     (quotient_fits c.requires)
 
 pub floor_div-requires : goal.floor_div-requires
@@ -38,4 +38,4 @@ unfolding upper entry_of
 returns c =
     let s = c.row_sum-sum in
     clean (overflow_sub-result c)
-    ∙ rw (+ℤ_idl, clean_result c.floor_div, c.floor_div.ensures, clean (overflow_add-sum c), clean (overflow_mul-diagonal-2 c), clean (overflow_mul-sum c), clean_result s, s.ensures, clean_element _ c.diagonal-1.given)
+    ∙ rw (+ℤ_idl, clean_result c.floor_div, c.floor_div.ensures, clean (overflow_add-sum c.before), clean (overflow_mul-diagonal-2 c.before), clean (overflow_mul-sum c.before), clean_result s, s.ensures, clean_element _ c.diagonal-1.given)

@@ -70,7 +70,7 @@ within-requires c = pos_nonneg vector_range
 
 pub returns-then-not-within : goal.returns-then-not-within
 returns-then-not-within c =
-    record { answer = rw (clean c.before.before.before.before.ranges.s) at (solving_none c.before.before.before.before.requires.0 (inside c) (walked c) (failed c) c.loop-left.x); size = c.loop-left.invariant.1.size }
+    record { answer = rw (clean c.ranges.s) at (solving_none c.requires.0 (inside c.before.before.before) (walked c.before.before.before) (failed c) c.loop-left.x); size = c.loop-left.invariant.1.size }
 
 pub offset_bounds-x-i : goal.offset_bounds-x-i
 offset_bounds-x-i c = let h = in_array c.before.before.before in omega arith
@@ -81,8 +81,8 @@ bounds-x-i c = in_array c.before.before.before
 pub loop-left-preserved : goal.loop-left-preserved
 loop-left-preserved c =
     let e = c.entry-e in
-    let h = inside c in
-    (omega arith, rw (clean_result e, e.ensures) (solving_row c.before.before.before.before.requires.0 h (walked c) (passed c)))
+    let h = inside c.before.before.before in
+    (omega arith, rw (clean_result e, e.ensures) (solving_row c.requires.0 h (walked c.before.before.before) (passed c)))
 
 pub returns : goal.returns
 returns c =

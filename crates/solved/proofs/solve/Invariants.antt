@@ -15,7 +15,7 @@ use Rattle.solved.proofs.Solving.{Solving, solving_start, solving_ready, solving
 use Rattle.solved.proofs.solve.Given as goal
 
 abbrev pub invariant-loop-left : goal.invariant-loop-left
-invariant-loop-left l = (l.left ≤ l.m) × Solving l.n l.t l.j l.m (to_z w64 l.s) l.x l.left
+invariant-loop-left l = (l.left ≤ l.m) × Solving l.n l.t l.j l.m l.s l.x l.left
 
 abbrev pub decreases-loop-left : goal.decreases-loop-left
 decreases-loop-left l = l.left

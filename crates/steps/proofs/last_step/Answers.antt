@@ -53,10 +53,10 @@ returns-then-rest-lt1 c = last_none _ _ (lt_yes (fits_rest c.before) (fits_liter
 pub returns-then-most-lt-MOST_STEP : goal.returns-then-most-lt-MOST_STEP
 unfolding upper
 returns-then-most-lt-MOST_STEP c =
-    let e = clean_result c.floor_div-most ∙ most_is c in
-    e ∙ last-most _ _ (one c.before) (lt_holds (rw e at c.if-most-lt-MOST_STEP.true))
+    let e = clean_result c.floor_div-most ∙ most_is c.before in
+    e ∙ last-most _ _ (one c.before.before) (lt_holds (rw e at c.if-most-lt-MOST_STEP.true))
 
 pub returns-else-most-lt-MOST_STEP : goal.returns-else-most-lt-MOST_STEP
 unfolding upper
 returns-else-most-lt-MOST_STEP c =
-    last-all _ _ (one c.before) (lt_fails (rw (clean_result c.floor_div-most ∙ most_is c) at c.if-most-lt-MOST_STEP.false))
+    last-all _ _ (one c.before.before) (lt_fails (rw (clean_result c.floor_div-most ∙ most_is c.before) at c.if-most-lt-MOST_STEP.false))

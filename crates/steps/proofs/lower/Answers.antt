@@ -25,7 +25,7 @@ pub overflow_sub-s : goal.overflow_sub-s
 unfolding upper
 overflow_sub-s c =
     let l = c.loop-i in
-    rw (clean c.ranges.e, clean_element _ c.s-1.given, lower_reads (inside c) l.invariant.2)
+    rw (clean c.ranges.e, clean_element _ c.s-1.given, lower_reads (inside c.before) l.invariant.2)
     (fits_within (within-- (c.requires.0.on l.i l.invariant.0 c.loop-i-test.true) c.requires.2) (omega arith))
 
 pub loop-i-init : goal.loop-i-init
@@ -67,7 +67,7 @@ loop-i-preserved c =
     let e = clean c.ranges.e in (
       omega (arith, l.invariant.0),
       omega (arith, c.loop-i-test.true),
-      rw (clean (overflow_sub-s c), e, clean_element _ c.s-1.given, add-one) (lower_more l.invariant.0 (inside c) (rw e at l.invariant.2)),
+      rw (clean (overflow_sub-s c), e, clean_element _ c.s-1.given, add-one) (lower_more l.invariant.0 (inside c.before) (rw e at l.invariant.2)),
     )
 
 pub returns : goal.returns

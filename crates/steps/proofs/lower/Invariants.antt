@@ -13,7 +13,7 @@ use Rattle.steps.proofs.Diagonals.{lower_start, lower_reads, lower_more}
 use Rattle.steps.proofs.lower.Given as goal
 
 abbrev pub invariant-loop-i : goal.invariant-loop-i
-invariant-loop-i l = (l.first ≤ l.i) × (l.i ≤ l.last) × Lowered l.first l.i (to_z w64 l.e) l.initial.s l.s
+invariant-loop-i l = (l.first ≤ l.i) × (l.i ≤ l.last) × Lowered l.first l.i l.e l.initial.s l.s
 
 abbrev pub decreases-loop-i : goal.decreases-loop-i
 decreases-loop-i l = l.last - l.i

@@ -63,16 +63,16 @@ loop-b-smaller-then-trial c = omega (arith, c.loop-b-test.true)
 
 pub loop-b-preserved-then-trial : goal.loop-b-preserved-then-trial
 loop-b-preserved-then-trial c =
-    let r = rw (clean (overflow_mul-next c), clean (overflow_add-next c), bit c) at c.trial.ensures in
-    rw (clean (overflow_add-next c), bit c) (search_more (searching c) (rw r at c.if-trial.true))
+    let r = rw (clean (overflow_mul-next c.before.before), clean (overflow_add-next c.before.before), bit c.before.before) at c.trial.ensures in
+    rw (clean (overflow_add-next c.before.before), bit c.before.before) (search_more (searching c.before.before) (rw r at c.if-trial.true))
 
 pub loop-b-smaller : goal.loop-b-smaller
 loop-b-smaller c = omega (arith, c.loop-b-test.true)
 
 pub loop-b-preserved : goal.loop-b-preserved
 loop-b-preserved c =
-    let r = rw (clean (overflow_mul-next c), clean (overflow_add-next c), bit c) at c.trial.ensures in
-    search_left (searching c) (rw r at c.if-trial.false)
+    let r = rw (clean (overflow_mul-next c.before.before), clean (overflow_add-next c.before.before), bit c.before.before) at c.trial.ensures in
+    search_left (searching c.before.before) (rw r at c.if-trial.false)
 
 pub returns : goal.returns
 returns c =

@@ -12,7 +12,7 @@ use Rattle.steps.proofs.Searches.{Searching, shifted, tried-within, scaled-nonne
 use Rattle.steps.proofs.search.Given as goal
 
 abbrev pub invariant-loop-b : goal.invariant-loop-b
-invariant-loop-b l = Searching l.n l.first l.last (upper l.h) (to_z w64 l.t) l.b
+invariant-loop-b l = Searching l.n l.first l.last (upper l.h) l.t l.b
 
 abbrev pub decreases-loop-b : goal.decreases-loop-b
 decreases-loop-b l = l.b

@@ -61,7 +61,7 @@ unfolding upper
 returns-then-s-i-lt1 c =
     let l = c.loop-i in
     let q = rw (clean (overflow_sub-s c.before), clean c.ranges.e, clean_element _ c.t12-1.given) at c.if-s-i-lt1.true in
-    sym (all_false _ _ l.i c.loop-i-test.true (stays_is _ _ _ l.i l.invariant.0 ∙ le_z_false {x = pos 1} {y = left c} (lt_holds q)))
+    sym (all_false _ _ l.i c.loop-i-test.true (stays_is _ _ _ l.i l.invariant.0 ∙ le_z_false {x = pos 1} {y = left c.before.before} (lt_holds q)))
 
 pub overflow_add-i-in-loop-i : goal.overflow_add-i-in-loop-i
 unfolding upper
@@ -79,7 +79,7 @@ loop-i-preserved c =
     let q = rw (clean (overflow_sub-s c.before), e, clean_element _ c.t12-1.given) at c.if-s-i-lt1.false in (
       omega (arith, l.invariant.0),
       omega (arith, c.loop-i-test.true),
-      rw e (all_more _ l.i (rw e at l.invariant.2) (stays_is _ _ _ l.i l.invariant.0 ∙ le_z_true {x = pos 1} {y = left c} (lt_fails q))),
+      rw e (all_more _ l.i (rw e at l.invariant.2) (stays_is _ _ _ l.i l.invariant.0 ∙ le_z_true {x = pos 1} {y = left c.before.before} (lt_fails q))),
     )
 
 pub returns : goal.returns

@@ -17,7 +17,7 @@ use Rattle.steps.proofs.Diagonals.{stays_is, stays-start}
 use Rattle.steps.proofs.stays.Given as goal
 
 abbrev pub invariant-loop-i : goal.invariant-loop-i
-invariant-loop-i l = (l.first ≤ l.i) × (l.i ≤ l.last) × (all l.i (stays (upper l.s) l.first (to_z w64 l.e)) ≡ true)
+invariant-loop-i l = (l.first ≤ l.i) × (l.i ≤ l.last) × (all l.i (stays (upper l.s) l.first l.e) ≡ true)
 
 abbrev pub decreases-loop-i : goal.decreases-loop-i
 decreases-loop-i l = l.last - l.i

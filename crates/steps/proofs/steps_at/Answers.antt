@@ -63,7 +63,7 @@ overflow_add-next c = omega (arith, index c)
 
 pub search-requires : goal.search-requires
 unfolding upper
-search-requires c = rw add-one (walked_triable (going c).0 c.loop-next-test.true)
+search-requires c = rw add-one (walked_triable (going c.before).0 c.loop-next-test.true)
 
 pub offset_bounds-t-k : goal.offset_bounds-t-k
 unfolding upper
@@ -75,7 +75,7 @@ bounds-t-k c = index c.before.before.before
 
 pub take_row-requires : goal.take_row-requires
 unfolding upper
-take_row-requires c = ((going c).0.left, c.loop-next-test.true, (going c).1)
+take_row-requires c = ((going c.before.before.before).0.left, c.loop-next-test.true, (going c.before.before.before).1)
 
 pub loop-next-smaller-then-goes_on : goal.loop-next-smaller-then-goes_on
 unfolding upper
@@ -87,11 +87,11 @@ loop-next-preserved-then-goes_on c =
     let l = c.loop-next in
     let p = c.requires.0 in
     let k = c.loop-next-test.true in
-    let g = going c in
+    let g = going c.before.before.before.before in
     let x = c.take_row.ensures.columns in
     let r = rw add-one at c.search.ensures in (
       omega (arith, k),
-      rw add-one (filled_more (index c) (clean_result c.search ∙ r ∙ step-at_is p.bounds k g.0) l.invariant.1),
+      rw add-one (filled_more (index c.before.before.before.before.before) (clean_result c.search ∙ r ∙ step-at_is p.bounds k g.0) l.invariant.1),
       λ e. let q = leb-true _ _ e in rw add-one (walked_on g.0 k x g.1 q, row_next x q),
       λ e. rw add-one (walked_off g.0 k x (leb-false _ _ e)),
     )
@@ -115,7 +115,7 @@ loop-next-preserved c =
     let p = c.requires.0 in
     let s = l.invariant.3 c.if-goes_on.false in (
       omega (arith, c.loop-next-test.true),
-      rw add-one (filled_more (index c) (step-at-none p.bounds c.loop-next-test.true s) l.invariant.1),
+      rw add-one (filled_more (index c.before) (step-at-none p.bounds c.loop-next-test.true s) l.invariant.1),
       λ e. absurd (subst T (sym e ∙ c.if-goes_on.false) tt),
       λ e. rw add-one (stopped_more s),
     )

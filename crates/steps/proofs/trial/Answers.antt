@@ -40,9 +40,9 @@ pub ends_from-requires : goal.ends_from-requires
 ends_from-requires c =
     let w = rw (clean c.ranges.e) at c.lower.ensures in
     let h : c.args.first < c.args.n = omega (arith, c.if-n-first.false) in
-    (trial_factorable c.requires.0 _ (kept c) w c.requires.1, h, trial-one c.requires.0 _ (kept c) w c.requires.1 h)
+    (trial_factorable c.requires.0 _ (kept c.before.before.before.before.before) w c.requires.1, h, trial-one c.requires.0 _ (kept c.before.before.before.before.before) w c.requires.1 h)
 
 pub returns : goal.returns
 returns c =
     let w = rw (clean c.ranges.e) at c.lower.ensures in
-    c.ends_from.ensures ∙ trial-ends c.requires.0 _ (kept c) w c.requires.1
+    c.ends_from.ensures ∙ trial-ends c.requires.0 _ (kept c.before.before.before.before.before.before) w c.requires.1

@@ -14,7 +14,7 @@ use Rattle.tables.proofs.Checks.{all_none, all_more, all_false}
 use Rattle.tables.proofs.all_within.Given as goal
 
 abbrev pub invariant-loop-k : goal.invariant-loop-k
-invariant-loop-k l = (l.k ≤ l.count) × (all_within (nat_abs (to_z w64 l.bound)) l.k l.x ≡ true)
+invariant-loop-k l = (l.k ≤ l.count) × (all_within (nat_abs l.bound) l.k l.x ≡ true)
 
 abbrev pub decreases-loop-k : goal.decreases-loop-k
 decreases-loop-k l = l.count - l.k

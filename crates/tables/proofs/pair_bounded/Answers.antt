@@ -18,7 +18,7 @@ pub returns-then-pair_even : goal.returns-then-pair_even
 unfolding pair_bounded
 returns-then-pair_even c =
     let f = c.ranges in
-    rw (pair_bounded, ← agreed c, c.if-pair_even.true) (rw (clean f.l, clean f.u) at c.entry_bounded.ensures)
+    rw (pair_bounded, ← agreed c.before.before, c.if-pair_even.true) (rw (clean f.l, clean f.u) at c.entry_bounded.ensures)
 
 pub returns-then-even : goal.returns-then-even
 unfolding pair_bounded
@@ -28,5 +28,5 @@ pub returns : goal.returns
 unfolding pair_bounded
 returns c =
     let f = c.ranges in
-    rw (pair_bounded, ← agreed c, c.if-pair_even.false, c.if-even.false)
+    rw (pair_bounded, ← agreed c.before.before.before, c.if-pair_even.false, c.if-even.false)
     (rw (clean f.l, clean f.lt, clean f.u, clean f.ut) at c.pair_meets.ensures)

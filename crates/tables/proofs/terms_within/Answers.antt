@@ -33,7 +33,7 @@ pub returns-then-not-within : goal.returns-then-not-within
 unfolding terms_within
 returns-then-not-within c =
     let f : within limit_range c.args.limit ≡ false = rw (clean c.ranges.limit) at (call_false c.within.ensures c.if-not-within.true-raw) in
-    rw (linear c, f)
+    rw (linear c.before.before, f)
 
 pub all_within-requires : goal.all_within-requires
 unfolding terms_within
@@ -43,4 +43,4 @@ pub returns : goal.returns
 unfolding terms_within
 returns c =
     let f : within limit_range c.args.limit ≡ true = rw (clean c.ranges.limit) at (call_true c.within.ensures c.if-not-within.false-raw) in
-    rw (linear c, f) c.all_within.ensures
+    rw (linear c.before.before.before, f) c.all_within.ensures

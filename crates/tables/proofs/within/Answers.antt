@@ -8,9 +8,9 @@ overflow_sub-bound c = rw (clean c.ranges.bound) (fits_negated c.requires c.rang
 
 pub returns-then-x-bound : goal.returns-then-x-bound
 returns-then-x-bound c =
-    sym (within-no c.requires (rw (clean c.ranges.bound) at (lt_yes c.ranges.x (overflow_sub-bound c) c.if-x-bound.true)))
+    sym (within-no c.requires (rw (clean c.ranges.bound) at (lt_yes c.ranges.x (overflow_sub-bound c.before) c.if-x-bound.true)))
 
 pub returns : goal.returns
 returns c =
     rw (clean c.ranges.x, clean c.ranges.bound)
-    (sym (within_is c.requires (rw (clean c.ranges.bound) at (lt_no c.ranges.x (overflow_sub-bound c) c.if-x-bound.false))))
+    (sym (within_is c.requires (rw (clean c.ranges.bound) at (lt_no c.ranges.x (overflow_sub-bound c.before) c.if-x-bound.false))))

@@ -39,9 +39,9 @@ pub put_natural-requires : goal.put_natural-requires
 put_natural-requires c = rw (size c) (put_room (behind-sign c.before.before) _ (room c.before.before))
 
 pub shape_of-out : goal.shape_of-out
-shape_of-out c = c.put_natural.auto.0 ∙ (put-length (behind-sign c) (omega (arith, room c)))
+shape_of-out c = c.put_natural.auto.0 ∙ (put-length (behind-sign c.before.before.before.before.before) (omega (arith, room c.before.before.before.before.before)))
 
 pub returns : goal.returns
 returns c =
     let v = c.args.v in
-    rw (decimal-sign v) (put-within (put_then (behind-sign c) (omega arith) (rw (size c.before.before.before) at c.put_natural.ensures)) (omega (arith, length-decimal-sign v, length-decimal c.ranges.v)))
+    rw (decimal-sign v) (put-within (put_then (behind-sign c.before.before.before.before.before) (omega arith) (rw (size c.before.before.before) at c.put_natural.ensures)) (omega (arith, length-decimal-sign v, length-decimal c.ranges.v)))

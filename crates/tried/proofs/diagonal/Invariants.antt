@@ -12,7 +12,7 @@ use Rattle.tried.proofs.Shares.{diagonal-start, difference_fits, diagonal-more}
 use Rattle.tried.proofs.diagonal.Given as goal
 
 abbrev pub invariant-loop-k : goal.invariant-loop-k
-invariant-loop-k l = (l.k ≤ l.n) × Diagonal l.n l.low (to_z w64 l.w) l.p l.k
+invariant-loop-k l = (l.k ≤ l.n) × Diagonal l.n l.low l.w l.p l.k
 
 abbrev pub decreases-loop-k : goal.decreases-loop-k
 decreases-loop-k l = l.n - l.k

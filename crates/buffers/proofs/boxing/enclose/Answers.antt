@@ -104,30 +104,30 @@ others s =
 asked : (c : After-sized_within) → c.sized_within-within.result ≡ (sizes c.before.before.before.before.before.before.before.before.before.before.before.before.before.before.before.before.before.before.before.before.before && others c.before.before.before.before.before.before.before.before.before.before.before.before.before.before.before.before.before.before.before.before.before)
 asked c =
     let a = c.args in
-    terms-spelled (order_of a.n) (sizes c) a.from.now a.to.now a.centre.now _ _ _ a.limit c.sized_within-within.ensures
+    terms-spelled (order_of a.n) (sizes c.before.before.before.before.before.before.before.before.before.before.before.before.before.before.before.before.before.before.before.before.before) a.from.now a.to.now a.centre.now _ _ _ a.limit c.sized_within-within.ensures
     (sized c.before.before.before.before.before.before.before.before.before.before.before) (order c.before.before.before.before.before.before.before.before.before.before.before.before.before.before) (clean c.ranges.limit) (low-ends c) (high-ends c) (centre c)
 
 -- where both pass, so do the numbers that were loaded
 in_range_lem : (c : After-sized_within) → sizes c.before.before.before.before.before.before.before.before.before.before.before.before.before.before.before.before.before.before.before.before.before ≡ true → others c.before.before.before.before.before.before.before.before.before.before.before.before.before.before.before.before.before.before.before.before.before ≡ true →
-    terms_within c.before.before.before.before.before.before.before.before.before.before.before.order_of-m.result c.load_terms.new.x c.load_terms-2.new.x (to_z w64 (of_z w64 c.args.limit))
+    terms_within c.order_of-m.result c.load_terms.new.x c.load_terms-2.new.x (to_z w64 (of_z w64 c.args.limit))
     c.load_terms-3.new.x ≡ true
 in_range_lem c e f = and_right c.box_sized-sized.result _ (sym c.sized_within-within.ensures ∙ asked c ∙ and_of e f)
 
 -- the door, with what it found
-came : (c : After-check_laid) → Entered c.before.before.before.before.before.before.args.n (sizes c.before.before.before.before.before.before) (others c.before.before.before.before.before.before) (posed c.before.before.before.before.before.before).low (posed c.before.before.before.before.before.before).high
+came : (c : After-check_laid) → Entered c.args.n (sizes c.before.before.before.before.before.before.before.before.before.before.before.before.before.before.before.before.before.before.before.before.before.before.before.before.before.before.before) (others c.before.before.before.before.before.before.before.before.before.before.before.before.before.before.before.before.before.before.before.before.before.before.before.before.before.before.before) (posed c.before.before.before.before.before.before.before.before.before.before.before.before.before.before.before.before.before.before.before.before.before.before.before.before.before.before.before).low (posed c.before.before.before.before.before.before.before.before.before.before.before.before.before.before.before.before.before.before.before.before.before.before.before.before.before.before.before).high
     c.check_laid-checked.result c.check_laid-checked.new.l c.check_laid-checked.new.u
 came c =
     entered-sized _ _ _ _ _
-    (entered_by refl refl (asked c)
-    (came-sized _ _ (order c.before.before.before.before.before.before.before.before.before.before.before.before.before.before) c.if-m-eq0.left (sized c.before.before.before.before.before.before.before.before.before.before.before) c.if-not-sized.left c.load_bounds.ensures c.check_laid-checked.ensures))
+    (entered_by refl refl (asked c.before.before.before.before.before.before)
+    (came-sized _ _ (order c.before.before.before.before.before.before.before.before.before.before.before.before.before.before.before.before.before.before.before.before) c.if-m-eq0.left (sized c.before.before.before.before.before.before.before.before.before.before.before.before.before.before.before.before.before) c.if-not-sized.left c.load_bounds.ensures c.check_laid-checked.ensures))
 
-passed : (c : After-enum_told) → Behind c.before.before.before.before.before.before.before.before.args.n (sizes c.before.before.before.before.before.before.before.before) (others c.before.before.before.before.before.before.before.before) (posed c.before.before.before.before.before.before.before.before).low (posed c.before.before.before.before.before.before.before.before).high
-passed c = came-through _ _ _ _ _ (came c.before.before) c.in_default.is
+passed : (c : After-enum_told) → Behind c.args.n (sizes c.before.before.before.before.before.before.before.before.before.before.before.before.before.before.before.before.before.before.before.before.before.before.before.before.before.before.before.before) (others c.before.before.before.before.before.before.before.before.before.before.before.before.before.before.before.before.before.before.before.before.before.before.before.before.before.before.before.before) (posed c.before.before.before.before.before.before.before.before.before.before.before.before.before.before.before.before.before.before.before.before.before.before.before.before.before.before.before.before).low (posed c.before.before.before.before.before.before.before.before.before.before.before.before.before.before.before.before.before.before.before.before.before.before.before.before.before.before.before.before).high
+passed c = came-through _ _ _ _ _ (came c.before) c.in_default.is
 
-ends : (c : After-check_ends) → c.check_ends-ordered.result ≡ first_refusal (constraint_ends (posed c.before.before.before.before.before.before.before.before.before.before.before.before.before.before.before.before.before.before.before.before.before.before.before.before.before.before.before.before.before.before.before.before))
+ends : (c : After-check_ends) → c.check_ends-ordered.result ≡ first_refusal (constraint_ends (posed c.before.before.before.before.before.before.before.before.before.before.before.before.before.before.before.before.before.before.before.before.before.before.before.before.before.before.before.before.before.before.before))
 ends c =
     let z = (passed c.before.before.before).sizes in
-    ends-spelled _ c.before.before.before.args.from.now c.before.before.before.args.to.now _ _ c.check_ends-ordered.ensures (order c.before.before.before.before.before.before.before.before.before.before.before.before.before.before.before.before.before) (terms_by refl z (low-ends c.before.before.before)) (terms_by refl z (high-ends c.before.before.before))
+    ends-spelled _ c.args.from.now c.args.to.now _ _ c.check_ends-ordered.ensures (order c.before.before.before.before.before.before.before.before.before.before.before.before.before.before.before.before.before.before.before.before.before.before.before.before) (terms_by refl z (low-ends c.before.before.before.before.before.before.before.before.before.before)) (terms_by refl z (high-ends c.before.before.before.before.before.before.before.before.before.before))
 
 -- what the act answers behind the door
 abbrev act : Start → Box
@@ -166,22 +166,22 @@ overflow_mul-m c = record { fits = omega (arith, small c.before.before) }
 pub returns-then-not-sized : goal.returns-then-not-sized
 unfolding boxing problem_box constraint_entered
 returns-then-not-sized c =
-    ap (given c.before.before.before.before.before.before.before) (no-sizes _ _ _ _ _ refused (act c.before.before.before.before.before.before.before) (λ e. c.if-m-eq0.false (order c ∙ e)) (call_false (sized c.before) c.if-not-sized.true-raw))
+    ap (given c.before.before.before.before.before.before.before.before.before.before.before) (no-sizes _ _ _ _ _ refused (act c.before.before.before.before.before.before.before.before.before.before.before) (λ e. c.if-m-eq0.false (order c.before.before.before.before ∙ e)) (call_false (sized c.before) c.if-not-sized.true-raw))
 
 pub load_terms-requires : goal.load_terms-requires
 unfolding boxing problem_box constraint_entered
 load_terms-requires c =
-    rw (order c.before.before.before.before.before) (order_small _, (λ s. let z = lent c s in omega (arith, z.linear_low)), refl)
+    rw (order c.before.before.before.before.before) (order_small _, (λ s. let z = lent c.before.before s in omega (arith, z.linear_low)), refl)
 
 pub load_terms-requires-2 : goal.load_terms-requires-2
 unfolding boxing problem_box constraint_entered
 load_terms-requires-2 c =
-    rw (order c.before.before.before.before.before.before.before) (order_small _, (λ s. let z = lent c s in omega (arith, z.linear_high)), refl)
+    rw (order c.before.before.before.before.before.before.before) (order_small _, (λ s. let z = lent c.before.before.before.before s in omega (arith, z.linear_high)), refl)
 
 pub load_terms-requires-3 : goal.load_terms-requires-3
 unfolding boxing problem_box constraint_entered
 load_terms-requires-3 c =
-    rw (order c.before.before.before.before.before.before.before.before.before) (order_small _, (λ s. let z = lent c s in omega (arith, z.centre)), refl)
+    rw (order c.before.before.before.before.before.before.before.before.before) (order_small _, (λ s. let z = lent c.before.before.before.before.before.before s in omega (arith, z.centre)), refl)
 
 pub slice_bounds-sized_within-end : goal.slice_bounds-sized_within-end
 unfolding boxing problem_box constraint_entered
@@ -210,7 +210,7 @@ sized_within-within-requires c = (λ c κs e.
 pub load_bounds-requires : goal.load_bounds-requires
 unfolding boxing problem_box constraint_entered
 load_bounds-requires c =
-    rw (order c.before.before.before) (order_small _, (λ s. let z = lent c s in (omega (arith, z.low), omega (arith, z.high))), refl, refl)
+    rw (order c.before.before.before.before.before.before.before.before.before.before.before.before.before.before.before.before) (order_small _, (λ s. let z = lent c.before.before.before.before.before.before.before.before.before.before.before.before.before s in (omega (arith, z.low), omega (arith, z.high))), refl, refl)
 
 pub check_laid-checked-requires : goal.check_laid-checked-requires
 unfolding boxing problem_box constraint_entered
@@ -219,66 +219,66 @@ check_laid-checked-requires c = rw (order c.before.before.before.before.before.b
 pub returns-in-Refused : goal.returns-in-Refused
 unfolding boxing problem_box constraint_entered
 returns-in-Refused c =
-    ap (given c.before.before.before.before.before.before.before.before.before) (door-refused refused _ _ _ (posed c.before.before.before.before.before.before.before.before.before) _ (came c) c.in-Refused.is)
+    ap (given c.before.before.before.before.before.before.before.before.before.before.before.before.before.before.before.before.before.before.before.before.before.before.before.before.before.before.before.before) (door-refused refused _ _ _ (posed c.before.before.before.before.before.before.before.before.before.before.before.before.before.before.before.before.before.before.before.before.before.before.before.before.before.before.before.before) _ (came c.before) c.in-Refused.is)
 
 pub slice_bounds-check_ends-end : goal.slice_bounds-check_ends-end
 unfolding boxing problem_box constraint_entered
-slice_bounds-check_ends-end c = sym c.before.before.before.before.before.before.before.before.before.load_terms.ensures.size
+slice_bounds-check_ends-end c = sym c.load_terms.ensures.size
 
 pub slice_bounds-check_ends-end-2 : goal.slice_bounds-check_ends-end-2
 unfolding boxing problem_box constraint_entered
-slice_bounds-check_ends-end-2 c = sym c.before.before.before.before.before.before.before.before.before.before.load_terms-2.ensures.size
+slice_bounds-check_ends-end-2 c = sym c.load_terms-2.ensures.size
 
 pub check_ends-ordered-requires : goal.check_ends-ordered-requires
 unfolding boxing problem_box constraint_entered
 check_ends-ordered-requires c =
-    let m = small c.before.before.before.before.before.before.before.before.before.before.before.before.before.before in
+    let m = small c.before.before.before.before.before.before.before.before.before.before.before.before.before.before.before.before.before.before.before.before.before.before.before in
     (omega (arith, m, c.load_terms.ensures.size), omega (arith, m, c.load_terms-2.ensures.size))
 
 pub returns-in-Refused-ordered : goal.returns-in-Refused-ordered
 unfolding boxing problem_box constraint_entered
 returns-in-Refused-ordered c =
-    ap (given c.before.before.before.before.before.before.before.before.before.before.before.before) (ends-refused refused _ _ _ (posed c.before.before.before.before.before.before.before.before.before.before.before.before) _ (came c.before.before.before.before.before.before) c.in_default.is (sym (ends c) ∙ c.in-Refused-ordered.is))
+    ap (given c.before.before.before.before.before.before.before.before.before.before.before.before.before.before.before.before.before.before.before.before.before.before.before.before.before.before.before.before.before.before.before.before) (ends-refused refused _ _ _ (posed c.before.before.before.before.before.before.before.before.before.before.before.before.before.before.before.before.before.before.before.before.before.before.before.before.before.before.before.before.before.before.before.before) _ (came c.before.before.before.before.before) c.in_default.is (sym (ends c.before) ∙ c.in-Refused-ordered.is))
 
 pub slice_bounds-box_bounds-end : goal.slice_bounds-box_bounds-end
 unfolding boxing problem_box constraint_entered
-slice_bounds-box_bounds-end c = sym (came c.before.before.before.before.before.before.before.before).rooms.low-size
+slice_bounds-box_bounds-end c = sym (came c.before.before.before.before.before.before).rooms.low-size
 
 pub slice_bounds-box_bounds-end-2 : goal.slice_bounds-box_bounds-end-2
 unfolding boxing problem_box constraint_entered
-slice_bounds-box_bounds-end-2 c = sym (came c.before.before.before.before.before.before.before.before.before).rooms.high-size
+slice_bounds-box_bounds-end-2 c = sym (came c.before.before.before.before.before.before.before).rooms.high-size
 
 pub slice_bounds-box_bounds-end-3 : goal.slice_bounds-box_bounds-end-3
 unfolding boxing problem_box constraint_entered
-slice_bounds-box_bounds-end-3 c = sym c.before.before.before.before.before.before.before.before.before.before.before.before.before.before.before.before.load_terms.ensures.size
+slice_bounds-box_bounds-end-3 c = sym c.load_terms.ensures.size
 
 pub slice_bounds-box_bounds-end-4 : goal.slice_bounds-box_bounds-end-4
 unfolding boxing problem_box constraint_entered
-slice_bounds-box_bounds-end-4 c = sym c.before.before.before.before.before.before.before.before.before.before.before.before.before.before.before.before.before.load_terms-2.ensures.size
+slice_bounds-box_bounds-end-4 c = sym c.load_terms-2.ensures.size
 
 pub slice_bounds-box_bounds-end-5 : goal.slice_bounds-box_bounds-end-5
 unfolding boxing problem_box constraint_entered
-slice_bounds-box_bounds-end-5 c = sym c.before.before.before.before.before.before.before.before.before.before.before.before.before.before.before.before.before.before.load_terms-3.ensures.size
+slice_bounds-box_bounds-end-5 c = sym c.load_terms-3.ensures.size
 
 pub box_bounds-requires : goal.box_bounds-requires
 unfolding boxing problem_box constraint_entered
 box_bounds-requires c =
-    let b = passed c in
-    let m = small c.before.before.before.before.before.before.before.before.before.before.before in
-    let i = in_range_lem c b.sizes b.within in (
-      centred _ _ _ _ _ i (rw (order c.before.before.before.before.before.before.before.before.before.before.before) ((came c).held c.in_default.is).tables)
+    let b = passed c.before.before.before.before.before.before.before.before.before.before in
+    let m = small c.before.before.before.before.before.before.before.before.before.before.before.before.before.before.before.before.before.before.before.before.before.before.before.before.before.before.before.before.before.before.before in
+    let i = in_range_lem c.before.before.before.before.before.before.before.before.before.before.before.before.before.before.before.before.before b.sizes b.within in (
+      centred _ _ _ _ _ i (rw (order c.before.before.before.before.before.before.before.before.before.before.before.before.before.before.before.before.before.before.before.before.before.before.before.before.before.before.before.before.before.before.before) ((came c.before.before.before.before.before.before.before.before.before.before.before).held c.in_default.is).tables)
           (omega (arith, m, c.load_terms.ensures.size))
           (omega (arith, m, c.load_terms-2.ensures.size))
           (omega (arith, m, c.load_terms-3.ensures.size)),
       limit-within _ _ _ _ _ i,
-      rw (order c.before.before.before.before.before.before.before.before.before.before.before) (box_sizes-of _ _ _ _ _ b.sizes).sides,
+      rw (order c.before.before.before.before.before.before.before.before.before.before.before.before.before.before.before.before.before.before.before.before.before.before.before.before.before.before.before.before.before.before.before) (box_sizes-of _ _ _ _ _ b.sizes).sides,
     )
 
 pub returns : goal.returns
 unfolding boxing problem_box constraint_entered
 returns c =
     let q = c.in_default.is in
-    let h = (came c).held q in
-    let z = (passed c).sizes in
-    rw (← constraint_passed refused _ _ _ (posed c.before.before.before.before.before.before.before.before.before.before.before.before.before.before.before.before.before.before.before.before.before) _ (came c) q (sym (ends c) ∙ c.in_default-ordered.is))
-    (rw (order c.before.before.before.before.before.before.before.before.before.before.before.before.before.before, h.low, h.high, (low-ends c).numbers z, (high-ends c).numbers z, (centre c).numbers z, clean c.ranges.limit) at c.box_bounds.ensures)
+    let h = (came c.before.before.before.before.before.before.before.before.before.before.before.before.before.before).held q in
+    let z = (passed c.before.before.before.before.before.before.before.before.before.before.before.before.before).sizes in
+    rw (← constraint_passed refused _ _ _ (posed c.before.before.before.before.before.before.before.before.before.before.before.before.before.before.before.before.before.before.before.before.before.before.before.before.before.before.before.before.before.before.before.before.before.before.before.before.before.before.before.before.before) _ (came c.before.before.before.before.before.before.before.before.before.before.before.before.before.before) q (sym (ends c.before.before.before.before.before.before.before.before.before.before) ∙ c.in_default-ordered.is))
+    (rw (order c.before.before.before.before.before.before.before.before.before.before.before.before.before.before.before.before.before.before.before.before.before.before.before.before.before.before.before.before.before.before.before.before.before.before, h.low, h.high, (low-ends c.before.before.before.before.before.before.before.before.before.before.before.before.before.before.before.before.before.before.before.before).numbers z, (high-ends c.before.before.before.before.before.before.before.before.before.before.before.before.before.before.before.before.before.before.before.before).numbers z, (centre c.before.before.before.before.before.before.before.before.before.before.before.before.before.before.before.before.before.before.before.before).numbers z, clean c.ranges.limit) at c.box_bounds.ensures)

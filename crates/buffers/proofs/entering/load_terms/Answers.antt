@@ -19,7 +19,7 @@ room : (s : Start) → length s.args.x.now ≡ greatest_order
 room s = ap length s.requires.2 ∙ length-replicate greatest_order (pos 0)
 
 pub load_numbers-requires : goal.load_numbers-requires
-load_numbers-requires c = (refl, c.requires.1 c.if-sized.true, omega (arith, c.requires.0, room c))
+load_numbers-requires c = (refl, c.requires.1 c.if-sized.true, omega (arith, c.requires.0, room c.before.before.before))
 
 pub returns-then-sized : goal.returns-then-sized
 returns-then-sized c =

@@ -53,11 +53,11 @@ came : (c : After-check_laid) → let a = c.args in
     c.check_laid-checked.result c.check_laid-checked.new.l c.check_laid-checked.new.u
 came c = came-sized _ _ (order c.before.before.before.before.before.before.before.before.before) c.if-m-eq0.false (sized c.before.before.before.before.before.before.before) c.if-not-sized.false-raw c.load_bounds.ensures c.check_laid-checked.ensures
 
-offered : (c : After-load_numbers) → let a = c.before.before.before.before.args in Padded (table_of (order_of a.n) a.factor.now) c.load_numbers.new.out
-offered c = loaded _ refl (table_fits (order_small _)) (rw (order c.before.before.before.before.before.before.before.before.before.before.before.before.before) at c.load_numbers.ensures)
+offered : (c : After-load_numbers) → let a = c.args in Padded (table_of (order_of a.n) a.factor.now) c.load_numbers.new.out
+offered c = loaded _ refl (table_fits (order_small _)) (rw (order c.before.before.before.before.before.before.before.before.before.before.before.before) at c.load_numbers.ensures)
 
 room : (c : After-load_numbers) → length c.load_numbers.new.out ≡ table_room
-room c = loaded_room _ refl (table_fits (order_small _)) (rw (order c.before.before.before.before.before.before.before.before.before.before.before.before.before) at c.load_numbers.ensures)
+room c = loaded_room _ refl (table_fits (order_small _)) (rw (order c.before.before.before.before.before.before.before.before.before.before.before.before) at c.load_numbers.ensures)
 
 -- the buffer with an answer
 abbrev given : Start → FactorAnswer → StoredAnswer
@@ -78,26 +78,26 @@ returns-then-not-sized c = ap (given c.before.before.before.before.before.before
 pub load_bounds-requires : goal.load_bounds-requires
 unfolding factor_tested
 load_bounds-requires c =
-    rw (order c.before.before) (order_small _, (λ s. let z = factor_buffers_of _ _ _ _ _ (sym (sized c) ∙ s) in (omega (arith, z.0), omega (arith, z.1))), refl, refl)
+    rw (order c.before.before.before.before.before) (order_small _, (λ s. let z = factor_buffers_of _ _ _ _ _ (sym (sized c.before.before.before) ∙ s) in (omega (arith, z.0), omega (arith, z.1))), refl, refl)
 
 pub check_laid-checked-requires : goal.check_laid-checked-requires
 unfolding factor_tested
-check_laid-checked-requires c = rw (order c.before.before.before.before.before.before) (order_small _, order_fits _ refl, c.load_bounds.ensures.rooms)
+check_laid-checked-requires c = rw (order c.before.before.before.before.before.before.before.before) (order_small _, order_fits _ refl, c.load_bounds.ensures.rooms)
 
 pub returns-in-Refused : goal.returns-in-Refused
 unfolding factor_tested
 returns-in-Refused c = let a = c.args in let k = order_of a.n in
-    ap (given c.before.before.before.before.before.before.before.before.before.before.before.before.before.before.before.before.before) (entered-refused _ _ _ _ _ FactorAnswer.Refused (factor_answer k (low_bounds k (table_of k a.low.now)) (high_bounds k (table_of k a.high.now)) (at k (table_of k a.factor.now))) (came c) c.in-Refused.is)
+    ap (given c.before.before.before.before.before.before.before.before.before.before.before.before.before.before.before) (entered-refused _ _ _ _ _ FactorAnswer.Refused (factor_answer k (low_bounds k (table_of k a.low.now)) (high_bounds k (table_of k a.high.now)) (at k (table_of k a.factor.now))) (came c.before) c.in-Refused.is)
 
 pub overflow_mul-m : goal.overflow_mul-m
 unfolding factor_tested
-overflow_mul-m c = record { fits = omega (arith, order_fits _ (order c.before.before.before.before.before.before.before.before.before.before.before.before)) }
+overflow_mul-m c = record { fits = omega (arith, order_fits _ (order c.before.before.before.before.before.before.before.before.before.before.before)) }
 
 pub load_numbers-requires : goal.load_numbers-requires
 unfolding factor_tested
 load_numbers-requires c =
-    let z = factor_buffers_of _ _ _ _ _ (came-through _ _ _ _ _ (came c) c.in_default.is).sizes in
-    rw (order c.before.before.before.before.before.before.before.before.before.before.before.before) (refl, omega (arith, z.2), table_fits (order_small _))
+    let z = factor_buffers_of _ _ _ _ _ (came-through _ _ _ _ _ (came c.before.before) c.in_default.is).sizes in
+    rw (order c.before.before.before.before.before.before.before.before.before.before.before) (refl, omega (arith, z.2), table_fits (order_small _))
 
 pub slice_bounds-answer-end : goal.slice_bounds-answer-end
 unfolding factor_tested
@@ -107,17 +107,17 @@ pub answer-requires : goal.answer-requires
 unfolding factor_tested
 answer-requires c =
     let q = c.in_default.is in
-    rw (order c.before.before.before.before.before.before.before.before.before.before.before) (((came c).held q).tables, (came c).rooms, omega (arith, room c, table_fits (order_small c.args.n)), order-positive _ (came-through _ _ _ _ _ (came c) q).ordered)
+    rw (order c.before.before.before.before.before.before.before.before.before.before.before.before.before.before.before.before) (((came c.before.before.before.before.before.before.before).held q).tables, (came c.before.before.before.before.before.before.before).rooms, omega (arith, room c.before.before.before.before, table_fits (order_small c.args.n)), order-positive _ (came-through _ _ _ _ _ (came c.before.before.before.before.before.before.before) q).ordered)
 
 pub store_over-requires : goal.store_over-requires
 unfolding factor_tested
 store_over-requires c =
-    (factor_buffers_of _ _ _ _ _ (came-through _ _ _ _ _ (came c) c.in_default.is).sizes).3
+    (factor_buffers_of _ _ _ _ _ (came-through _ _ _ _ _ (came c.before.before.before.before.before.before.before.before.before) c.in_default.is).sizes).3
 
 pub returns : goal.returns
 unfolding factor_tested
 returns c =
     let q = c.in_default.is in
-    let h = (came c).held q in
+    let h = (came c.before.before.before.before.before.before.before.before.before.before.before.before).held q in
     c.store_over.ensures
-    ∙ ap (given c.before.before.before.before.before.before.before.before.before.before.before.before.before.before.before.before) ((rw (order c.before.before.before.before.before.before.before.before.before.before.before, h.low, h.high, padded-at (offered c) _) at c.answer.ensures) ∙ entered-passed _ _ _ _ _ FactorAnswer.Refused _ (came c) q)
+    ∙ ap (given c.before.before.before.before.before.before.before.before.before.before.before.before.before.before.before.before.before.before.before.before.before.before.before.before.before.before) ((rw (order c.before.before.before.before.before.before.before.before.before.before.before.before.before.before.before.before.before.before.before.before.before, h.low, h.high, padded-at (offered c.before.before.before.before.before.before.before.before.before) _) at c.answer.ensures) ∙ entered-passed _ _ _ _ _ FactorAnswer.Refused _ (came c.before.before.before.before.before.before.before.before.before.before.before.before) q)

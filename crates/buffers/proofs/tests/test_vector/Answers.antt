@@ -50,11 +50,11 @@ came : (c : After-check_laid) → let a = c.args in
     c.check_laid-checked.result c.check_laid-checked.new.l c.check_laid-checked.new.u
 came c = came-sized _ _ (order c.before.before.before.before.before.before.before.before.before) c.if-m-eq0.false (sized c.before.before.before.before.before.before.before) c.if-not-sized.false-raw c.load_bounds.ensures c.check_laid-checked.ensures
 
-offered : (c : After-load_numbers) → let a = c.before.before.before.before.args in Padded (vector_of (order_of a.n) a.vector.now) c.load_numbers.new.out
-offered c = loaded _ refl (order_small _) (rw (order c.before.before.before.before.before.before.before.before.before.before.before.before.before) at c.load_numbers.ensures)
+offered : (c : After-load_numbers) → let a = c.args in Padded (vector_of (order_of a.n) a.vector.now) c.load_numbers.new.out
+offered c = loaded _ refl (order_small _) (rw (order c.before.before.before.before.before.before.before.before.before.before.before.before) at c.load_numbers.ensures)
 
 room : (c : After-load_numbers) → length c.load_numbers.new.out ≡ greatest_order
-room c = loaded_room _ refl (order_small _) (rw (order c.before.before.before.before.before.before.before.before.before.before.before.before.before) at c.load_numbers.ensures)
+room c = loaded_room _ refl (order_small _) (rw (order c.before.before.before.before.before.before.before.before.before.before.before.before) at c.load_numbers.ensures)
 
 pub returns-then-m-eq0 : goal.returns-then-m-eq0
 unfolding vector_tested
@@ -79,30 +79,30 @@ returns-then-not-sized c = no-sizes _ _ _ _ _ Answer.Refused _ (λ e. c.if-m-eq0
 pub load_bounds-requires : goal.load_bounds-requires
 unfolding vector_tested
 load_bounds-requires c =
-    rw (order c.before.before) (order_small _, (λ s. let z = sizes-of _ _ _ _ _ (sym (sized c) ∙ s) in (omega (arith, z.0), omega (arith, z.1))), refl, refl)
+    rw (order c.before.before.before.before.before) (order_small _, (λ s. let z = sizes-of _ _ _ _ _ (sym (sized c.before.before.before) ∙ s) in (omega (arith, z.0), omega (arith, z.1))), refl, refl)
 
 pub check_laid-checked-requires : goal.check_laid-checked-requires
 unfolding vector_tested
-check_laid-checked-requires c = rw (order c.before.before.before.before.before.before) (order_small _, order_fits _ refl, c.load_bounds.ensures.rooms)
+check_laid-checked-requires c = rw (order c.before.before.before.before.before.before.before.before) (order_small _, order_fits _ refl, c.load_bounds.ensures.rooms)
 
 pub returns-in-Refused : goal.returns-in-Refused
 unfolding vector_tested
 returns-in-Refused c = let a = c.args in let k = order_of a.n in
-    entered-refused _ _ _ _ _ Answer.Refused (vector_answer k (low_bounds k (table_of k a.low.now)) (high_bounds k (table_of k a.high.now)) (nth (vector_of k a.vector.now))) (came c) c.in-Refused.is
+    entered-refused _ _ _ _ _ Answer.Refused (vector_answer k (low_bounds k (table_of k a.low.now)) (high_bounds k (table_of k a.high.now)) (nth (vector_of k a.vector.now))) (came c.before) c.in-Refused.is
 
 pub load_numbers-requires : goal.load_numbers-requires
 unfolding vector_tested
 load_numbers-requires c =
-    let z = sizes-of _ _ _ _ _ (came-through _ _ _ _ _ (came c) c.in_default.is).sizes in
-    rw (order c.before.before.before.before.before.before.before.before.before.before.before.before) (refl, omega (arith, z.2), order_small _)
+    let z = sizes-of _ _ _ _ _ (came-through _ _ _ _ _ (came c.before.before) c.in_default.is).sizes in
+    rw (order c.before.before.before.before.before.before.before.before.before.before.before) (refl, omega (arith, z.2), order_small _)
 
 pub slice_bounds-answer-end : goal.slice_bounds-answer-end
 unfolding vector_tested
-slice_bounds-answer-end c = sym (came c.before.before.before.before.before.before).rooms.low-size
+slice_bounds-answer-end c = sym (came c.before.before.before.before.before).rooms.low-size
 
 pub slice_bounds-answer-end-2 : goal.slice_bounds-answer-end-2
 unfolding vector_tested
-slice_bounds-answer-end-2 c = sym (came c.before.before.before.before.before.before.before).rooms.high-size
+slice_bounds-answer-end-2 c = sym (came c.before.before.before.before.before.before).rooms.high-size
 
 pub slice_bounds-answer-end-3 : goal.slice_bounds-answer-end-3
 unfolding vector_tested
@@ -111,12 +111,12 @@ slice_bounds-answer-end-3 c = sym (room c.before.before.before.before)
 pub answer-requires : goal.answer-requires
 unfolding vector_tested
 answer-requires c =
-    let h = (came c).held c.in_default.is in
-    rw (order c.before.before.before.before.before.before.before.before.before.before.before) (h.tables, omega (arith, room c, order_small c.args.n))
+    let h = (came c.before.before.before.before.before.before.before).held c.in_default.is in
+    rw (order c.before.before.before.before.before.before.before.before.before.before.before.before.before.before.before.before) (h.tables, omega (arith, room c.before.before.before.before, order_small c.args.n))
 
 pub returns : goal.returns
 unfolding vector_tested
 returns c =
     let q = c.in_default.is in
-    let h = (came c).held q in
-    (rw (order c.before.before.before.before.before.before.before.before.before.before.before, h.low, h.high, padded-nth (offered c)) at c.answer.ensures) ∙ entered-passed _ _ _ _ _ Answer.Refused _ (came c) q
+    let h = (came c.before.before.before.before.before.before.before.before).held q in
+    (rw (order c.before.before.before.before.before.before.before.before.before.before.before.before.before.before.before.before.before, h.low, h.high, padded-nth (offered c.before.before.before.before.before)) at c.answer.ensures) ∙ entered-passed _ _ _ _ _ Answer.Refused _ (came c.before.before.before.before.before.before.before.before) q

@@ -35,7 +35,7 @@ step-requires c = bus-sized-of _ _ (sized c.before.before.before.before)
 pub returns-then-is_busy : goal.returns-then-is_busy
 unfolding tick where_sized ticked
 returns-then-is_busy c =
-    rw (tick, where_sized, sized c.before.before, ticked, ← c.is_busy.ensures, c.if-is_busy.true) (ap let_through c.step.ensures)
+    rw (tick, where_sized, sized c.before.before.before.before.before.before.before.before.before, ticked, ← c.is_busy.ensures, c.if-is_busy.true) (ap let_through c.step.ensures)
 
 pub returns-else-is_busy : goal.returns-else-is_busy
 unfolding tick where_sized ticked

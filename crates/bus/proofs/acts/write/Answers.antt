@@ -51,18 +51,18 @@ returns-then-address-lt0 c =
 
 pub overflow_cast-address : goal.overflow_cast-address
 unfolding write where_sized written
-overflow_cast-address c = as_usize c.ranges.address (low c.before)
+overflow_cast-address c = as_usize c.ranges.address (low c.before.before.before)
 
 pub write_at-requires : goal.write_at-requires
 unfolding write where_sized written
 write_at-requires c =
-    let z = bus-sized-of _ _ (sized c.before.before) in
-    (z.0, z.1, rw (clean c.ranges.address) (small c))
+    let z = bus-sized-of _ _ (sized c.before.before.before.before) in
+    (z.0, z.1, rw (clean c.ranges.address) (small c.before.before))
 
 pub returns-then-address : goal.returns-then-address
 unfolding write where_sized written
 returns-then-address c =
-    rw (write, where_sized, sized c.before.before, written, le_z_true {x = pos 0} {y = c.args.address} (low c.before), high c)
+    rw (write, where_sized, sized c.before.before.before.before.before.before.before.before.before, written, le_z_true {x = pos 0} {y = c.args.address} (low c.before.before.before.before.before.before.before.before), high c.before.before.before.before.before.before.before)
     (rw (clean c.ranges.address) at c.write_at.ensures)
 
 pub returns : goal.returns

@@ -22,7 +22,7 @@ raise-requires c = kept c.before.before.before ∙ c.requires
 
 pub shape_of-block : goal.shape_of-block
 unfolding refused_block
-shape_of-block c = c.raise.auto.0 ∙ kept c.before.before.before.before
+shape_of-block c = c.raise.auto.0 ∙ kept c.before.before.before.before.before.before
 
 pub returns : goal.returns
 unfolding refused_block

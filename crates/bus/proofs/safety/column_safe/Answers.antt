@@ -40,4 +40,4 @@ unfolding column_safe upper
 returns c =
     let t = c.args.t.now in
     let j = c.args.j in
-    rw (before c.before.before, call_true c.column_within.ensures c.if-not-column_within.false-raw, clean_element (upper t j j) c.result-1.given)
+    rw (before c.before.before.before, call_true c.column_within.ensures c.if-not-column_within.false-raw, clean_element (upper t j j) c.result-1.given)

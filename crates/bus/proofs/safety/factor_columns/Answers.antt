@@ -48,19 +48,19 @@ column_within-requires c = (omega arith, omega arith, c.requires.1, pos_nonneg f
 pub returns-then-not-column_within : goal.returns-then-not-column_within
 unfolding factor_columns upper
 returns-then-not-column_within c =
-    sym (all_false _ _ c.loop-l.l c.loop-l-test.true (and_first_false _ (call_false (found c) c.if-not-column_within.true-raw)))
+    sym (all_false _ _ c.loop-l.l c.loop-l-test.true (and_first_false _ (call_false (found c.before) c.if-not-column_within.true-raw)))
 
 pub returns-then-t-l-lt1 : goal.returns-then-t-l-lt1
 unfolding factor_columns upper
 returns-then-t-l-lt1 c =
-    sym (all_false _ _ c.loop-l.l c.loop-l-test.true (and_second_false (ranged c) (read_less (diagonal c) (pos 1) c.t11-1.given (omega arith) c.if-t-l-lt1.true)))
+    sym (all_false _ _ c.loop-l.l c.loop-l-test.true (and_second_false (ranged c.before.before.before) (read_less (diagonal c.before.before.before.before.before) (pos 1) c.t11-1.given (omega arith) c.if-t-l-lt1.true)))
 
 pub loop-l-preserved : goal.loop-l-preserved
 unfolding factor_columns upper
 loop-l-preserved c = (
   omega arith,
   all_more _ c.loop-l.l c.loop-l.invariant.1
-      (and_of (call_true (found c.before) c.if-not-column_within.false-raw) (read_not_less (diagonal c) (pos 1) c.t11-1.given (omega arith) c.if-t-l-lt1.false)),
+      (and_of (call_true (found c.before.before.before) c.if-not-column_within.false-raw) (read_not_less (diagonal c.before.before.before.before.before) (pos 1) c.t11-1.given (omega arith) c.if-t-l-lt1.false)),
 )
 
 pub returns : goal.returns

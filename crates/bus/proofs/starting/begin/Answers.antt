@@ -28,14 +28,14 @@ ordered c =
     let o = c.requires.1.order in
     area_set {r = blank_area} (rw c.blank.ensures area_blank) order_at (pos n) (fits (omega (arith, o))) (rw (read_i64 n (omega (arith, o))) at c.store_number.ensures)
 
-laid : (c : After-store_part2) → let a = c.before.before.before.before.before.before.before.before.before.before.args in
+laid : (c : After-store_part2) → let a = c.args in
     Area c.store_part-2.new.run (laid_over (laid_over (set blank_area order_at (pos a.n)) low_at (take (a.n * a.n) a.l.now)) high_at (take (a.n * a.n) a.u.now))
 laid c =
-    let t = c.before.before.before.before.before.before.before.before.before.before.requires.1 in
+    let t = c.requires.1 in
     let r = bounds-ranged t.bounds in
-    let n = c.before.before.before.before.before.before.before.before.before.before.args.n in
-    let l = c.before.before.before.before.before.before.before.before.before.before.args.l.now in
-    let u = c.before.before.before.before.before.before.before.before.before.before.args.u.now in
+    let n = c.args.n in
+    let l = c.args.l.now in
+    let u = c.args.u.now in
     area-laid (area-laid (ordered c.before.before.before.before.before.before.before.before.before.before) low_at (take (n * n) l) (omega (arith, table_fits t.order, length-take-le (n * n) l t.low-length))
     (front_fit n l t.low-length r.low) c.store_part.ensures)
     high_at (take (n * n) u) (omega (arith, table_fits t.order, length-take-le (n * n) u t.high-length)) (front_fit n u t.high-length r.high) c.store_part-2.ensures
@@ -46,4 +46,4 @@ overflow_mul-n c = record { fits = omega (arith, table_fits c.requires.1.order) 
 
 pub returns : goal.returns
 unfolding begun_area
-returns c = rw (area-read (laid c.before.before.before.before), begun-columns) at c.store_matrix.ensures
+returns c = rw (area-read (laid c.before.before.before.before.before.before), begun-columns) at c.store_matrix.ensures

@@ -43,7 +43,7 @@ sized c =
     (⊎_elim (λ w. rw (eq-eqb _ _ w.0.taken) w.1) (λ w. let e = ne_eqb _ _ w.0.left in rw e (w.1 ∙ e)) c.if-low-size.branch)
 
 -- checks 1 and 2
-entry : (c : After-check_entry) → c.check_entry-checked.result ≡ first_refusal (entry_checks c.args.n (sizes c))
+entry : (c : After-check_entry) → c.check_entry-checked.result ≡ first_refusal (entry_checks c.args.n (sizes c.before.before.before.before.before))
 entry c = rw (clean c.ranges.n, sized c.before) at c.check_entry-checked.ensures
 
 pub overflow_mul-size : goal.overflow_mul-size
@@ -56,7 +56,7 @@ pub returns-in-Refused : goal.returns-in-Refused
 returns-in-Refused c =
     let p = c.requires in
     record {
-      answered = sym (no-more-checks _ _ _ (sym (entry c) ∙ c.in-Refused.is));
+      answered = sym (no-more-checks _ _ _ (sym (entry c.before) ∙ c.in-Refused.is));
       rooms = record { low-size = blank_length p.0; high-size = blank_length p.1 };
       held = λ q. absurd (false≢true cc);
     }
@@ -64,13 +64,13 @@ returns-in-Refused c =
 pub load_bounds-requires : goal.load_bounds-requires
 load_bounds-requires c =
     let p = c.requires in
-    rw (order c.before) (order_small _, (λ s. let z = tables-sized-of _ _ _ (sym (sized c) ∙ s) in (omega (arith, z.0), omega (arith, z.1))), p.0, p.1)
+    rw (order c.before.before.before.before.before) (order_small _, (λ s. let z = tables-sized-of _ _ _ (sym (sized c.before.before.before.before) ∙ s) in (omega (arith, z.0), omega (arith, z.1))), p.0, p.1)
 
 pub check_laid-requires : goal.check_laid-requires
 check_laid-requires c =
-    rw (order c.before.before.before.before.before.before.before) (order_small _, order_fits _ refl, c.load_bounds.ensures.rooms)
+    rw (order c.before.before.before.before.before.before.before.before) (order_small _, order_fits _ refl, c.load_bounds.ensures.rooms)
 
 pub returns : goal.returns
 returns c =
-    entered-laid _ _ _ (λ s. (length-numbers_of w64 _ _, length-numbers_of w64 _ _)) (rw (order c, sized c.before) at c.load_bounds.ensures)
-    (mended-after _ (sym (entry c) ∙ c.in_default.is) (rw (order c) at c.check_laid.ensures))
+    entered-laid _ _ _ (λ s. (length-numbers_of w64 _ _, length-numbers_of w64 _ _)) (rw (order c.before.before.before.before.before.before.before.before.before, sized c.before.before.before.before.before.before.before.before) at c.load_bounds.ensures)
+    (mended-after _ (sym (entry c.before.before.before.before.before.before.before) ∙ c.in_default.is) (rw (order c.before.before.before.before.before.before.before.before.before) at c.check_laid.ensures))

@@ -45,12 +45,12 @@ abbrev rank : Start → ℕ
 rank s = order_of (asked s)
 
 -- the door, with what it found
-came : (c : After-check_tables) → Entered (asked c) (tables_sized (rank c) c.args.low.now c.args.high.now) true (table_of (rank c) c.args.low.now) (table_of (rank c) c.args.high.now)
+came : (c : After-check_tables) → Entered (asked c.before.before.before.before.before.before.before.before) (tables_sized (rank c.before.before.before.before.before.before.before.before) c.args.low.now c.args.high.now) true (table_of (rank c.before.before.before.before.before.before.before.before) c.args.low.now) (table_of (rank c.before.before.before.before.before.before.before.before) c.args.high.now)
     c.check_tables-checked.result c.check_tables-checked.new.l c.check_tables-checked.new.u
 came c = rw (read_i64 (register c.args.block.now order) (omega (arith, byte c.before.before.before))) at c.check_tables-checked.ensures
 
-ranked : (c : After-order_of) → c.order_of.result ≡ rank c.before.before.before.before.before.before.before.before.before.before.before.before
-ranked c = rw (read_i64 (register c.before.before.before.before.args.block.now order) (omega (arith, byte c.before.before.before.before.before.before.before))) at c.order_of.ensures
+ranked : (c : After-order_of) → c.order_of.result ≡ rank c.before.before.before.before.before.before.before.before.before.before.before
+ranked c = rw (read_i64 (register c.args.block.now order) (omega (arith, byte c.before.before.before.before.before.before))) at c.order_of.ensures
 
 abbrev bus : List ℕ → List ℕ → Bus
 bus b r = record { block = b; run = r }
@@ -62,19 +62,19 @@ overflow_cast-n c = fits (omega (arith, byte c))
 pub begin-requires : goal.begin-requires
 unfolding started refused_start begun_start
 begin-requires c =
-    (c.before.before.before.before.before.before.requires.1, rw (ranked c) ((came c.before.before.before.before.before.before).held c.in-Passed.is).tables)
+    (c.requires.1, rw (ranked c.before.before) ((came c.before.before.before.before.before).held c.in-Passed.is).tables)
 
 pub returns-in-Passed : goal.returns-in-Passed
 unfolding started refused_start begun_start
 returns-in-Passed c =
     let q = c.in-Passed.is in
-    let h = (came c.before.before.before.before.before.before.before).held q in
+    let h = (came c.before.before.before.before.before.before.before.before.before.before.before.before).held q in
     ap₂ bus c.start.ensures
-    (rw (ranked c, held_low h (length-numbers_of w64 _ _), held_high h (length-numbers_of w64 _ _)) at c.begin.ensures)
-    ∙ entered-passed _ _ _ _ _ _ _ (came c.before.before.before.before.before.before.before) q
+    (rw (ranked c.before.before.before.before.before.before.before.before.before, held_low h (length-numbers_of w64 _ _), held_high h (length-numbers_of w64 _ _)) at c.begin.ensures)
+    ∙ entered-passed _ _ _ _ _ _ _ (came c.before.before.before.before.before.before.before.before.before.before.before.before) q
 
 pub returns-in-Refused : goal.returns-in-Refused
 unfolding started refused_start begun_start
 returns-in-Refused c =
     ap₂ bus (c.refuse.ensures ∙ ap (λ (m : ℕ). refused_block m c.args.block.now) c.refusal_number.ensures) c.blank.ensures
-    ∙ entered-refused _ _ _ _ _ _ _ (came c) c.in-Refused.is
+    ∙ entered-refused _ _ _ _ _ _ _ (came c.before.before.before.before.before.before.before.before.before.before) c.in-Refused.is

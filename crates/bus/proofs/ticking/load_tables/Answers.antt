@@ -45,8 +45,8 @@ check_laid-requires c =
       c.requires.2,
       table_fits c.requires.2,
       record {
-        low-size = over_room (table_at c.args.n (area_of r) low_at) (length-table_at r low_at c.requires.2 (omega arith)) (table_fits c.requires.2) (low c);
-        high-size = over_room (table_at c.args.n (area_of r) high_at) (length-table_at r high_at c.requires.2 (omega arith)) (table_fits c.requires.2) (high c);
+        low-size = over_room (table_at c.args.n (area_of r) low_at) (length-table_at r low_at c.requires.2 (omega arith)) (table_fits c.requires.2) (low c.before.before.before.before);
+        high-size = over_room (table_at c.args.n (area_of r) high_at) (length-table_at r high_at c.requires.2 (omega arith)) (table_fits c.requires.2) (high c.before.before);
       },
     )
 
@@ -54,4 +54,4 @@ pub returns : goal.returns
 returns c =
     let r = c.args.run.now in
     loaded-tables c.requires.1 c.requires.2 (table_at c.args.n (area_of r) low_at) (table_at c.args.n (area_of r) high_at) (length-table_at r low_at c.requires.2 (omega arith))
-    (length-table_at r high_at c.requires.2 (omega arith)) (low c) (high c) c.check_laid.ensures
+    (length-table_at r high_at c.requires.2 (omega arith)) (low c.before.before.before.before.before) (high c.before.before.before) c.check_laid.ensures

@@ -51,7 +51,7 @@ module _ (c : After-load_tables) where
   asked : search_safe c.args.n low high columns c.args.j c.args.m ≡ passes c.load_tables-checked.result
   unfolding search_safe
   asked =
-      ap (λ (x : Bool). x && passes (first_refusal (table_checks c.args.n low high))) (call_true (safe c.before) c.if-not-stop_safe.left)
+      ap (λ (x : Bool). x && passes (first_refusal (table_checks c.args.n low high))) (call_true (safe c.before.before.before.before) c.if-not-stop_safe.left)
       ∙ ap passes (sym c.load_tables-checked.ensures.answered)
 
 -- the search
@@ -60,11 +60,11 @@ module _ (c : After-first_listed) where
   passed = c.in_default.is
 
   searched : let n = c.args.n in
-      Searched (listed_shows n (low_bounds n (low c)) (high_bounds n (high c)) (columns c) c.args.j c.args.m) c.first_listed.result 0 n c.first_listed.new.x
+      Searched (listed_shows n (low_bounds n (low c.before.before.before.before.before.before)) (high_bounds n (high c.before.before.before.before.before.before)) (columns c.before.before.before.before.before.before) c.args.j c.args.m) c.first_listed.result 0 n c.first_listed.new.x
   unfolding listed_shows
   searched =
       let h = c.load_tables-checked.ensures.held passed in
-      rw (h.low, h.high, stopped-padded (loaded c.before.before.before.before.before.before.before.before.before.before.before) c.args.j c.args.m) at c.first_listed.ensures
+      rw (h.low, h.high, stopped-padded (loaded c.before.before.before.before.before.before.before.before.before.before) c.args.j c.args.m) at c.first_listed.ensures
 
   -- the verdict that is given
   settles : {v : ℕ} → v ≡ elim c.first_listed.result as (λ z. ℕ) [ true ↦ 2 | false ↦ 3 ] → let k = c.args in
@@ -73,7 +73,7 @@ module _ (c : After-first_listed) where
   settles q =
       let k = c.args in
       ap (λ (v : ℕ). settled v k.block.now) (q ∙ sym (shown-verdict searched))
-      ∙ worked-yes k.block.now k.run.now (searching k.n k.j k.m) nothing (asked c ∙ ap passes passed)
+      ∙ worked-yes k.block.now k.run.now (searching k.n k.j k.m) nothing (asked c.before.before.before.before.before.before ∙ ap passes passed)
 
 pub returns-then-not-stop_safe : goal.returns-then-not-stop_safe
 unfolding search_work search_safe worked passes
@@ -83,7 +83,7 @@ pub returns-in-Refused : goal.returns-in-Refused
 unfolding search_work search_safe worked passes
 returns-in-Refused c =
     let k = c.args in
-    worked-no _ _ (searching k.n k.j k.m) nothing (asked c ∙ ap passes c.in-Refused.is)
+    worked-no _ _ (searching k.n k.j k.m) nothing (asked c.before ∙ ap passes c.in-Refused.is)
 
 pub slice_bounds-first_listed-end : goal.slice_bounds-first_listed-end
 unfolding search_work search_safe worked passes
@@ -97,16 +97,16 @@ pub first_listed-requires : goal.first_listed-requires
 unfolding search_work search_safe worked passes
 first_listed-requires c = (
   (c.load_tables-checked.ensures.held c.in_default.is).tables,
-  safe_stopped _ c.args.j c.args.m c.requires.2 c.requires.3 c.requires.4 (call_true c.before.before.before.before.before.before.stop_safe.ensures c.if-not-stop_safe.false-raw),
+  safe_stopped _ c.args.j c.args.m c.requires.2 c.requires.3 c.requires.4 (call_true c.stop_safe.ensures c.if-not-stop_safe.false-raw),
   refl,
 )
 
 pub returns-then-first_listed : goal.returns-then-first_listed
 unfolding search_work search_safe worked passes
 returns-then-first_listed c =
-    c.settle.ensures ∙ settles c.before (rw c.if-first_listed.true)
+    c.settle.ensures ∙ settles c.before.before.before.before.before.before.before.before (rw c.if-first_listed.true)
 
 pub returns-else-first_listed : goal.returns-else-first_listed
 unfolding search_work search_safe worked passes
 returns-else-first_listed c =
-    c.settle-else-first_listed.ensures ∙ settles c.before (rw c.if-first_listed.false)
+    c.settle-else-first_listed.ensures ∙ settles c.before.before.before.before.before.before.before.before (rw c.if-first_listed.false)

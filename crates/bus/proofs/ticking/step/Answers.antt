@@ -54,19 +54,19 @@ module _ (c : After-number_in3) where
 
 -- j from 0 up
 module _ (c : Else1) where
-  up : pos 0 ≤ℤ nth (r c) column_at
-  up = lt_fails (rw (column c) at c.if-j-lt0.false)
+  up : pos 0 ≤ℤ nth (r c.before) column_at
+  up = lt_fails (rw (column c.before) at c.if-j-lt0.false)
 
-  from : le_z (pos 0) (nth (r c) column_at) ≡ true
+  from : le_z (pos 0) (nth (r c.before) column_at) ≡ true
   from = le_z_true up
 
 -- and below n
-inside : (c : Then2) → lt_z (nth (r c) column_at) (pos (order_of (nth (r c) order_at))) ≡ true
-inside c = rw (column c, limit c) at c.if-j-n.true
+inside : (c : Then2) → lt_z (nth (r c.before.before) column_at) (pos (order_of (nth (r c.before.before) order_at))) ≡ true
+inside c = rw (column c.before.before, limit c.before.before) at c.if-j-n.true
 
 pub returns-then-j-lt0 : goal.returns-then-j-lt0
 unfolding work_of worked
-returns-then-j-lt0 c = worked-no _ _ _ nothing (and_first_false _ (le_z_false {x = pos 0} {y = nth (r c) column_at} (lt_holds (rw (column c) at c.if-j-lt0.true))))
+returns-then-j-lt0 c = worked-no _ _ _ nothing (and_first_false _ (le_z_false {x = pos 0} {y = nth (r c.before) column_at} (lt_holds (rw (column c.before) at c.if-j-lt0.true))))
 
 pub overflow_cast-n : goal.overflow_cast-n
 unfolding work_of worked
@@ -75,22 +75,22 @@ overflow_cast-n c = fits (omega (arith, small c.before))
 pub overflow_cast-j : goal.overflow_cast-j
 unfolding work_of worked
 overflow_cast-j c =
-    let k = c.before.before.before.before.number_in-j in
+    let k = c.number_in-j in
     as_usize {x = k.result} (record { sfits = k.ok }) (lt_fails (rw (clean_result k) at c.if-j-lt0.false))
 
 pub work-requires : goal.work-requires
 unfolding work_of worked
 work-requires c =
     let p = c.requires in
-    (p.0, p.1, small c, rw (column c) (omega (arith, order c, nat_abs-below (up c.before) (lt_holds (inside c)))))
+    (p.0, p.1, small c.before.before.before.before, rw (column c.before.before.before.before) (omega (arith, order c.before.before.before.before, nat_abs-below (up c.before.before.before) (lt_holds (inside c.before.before)))))
 
 pub returns-then-j-n : goal.returns-then-j-n
 unfolding work_of worked
 returns-then-j-n c =
-    (rw (order c, column c, stop c) at c.work.ensures) ∙ worked-yes _ _ _ nothing (and_of (from c.before) (inside c))
+    (rw (order c.before.before.before.before.before.before.before.before.before, column c.before.before.before.before.before.before.before.before.before, stop c.before.before.before.before.before.before.before.before.before) at c.work.ensures) ∙ worked-yes _ _ _ nothing (and_of (from c.before.before.before.before.before.before.before.before) (inside c.before.before.before.before.before.before.before))
 
 pub returns-else-j-n : goal.returns-else-j-n
 unfolding work_of worked
 returns-else-j-n c =
-    let past : lt_z (nth (r c) column_at) (pos (order_of (nth (r c) order_at))) ≡ false = rw (column c, limit c) at c.if-j-n.false in
-    worked-no _ _ _ nothing (ap (λ (x : Bool). x && lt_z (nth (r c) column_at) (pos (order_of (nth (r c) order_at)))) (from c.before) ∙ past)
+    let past : lt_z (nth (r c.before.before) column_at) (pos (order_of (nth (r c.before.before) order_at))) ≡ false = rw (column c.before.before, limit c.before.before) at c.if-j-n.false in
+    worked-no _ _ _ nothing (ap (λ (x : Bool). x && lt_z (nth (r c.before.before) column_at) (pos (order_of (nth (r c.before.before) order_at)))) (from c.before) ∙ past)

@@ -34,8 +34,8 @@ module _ (c : After-load_part) where
   room : length c.load_part.new.out ≡ table_room
   room = loaded_room c.args.run.now {j = c.args.j} (omega (arith, c.requires.2, c.requires.3)) c.load_part.ensures
 
-safe : (c : After-column_safe) → c.column_safe.result ≡ column_safe (columns_to (area_of c.before.before.before.args.run.now) c.before.before.before.args.j) c.before.before.before.args.j
-safe c = c.column_safe.ensures ∙ safe_padded (loaded c.before.before.before) c.before.before.before.args.j
+safe : (c : After-column_safe) → c.column_safe.result ≡ column_safe (columns_to (area_of c.args.run.now) c.args.j) c.args.j
+safe c = c.column_safe.ensures ∙ safe_padded (loaded c.before.before.before) c.args.j
 
 -- the column that was worked out
 module _ (c : After-work_column) where
@@ -46,22 +46,22 @@ module _ (c : After-work_column) where
 pub work_column-step-requires : goal.work_column-step-requires
 unfolding column_work worked
 work_column-step-requires c =
-    safe_ready _ c.args.j (room c) (omega (arith, c.requires.2, c.requires.3)) (sym c.column_safe.ensures ∙ c.if-column_safe.true)
+    safe_ready _ c.args.j (room c.before.before.before.before.before) (omega (arith, c.requires.2, c.requires.3)) (sym c.column_safe.ensures ∙ c.if-column_safe.true)
 
 pub keep_column-requires : goal.keep_column-requires
 unfolding column_work worked
 keep_column-requires c =
-    let p = c.before.before.before.before.before.before.before.before.before.requires in
-    (p.0, p.1, p.2, p.3, c.work_column-step.ensures.size, (tells c).1)
+    let p = c.requires in
+    (p.0, p.1, p.2, p.3, c.work_column-step.ensures.size, (tells c.before.before.before).1)
 
 pub returns-then-column_safe : goal.returns-then-column_safe
 unfolding column_work worked
 returns-then-column_safe c =
-    let a = c.before.before.before.before.before.before.before.before.before.before.args in
+    let a = c.args in
     c.keep_column.ensures
-    ∙ ap (column_taken a.block.now (area_of a.run.now) a.n a.j) ((tells c).0 ∙ next-padded (loaded c.before.before.before.before.before.before.before.before.before.before) a.j)
-    ∙ worked-yes a.block.now a.run.now (column a.n a.j) nothing (sym (safe c.before) ∙ c.if-column_safe.true)
+    ∙ ap (column_taken a.block.now (area_of a.run.now) a.n a.j) ((tells c.before.before.before.before.before.before.before.before).0 ∙ next-padded (loaded c.before.before.before.before.before.before.before.before.before.before.before.before.before.before) a.j)
+    ∙ worked-yes a.block.now a.run.now (column a.n a.j) nothing (sym (safe c.before.before.before.before.before.before.before.before.before.before.before) ∙ c.if-column_safe.true)
 
 pub returns-else-column_safe : goal.returns-else-column_safe
 unfolding column_work worked
-returns-else-column_safe c = let a = c.before.before.before.before.args in worked-no _ _ (column a.n a.j) nothing (sym (safe c.before) ∙ c.if-column_safe.false)
+returns-else-column_safe c = let a = c.args in worked-no _ _ (column a.n a.j) nothing (sym (safe c.before) ∙ c.if-column_safe.false)

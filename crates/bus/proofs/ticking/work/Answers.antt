@@ -42,7 +42,7 @@ module _ (c : Then1) where
 -- p ≤ j + 1
 module _ (c : Then2) where
   few : le_z c.args.p (pos (suc c.args.j)) ≡ true
-  few = rw (clean c.ranges.p, next c) at c.if-p-j.true
+  few = rw (clean c.ranges.p, next c.before.before.before.before) at c.if-p-j.true
 
   row : (c.args.p -ℤ pos 1 ≡ pos (nat_abs c.args.p - 1)) × (nat_abs c.args.p - 1 ≤ c.args.j)
   row = stop_row c.args.p c.args.j (le_of _ _ (one c.before)) (le_of _ _ few)
@@ -59,32 +59,32 @@ none c = rw (clean c.ranges.p) at c.if-p-ge1.false
 
 pub overflow_sub-p : goal.overflow_sub-p
 unfolding work_at worked
-overflow_sub-p c = rw (clean c.ranges.p) (fit c)
+overflow_sub-p c = rw (clean c.ranges.p) (fit c.before.before)
 
 pub overflow_cast-p : goal.overflow_cast-p
 unfolding work_at worked
-overflow_cast-p c = rw (clean c.ranges.p) (as_usize (fit c) (rw (row c).0 (pos_nonneg _)))
+overflow_cast-p c = rw (clean c.ranges.p) (as_usize (fit c.before.before) (rw (row c.before.before).0 (pos_nonneg _)))
 
 pub search-requires : goal.search-requires
 unfolding work_at worked
-search-requires c = let p = c.requires in (p.0, p.1, p.2, p.3, rw (read c) (row c).1)
+search-requires c = let p = c.requires in (p.0, p.1, p.2, p.3, rw (read c.before.before) (row c.before.before).1)
 
 pub returns-then-p-j : goal.returns-then-p-j
 unfolding work_at worked
 returns-then-p-j c =
-    (rw (read c) at c.search.ensures) ∙ worked-yes _ _ _ nothing (few c) ∙ worked-yes _ _ _ _ (one c.before)
+    (rw (read c.before.before.before.before.before.before.before) at c.search.ensures) ∙ worked-yes _ _ _ nothing (few c.before.before.before.before.before.before.before) ∙ worked-yes _ _ _ _ (one c.before.before.before.before.before.before.before.before)
 
 pub returns-else-p-j : goal.returns-else-p-j
 unfolding work_at worked
 returns-else-p-j c =
-    let more : le_z c.args.p (pos (suc c.args.j)) ≡ false = rw (clean c.ranges.p, next c) at c.if-p-j.false in
+    let more : le_z c.args.p (pos (suc c.args.j)) ≡ false = rw (clean c.ranges.p, next c.before.before.before.before) at c.if-p-j.false in
     worked-no _ _ _ nothing more ∙ worked-yes _ _ _ _ (one c.before)
 
 pub returns-then-p-eq0 : goal.returns-then-p-eq0
 unfolding work_at worked
 returns-then-p-eq0 c =
     let zero : c.args.p ≡ pos 0 = same_bits c.ranges.p (fits_literal tt) c.if-p-eq0.true in
-    c.take_column.ensures ∙ worked-yes _ _ _ nothing (ap (le_z (pos 0)) zero) ∙ worked-no _ _ _ _ (none c.before)
+    c.take_column.ensures ∙ worked-yes _ _ _ nothing (ap (le_z (pos 0)) zero) ∙ worked-no _ _ _ _ (none c.before.before.before.before.before.before.before.before)
 
 pub returns-else-p-eq0 : goal.returns-else-p-eq0
 unfolding work_at worked

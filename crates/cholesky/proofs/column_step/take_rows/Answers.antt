@@ -53,12 +53,12 @@ take_column-requires c =
 pub returns-then-not-take_column : goal.returns-then-not-take_column
 unfolding upper
 returns-then-not-take_column c =
-    taking_stops c.requires.0 c.loop-i-test.true c.loop-i.invariant.1 (row-taken c) (call_false refl c.if-not-take_column.true-raw)
+    taking_stops c.requires.0 c.loop-i-test.true c.loop-i.invariant.1 (row-taken c.before) (call_false refl c.if-not-take_column.true-raw)
 
 pub loop-i-preserved : goal.loop-i-preserved
 unfolding upper
 loop-i-preserved c =
-    (omega arith, rw add-one (taking_on c.requires.0 c.loop-i-test.true c.loop-i.invariant.1 (row-taken c) (call_true refl c.if-not-take_column.false-raw)))
+    (omega arith, rw add-one (taking_on c.requires.0 c.loop-i-test.true c.loop-i.invariant.1 (row-taken c.before) (call_true refl c.if-not-take_column.false-raw)))
 
 pub returns : goal.returns
 unfolding upper

@@ -26,7 +26,7 @@ returns-then-s-j-lt1 c = worked-none c.requires (read_less (diagonal c.before.be
 pub take_rows-stop-requires : goal.take_rows-stop-requires
 unfolding upper
 take_rows-stop-requires c =
-    (c.requires, le_of (pos 1) _ (read_not_less (diagonal c.before) (pos 1) c.t9-1.given (omega arith) c.if-s-j-lt1.false))
+    (c.requires, le_of (pos 1) _ (read_not_less (diagonal c.before.before.before) (pos 1) c.t9-1.given (omega arith) c.if-s-j-lt1.false))
 
 pub returns-then-stop-j : goal.returns-then-stop-j
 unfolding upper

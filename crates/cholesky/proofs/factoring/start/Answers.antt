@@ -49,7 +49,7 @@ bounds-s-j c = let o = c.requires in omega (arith, o.order, o.size)
 pub returns-then-s-j-lt1 : goal.returns-then-s-j-lt1
 unfolding upper
 returns-then-s-j-lt1 c =
-    record { bound = c.loop-j.invariant.0; some = c.loop-j.invariant.1; none = λ h. read_less (diagonal c) (pos 1) c.t10-1.given (omega arith) c.if-s-j-lt1.true }
+    record { bound = c.loop-j.invariant.0; some = c.loop-j.invariant.1; none = λ h. read_less (diagonal c.before.before.before) (pos 1) c.t10-1.given (omega arith) c.if-s-j-lt1.true }
 
 pub loop-j-preserved : goal.loop-j-preserved
 unfolding upper

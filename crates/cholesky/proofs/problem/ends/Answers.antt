@@ -19,7 +19,7 @@ pub factor_tables-outcome-requires : goal.factor_tables-outcome-requires
 factor_tables-outcome-requires c = (c.requires, refl)
 
 pub returns-in-Ends : goal.returns-in-Ends
-returns-in-Ends c = let f = c.factor_tables-outcome in outcome-ends (of c.before.before) (rw f.ensures.outcome at c.in-Ends.is)
+returns-in-Ends c = let f = c.factor_tables-outcome in outcome-ends (of c.before) (rw f.ensures.outcome at c.in-Ends.is)
 
 pub returns-in-Stops : goal.returns-in-Stops
-returns-in-Stops c = let f = c.factor_tables-outcome in outcome_stops (of c.before.before) _ _ (rw f.ensures.outcome at c.in-Stops.is)
+returns-in-Stops c = let f = c.factor_tables-outcome in outcome_stops (of c.before) _ _ (rw f.ensures.outcome at c.in-Stops.is)

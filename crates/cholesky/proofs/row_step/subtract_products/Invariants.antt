@@ -13,7 +13,7 @@ use Rattle.cholesky.proofs.Rows.{taken_start, taken_reads, taken_more, product_f
 use Rattle.cholesky.proofs.row_step.subtract_products.Given as goal
 
 abbrev pub invariant-loop-a : goal.invariant-loop-a
-invariant-loop-a l = (l.i < l.a) × (l.a ≤ suc l.j) × Subtracted l.initial.s l.i l.j (to_z w64 l.r) l.a l.s
+invariant-loop-a l = (l.i < l.a) × (l.a ≤ suc l.j) × Subtracted l.initial.s l.i l.j l.r l.a l.s
 
 abbrev pub decreases-loop-a : goal.decreases-loop-a
 decreases-loop-a l = suc l.j - l.a

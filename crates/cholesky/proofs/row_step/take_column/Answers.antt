@@ -32,7 +32,7 @@ pub returns-then-not-within : goal.returns-then-not-within
 unfolding upper
 returns-then-not-within c =
     let e = clean_result c.floor_div-r in
-    rw (e, ← entry_is c) (column_out c.requires.0 _ (rw e at (call_false c.within.ensures c.if-not-within.true-raw)))
+    rw (e, ← entry_is c.before.before) (column_out c.requires.0 _ (rw e at (call_false c.within.ensures c.if-not-within.true-raw)))
 
 pub subtract_products-requires : goal.subtract_products-requires
 unfolding upper
@@ -43,5 +43,5 @@ subtract_products-requires c =
 pub returns : goal.returns
 unfolding upper
 returns c =
-    rw (clean_element _ c.result-1.given, ← entry_is c)
-    (column_in_lem c.requires.0 _ (passed c) (rw (clean_result c.floor_div-r) at c.subtract_products.ensures))
+    rw (clean_element _ c.result-1.given, ← entry_is c.before.before.before.before.before)
+    (column_in_lem c.requires.0 _ (passed c.before.before.before) (rw (clean_result c.floor_div-r) at c.subtract_products.ensures))

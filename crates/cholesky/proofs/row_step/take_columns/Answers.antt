@@ -35,7 +35,7 @@ take_column-requires c =
 
 pub returns-then-not-take_column : goal.returns-then-not-take_column
 returns-then-not-take_column c =
-    going_stops c.requires.0 c.loop-j.invariant.0 c.loop-j-test.true c.loop-j.invariant.2 (column_taken_lem c) (call_false refl c.if-not-take_column.true-raw)
+    going_stops c.requires.0 c.loop-j.invariant.0 c.loop-j-test.true c.loop-j.invariant.2 (column_taken_lem c.before) (call_false refl c.if-not-take_column.true-raw)
 
 pub overflow_add-j-in-loop-j : goal.overflow_add-j-in-loop-j
 overflow_add-j-in-loop-j c = omega (arith, c.loop-j-test.true, c.requires.0.order)
@@ -47,7 +47,7 @@ pub loop-j-preserved : goal.loop-j-preserved
 loop-j-preserved c = (
   omega (arith, c.loop-j.invariant.0),
   omega (arith, c.loop-j-test.true),
-  rw add-one (going_on c.requires.0 c.loop-j.invariant.0 c.loop-j-test.true c.loop-j.invariant.2 (column_taken_lem c) (call_true refl c.if-not-take_column.false-raw)),
+  rw add-one (going_on c.requires.0 c.loop-j.invariant.0 c.loop-j-test.true c.loop-j.invariant.2 (column_taken_lem c.before) (call_true refl c.if-not-take_column.false-raw)),
 )
 
 pub returns : goal.returns

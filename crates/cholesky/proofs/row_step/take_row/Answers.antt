@@ -53,7 +53,7 @@ pub take_columns-stop-requires : goal.take_columns-stop-requires
 unfolding upper
 take_columns-stop-requires c =
     let p = c.requires in
-    (p.0, p.1, rw (root_is c) (root_one p.2 (root_law _ (≤ℤ_trans (pos_nonneg 1) p.2))), root_is c)
+    (p.0, p.1, rw (root_is c.before) (root_one p.2 (root_law _ (≤ℤ_trans (pos_nonneg 1) p.2))), root_is c.before)
 
 pub overflow_mul-d : goal.overflow_mul-d
 unfolding upper
@@ -75,4 +75,4 @@ pub returns : goal.returns
 unfolding upper
 returns c =
     let p = c.requires in
-    row-taken p.0 p.1 (root_is c) c.take_columns-stop.ensures
+    row-taken p.0 p.1 (root_is c.before.before) c.take_columns-stop.ensures

@@ -79,7 +79,7 @@ others s = let a = s.args in terms_within (order_of a.n) a.from.now a.to.now a.l
 
 asked : (c : After-sized_within) → c.sized_within-within.result ≡ (sizes c.before.before.before.before.before && others c.before.before.before.before.before)
 asked c =
-    rw (← sized c.before) (rw (order c, clean c.ranges.limit) at c.sized_within-within.ensures)
+    rw (← sized c.before) (rw (order c.before.before.before.before, clean c.ranges.limit) at c.sized_within-within.ensures)
 
 -- the door, with what it found
 came : (c : After-enter) → let a = c.args in
@@ -87,12 +87,12 @@ came : (c : After-enter) → let a = c.args in
 came c =
     entered-sized _ _ _ _ _ (entered_by (clean c.ranges.n) (sized c.before.before.before.before) (asked c.before.before.before) c.enter-checked.ensures)
 
-behind-sized : (c : After-enum_told) → Lent c.before.before.before.before.before.before.before.before.before.before
-behind-sized c = lent c.before.before.before.before.before.before.before.before.before.before (came-through _ _ _ _ _ (came c.before.before) c.in_default.is).sizes
+behind-sized : (c : After-enum_told) → Lent c.before.before.before.before.before.before.before.before.before
+behind-sized c = lent c.before.before.before.before.before.before.before.before.before (came-through _ _ _ _ _ (came c.before) c.in_default.is).sizes
 
 -- 16
-ends : (c : After-check_ends) → c.check_ends-ordered.result ≡ first_refusal (constraint_ends (posed c.before.before.before.before.before.before.before.before.before.before.before))
-ends c = rw (order c.before.before.before.before.before.before.before.before.before.before) at c.check_ends-ordered.ensures
+ends : (c : After-check_ends) → c.check_ends-ordered.result ≡ first_refusal (constraint_ends (posed c.before.before.before.before.before.before.before.before.before.before))
+ends c = rw (order c.before.before.before.before.before.before.before.before.before) at c.check_ends-ordered.ensures
 
 -- what an answer means
 abbrev means : Start → Enclosed (List ℤ) → Type 0
@@ -109,7 +109,7 @@ given s b = laid_sides (λ x. x) b s.args.sides.now
 
 pub returns-then-m-eq0 : goal.returns-then-m-eq0
 unfolding enclose boxing problem_box constraint_entered
-returns-then-m-eq0 c = exactly (means c) (shown c) _ (ap (given c) (no-order _ _ _ _ _ refused _ (sym (order c.before) ∙ c.if-m-eq0.true)))
+returns-then-m-eq0 c = exactly (means c.before.before) (shown c.before.before) _ (ap (given c.before.before) (no-order _ _ _ _ _ refused _ (sym (order c.before) ∙ c.if-m-eq0.true)))
 
 pub overflow_mul-sizes : goal.overflow_mul-sizes
 unfolding enclose boxing problem_box constraint_entered
@@ -127,23 +127,23 @@ sized_within-within-requires c = (λ c κs s. let z = lent (begun c).before (sym
 pub enter-checked-requires : goal.enter-checked-requires
 unfolding enclose boxing problem_box constraint_entered
 enter-checked-requires c =
-    ((λ s. rw (clean c.ranges.n) (let z = lent c.before.before.before.before.before.before.before (sym (sized c) ∙ s) in (z.low, z.high))), refl, refl)
+    ((λ s. rw (clean c.ranges.n) (let z = lent c.before.before.before.before.before.before.before (sym (sized c.before.before.before) ∙ s) in (z.low, z.high))), refl, refl)
 
 pub returns-in-Refused : goal.returns-in-Refused
 unfolding enclose boxing problem_box constraint_entered
 returns-in-Refused c =
-    exactly (means c) (shown c) _ (ap (given c) (door-refused refused _ _ _ (posed c) _ (came c) c.in-Refused.is))
+    exactly (means c.before.before.before.before.before.before.before.before.before) (shown c.before.before.before.before.before.before.before.before.before) _ (ap (given c.before.before.before.before.before.before.before.before.before) (door-refused refused _ _ _ (posed c.before.before.before.before.before.before.before.before.before) _ (came c.before) c.in-Refused.is))
 
 pub check_ends-ordered-requires : goal.check_ends-ordered-requires
 unfolding enclose boxing problem_box constraint_entered
 check_ends-ordered-requires c = let z = behind-sized c in
-    rw (order c.before.before.before.before.before.before.before.before.before) (omega (arith, z.linear_low), omega (arith, z.linear_high))
+    rw (order c.before.before.before.before.before.before.before.before) (omega (arith, z.linear_low), omega (arith, z.linear_high))
 
 pub returns-in-Refused-ordered : goal.returns-in-Refused-ordered
 unfolding enclose boxing problem_box constraint_entered
 returns-in-Refused-ordered c =
-    exactly (means c) (shown c) _
-    (ap (given c) (ends-refused refused _ _ _ (posed c) _ (came c) c.in_default.is (sym (ends c) ∙ c.in-Refused-ordered.is)))
+    exactly (means c.before.before.before.before.before.before.before.before.before.before.before) (shown c.before.before.before.before.before.before.before.before.before.before.before) _
+    (ap (given c.before.before.before.before.before.before.before.before.before.before.before) (ends-refused refused _ _ _ (posed c.before.before.before.before.before.before.before.before.before.before.before) _ (came c.before.before.before) c.in_default.is (sym (ends c.before) ∙ c.in-Refused-ordered.is)))
 
 pub slice_bounds-enclose_bounds-end : goal.slice_bounds-enclose_bounds-end
 unfolding enclose boxing problem_box constraint_entered
@@ -157,16 +157,16 @@ pub enclose_bounds-requires : goal.enclose_bounds-requires
 unfolding enclose boxing problem_box constraint_entered
 enclose_bounds-requires c =
     let q = c.in_default.is in
-    let b = came-through _ _ _ _ _ (came c) q in
-    let z = behind-sized c in
-    rw (order c.before.before.before.before.before.before.before, clean c.ranges.limit)
-    (centred _ _ _ _ _ b.within ((came c).held q).tables (omega (arith, z.linear_low)) (omega (arith, z.linear_high)) (omega (arith, z.centre)), limit-within _ _ _ _ _ b.within, z.sides)
+    let b = came-through _ _ _ _ _ (came c.before.before.before.before.before.before) q in
+    let z = behind-sized c.before.before.before.before.before in
+    rw (order c.before.before.before.before.before.before.before.before.before.before.before.before.before, clean c.ranges.limit)
+    (centred _ _ _ _ _ b.within ((came c.before.before.before.before.before.before).held q).tables (omega (arith, z.linear_low)) (omega (arith, z.linear_high)) (omega (arith, z.centre)), limit-within _ _ _ _ _ b.within, z.sides)
 
 pub returns : goal.returns
 unfolding enclose boxing problem_box constraint_entered
 returns c =
     let q = c.in_default.is in
-    let h = (came c).held q in
-    exactly (means c) (shown c) _
-    (rw (← constraint_passed refused _ _ _ (posed c) _ (came c) q (sym (ends c) ∙ c.in_default-ordered.is))
-    (rw (order c.before.before.before.before.before.before.before, h.low, h.high, clean c.ranges.limit) at c.enclose_bounds.ensures))
+    let h = (came c.before.before.before.before.before.before.before.before).held q in
+    exactly (means c.before.before.before.before.before.before.before.before.before.before.before.before.before.before.before.before) (shown c.before.before.before.before.before.before.before.before.before.before.before.before.before.before.before.before) _
+    (rw (← constraint_passed refused _ _ _ (posed c.before.before.before.before.before.before.before.before.before.before.before.before.before.before.before.before) _ (came c.before.before.before.before.before.before.before.before) q (sym (ends c.before.before.before.before.before.before) ∙ c.in_default-ordered.is))
+    (rw (order c.before.before.before.before.before.before.before.before.before.before.before.before.before.before.before, h.low, h.high, clean c.ranges.limit) at c.enclose_bounds.ensures))

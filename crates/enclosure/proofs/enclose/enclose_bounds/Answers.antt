@@ -22,12 +22,12 @@ of s = let a = s.args in boxed a.n (at a.n a.low.now) (at a.n a.high.now) (ends_
 
 pub returns-in-Sides : goal.returns-in-Sides
 returns-in-Sides c =
-    given_sides (λ s. s) _ {b = of c} (rw (clean c.ranges.limit) at c.box_bounds-given.ensures) _ c.in-Sides.is (c.copy_numbers.ensures ∙ copied-whole _ _ (omega (arith, c.requires.0.tables.order, c.box_bounds-given.ensures.size)) c.requires.2)
+    given_sides (λ s. s) _ {b = of c.before.before.before.before.before.before.before} (rw (clean c.ranges.limit) at c.box_bounds-given.ensures) _ c.in-Sides.is (c.copy_numbers.ensures ∙ copied-whole _ _ (omega (arith, c.requires.0.tables.order, c.box_bounds-given.ensures.size)) c.requires.2)
 
 pub returns-in-Empty : goal.returns-in-Empty
 returns-in-Empty c =
-    given_empty (λ s. s) _ {b = of c} (rw (clean c.ranges.limit) at c.box_bounds-given.ensures) _ c.in-Empty.is
+    given_empty (λ s. s) _ {b = of c.before.before.before} (rw (clean c.ranges.limit) at c.box_bounds-given.ensures) _ c.in-Empty.is
 
 pub returns-in-Refused : goal.returns-in-Refused
 returns-in-Refused c =
-    given-refused (λ s. s) _ {b = of c} (rw (clean c.ranges.limit) at c.box_bounds-given.ensures) _ c.in-Refused.r c.in-Refused.is
+    given-refused (λ s. s) _ {b = of c.before.before.before} (rw (clean c.ranges.limit) at c.box_bounds-given.ensures) _ c.in-Refused.r c.in-Refused.is

@@ -33,25 +33,25 @@ loop-field-init c = (omega arith, rw c.unseen-layout.ensures)
 pub returns-then-again : goal.returns-then-again
 unfolding walked
 returns-then-again c =
-    c.stopped.ensures ∙ sym (c.loop-field.invariant.1 ∙ walk_again _ _ _ _ _ (here c) (seen_is _ _ c.start_of-again.ensures c.if-again.true-raw))
+    c.stopped.ensures ∙ sym (c.loop-field.invariant.1 ∙ walk_again _ _ _ _ _ (here c.before.before.before.before) (seen_is _ _ c.start_of-again.ensures c.if-again.true-raw))
 
 pub returns-then-falls : goal.returns-then-falls
 unfolding walked
 returns-then-falls c =
     c.stopped-then-falls.ensures
     ∙ sym (c.loop-field.invariant.1
-    ∙ walk_falling _ _ _ _ _ (here c) (seen_is _ _ c.start_of-again.ensures c.if-again.false-raw) (falls_is c.in-Here.field.kind _ c.tag_of-tag.ensures c.if-falls.true-raw))
+    ∙ walk_falling _ _ _ _ _ (here c.before.before.before.before.before) (seen_is _ _ c.start_of-again.ensures c.if-again.false-raw) (falls_is c.in-Here.field.kind _ c.tag_of-tag.ensures c.if-falls.true-raw))
 
 pub loop-field-smaller : goal.loop-field-smaller
 unfolding walked
-loop-field-smaller c = omega (arith, found_inside _ _ _ (here c))
+loop-field-smaller c = omega (arith, found_inside _ _ _ (here c.before.before.before.before.before))
 
 pub loop-field-preserved : goal.loop-field-preserved
 unfolding walked
 loop-field-preserved c = (
-  omega (arith, found_inside _ _ _ (here c)),
+  omega (arith, found_inside _ _ _ (here c.before.before.before.before.before)),
   c.loop-field.invariant.1
-      ∙ walk_more _ _ _ _ _ (here c) (seen_is _ _ c.start_of-again.ensures c.if-again.false-raw) (falls_is c.in-Here.field.kind _ c.tag_of-tag.ensures c.if-falls.false-raw)
+      ∙ walk_more _ _ _ _ _ (here c.before.before.before.before.before) (seen_is _ _ c.start_of-again.ensures c.if-again.false-raw) (falls_is c.in-Here.field.kind _ c.tag_of-tag.ensures c.if-falls.false-raw)
       ∙ onward _ _ c.tag_of-tag.ensures c.placed-layout.ensures,
 )
 

@@ -57,7 +57,7 @@ accepted c h = ⊎_elim (λ w. w.1.given.1) (λ w. absurd (false≢true (sym w.2
 -- else they are kept
 keeps : (c : At-match-branch) → c.match.passed ≡ false → ◌≡◌ {A = Handed} (record { answer = c.read-reading.result.checked; parts = lent c.before.before.before.before.before.before.before.before.before.before.before.before.before }) (read_summary c.args.file.now (lent c.before.before.before.before.before.before.before.before.before.before.before.before.before))
 keeps c h =
-    ⊎_elim (λ w. absurd (false≢true (sym h ∙ w.2))) (λ w. handing_refused _ (lent c.before.before.before.before.before.before.before.before.before.before.before.before.before) (passed c) _ (found c) w.1.given.1) c.match.branch
+    ⊎_elim (λ w. absurd (false≢true (sym h ∙ w.2))) (λ w. handing_refused _ (lent c.before.before.before.before.before.before.before.before.before.before.before.before.before) (passed c.before) _ (found c.before) w.1.given.1) c.match.branch
 
 fitting : (c : Then2) → ProblemRooms c.read-reading.result.problem
 fitting c = (c.read-reading.ensures.1.through (accepted c.before c.if-passed.true)).rooms
@@ -67,20 +67,20 @@ returns-then-not-parts_roomy c = handing_sized _ (lent c.before.before.before.be
 
 pub store_bounds-requires : goal.store_bounds-requires
 store_bounds-requires c =
-    let f = fitting c in
-    let z = rooms c.before.before in
+    let f = fitting c.before.before.before.before in
+    let z = rooms c.before.before.before.before.before.before in
     (record { count = f.low; size = z.low }, record { count = f.high; size = z.high })
 
 pub store_linear-requires : goal.store_linear-requires
 store_linear-requires c =
-    let f = fitting c.before.before.before.before.before.before.before.before in
-    let z = rooms c.before.before.before.before.before.before.before.before.before.before in
+    let f = fitting c.before.before.before.before.before.before.before.before.before.before.before.before in
+    let z = rooms c.before.before.before.before.before.before.before.before.before.before.before.before.before.before in
     (record { count = f.linear_low; size = z.from }, record { count = f.linear_high; size = z.to })
 
 pub store_others-requires : goal.store_others-requires
 store_others-requires c =
-    let f = fitting c.before.before.before.before.before.before.before in
-    let z = rooms c.before.before.before.before.before.before.before.before.before in
+    let f = fitting c.before.before.before.before.before.before.before.before.before.before.before.before.before.before.before.before.before.before.before.before in
+    let z = rooms c.before.before.before.before.before.before.before.before.before.before.before.before.before.before.before.before.before.before.before.before.before.before in
     (f.order, z.order, z.limit, record { count = f.centre; size = z.centre })
 
 pub returns-then-passed : goal.returns-then-passed
@@ -88,7 +88,7 @@ returns-then-passed c =
     let o = c.store_others.ensures in
     let l = c.store_linear.ensures in
     let b = c.store_bounds.ensures in
-    handing_written _ (lent c.before.before.before.before.before.before.before.before.before.before.before.before.before.before) (passed c) c.read-reading.ensures.0 (accepted c.before c.if-passed.taken) (parts_by o.0 b.0 b.1 l.0 l.1 o.1 o.2)
+    handing_written _ (lent c.before.before.before.before.before.before.before.before.before.before.before.before.before.before.before.before.before.before.before.before.before.before.before.before.before.before.before.before.before.before.before.before.before.before.before.before.before.before.before.before.before) (passed c.before.before.before.before.before.before.before.before.before.before.before.before.before.before.before.before.before.before.before.before.before.before.before.before.before.before.before.before.before) c.read-reading.ensures.0 (accepted c.before.before.before.before.before.before.before.before.before.before.before.before.before.before.before.before.before.before.before.before.before.before.before.before.before.before.before.before c.if-passed.taken) (parts_by o.0 b.0 b.1 l.0 l.1 o.1 o.2)
 
 pub returns-else-passed : goal.returns-else-passed
 returns-else-passed c = keeps c.before c.if-passed.false

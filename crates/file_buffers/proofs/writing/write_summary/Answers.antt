@@ -74,7 +74,7 @@ loaded c = rw (order c.before.before.before.before.before, clean c.ranges.limit)
 
 pub returns-then-m-eq0 : goal.returns-then-m-eq0
 unfolding write_summary
-returns-then-m-eq0 c = writing-no-order c.args.n (sizes c) (posed c) c.args.file.now (sym (order c.before) ∙ c.if-m-eq0.true)
+returns-then-m-eq0 c = writing-no-order c.args.n (sizes c.before.before.before.before.before.before.before.before) (posed c.before.before.before.before.before.before.before.before) c.args.file.now (sym (order c.before) ∙ c.if-m-eq0.true)
 
 pub overflow_mul-sizes : goal.overflow_mul-sizes
 unfolding write_summary
@@ -95,7 +95,7 @@ write_sized-requires c = small c.before.before
 pub returns-then-not-write_sized : goal.returns-then-not-write_sized
 unfolding write_summary
 returns-then-not-write_sized c =
-    writing-no-sizes c.args.n (sizes c) (posed c) c.args.file.now (λ z. c.if-m-eq0.false (order c ∙ z)) (call_false (sized c.before) c.if-not-write_sized.true-raw)
+    writing-no-sizes c.args.n (sizes c.before.before.before.before.before.before.before.before.before.before.before) (posed c.before.before.before.before.before.before.before.before.before.before.before) c.args.file.now (λ z. c.if-m-eq0.false (order c.before.before.before.before ∙ z)) (call_false (sized c.before) c.if-not-write_sized.true-raw)
 
 pub load_problem-problem-requires : goal.load_problem-problem-requires
 unfolding write_summary
@@ -114,10 +114,10 @@ load_problem-problem-requires c =
 pub write_checked-requires : goal.write_checked-requires
 unfolding write_summary
 write_checked-requires c =
-    rw (loaded c.before) (spelled_rooms _ _ _ _ _ _ _ (order_small c.args.n), (lent c).file)
+    rw (loaded c.before) (spelled_rooms _ _ _ _ _ _ _ (order_small c.args.n), (lent c.before.before).file)
 
 pub returns : goal.returns
 unfolding write_summary
 returns c =
-    c.write_checked.ensures ∙ ap (λ (p : Problem). checked_writing p c.args.file.now) (loaded c)
-    ∙ writing-sized c.args.n (sizes c) (posed c) c.args.file.now (order-given c.args.n (λ z. c.if-m-eq0.false (order c.before.before.before.before.before ∙ z))) (passed c) refl
+    c.write_checked.ensures ∙ ap (λ (p : Problem). checked_writing p c.args.file.now) (loaded c.before.before.before.before)
+    ∙ writing-sized c.args.n (sizes c.before.before.before.before.before.before.before.before.before.before.before.before.before.before.before.before) (posed c.before.before.before.before.before.before.before.before.before.before.before.before.before.before.before.before) c.args.file.now (order-given c.args.n (λ z. c.if-m-eq0.false (order c.before.before.before.before.before.before.before.before.before ∙ z))) (passed c.before.before.before.before.before) refl

@@ -27,5 +27,5 @@ unfolding stiffness_entry stiffness_stored
 returns c =
     let a = c.args in
     rw (clean_result c.bracket_code, c.bracket_code.ensures)
-    (exactly (means c) (stiffness_means a.n a.low.now a.high.now a.step.now a.bound.now a.vector.now) _
+    (exactly (means c.before.before.before.before.before.before.before.before.before.before.before.before.before.before.before.before) (stiffness_means a.n a.low.now a.high.now a.step.now a.bound.now a.vector.now) _
     (ap numbered (rw (clean c.ranges.n) at c.bracket.ensures)))

@@ -39,4 +39,4 @@ file_bytes c = record { each = λ i. omega (arith, c.shared_slice_known-1.given 
 pub returns : goal.returns
 returns c =
     rw (clean_result c.checked_code, c.checked_code.ensures)
-    (read_summary_exactly c.args.file.now (lent c) (file_bytes c) {h = left c} c.read_summary.ensures)
+    (read_summary_exactly c.args.file.now (lent c.before.before.before.before.before.before.before.before.before.before.before.before.before.before.before.before.before.before.before.before.before.before.before.before.before.before.before.before.before.before.before) (file_bytes c.before.before.before.before.before.before.before.before.before.before.before.before.before.before.before.before.before.before.before.before.before.before.before.before.before.before.before.before.before.before) {h = left c.before.before.before.before.before.before.before.before.before.before.before.before.before.before.before} c.read_summary.ensures)

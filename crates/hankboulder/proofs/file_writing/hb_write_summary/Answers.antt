@@ -22,8 +22,8 @@ left c = record { answer = c.write_summary.result; file = c.write_summary.new.fi
 lent : (c : After-shared_slice_known5) → let a = c.args in Bytes a.linear_low.now a.linear_high.now a.centre.now
 lent c =
     record {
-      c = record { each = λ i. omega (arith, c.shared_slice_known-3-1.given i) };
-      c = record { each = λ i. omega (arith, c.shared_slice_known-4-1.given i) };
+      from = record { each = λ i. omega (arith, c.shared_slice_known-3-1.given i) };
+      to = record { each = λ i. omega (arith, c.shared_slice_known-4-1.given i) };
       centre = record { each = λ i. omega (arith, c.shared_slice_known-5-1.given i) };
     }
 
@@ -31,5 +31,5 @@ pub returns : goal.returns
 returns c =
     let a = c.args in
     rw (clean_result c.checked_code, c.checked_code.ensures)
-    (write_summary_exactly a.n a.low.now a.high.now a.linear_low.now a.linear_high.now a.limit a.centre.now a.file.now (lent c) {h = left c}
+    (write_summary_exactly a.n a.low.now a.high.now a.linear_low.now a.linear_high.now a.limit a.centre.now a.file.now (lent c.before.before.before.before.before.before) {h = left c.before.before.before}
     (rw (clean c.ranges.n, clean c.ranges.limit) at c.write_summary.ensures))

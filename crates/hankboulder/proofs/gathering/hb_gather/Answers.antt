@@ -37,5 +37,5 @@ pub returns : goal.returns
 unfolding gather_entry gather_stored
 returns c =
     rw (clean_result c.gathered_code, c.gathered_code.ensures)
-    (exactly (means c) (gathered-means c.args.sample (narrow c) c.args.n (lent c)) _
+    (exactly (means c.before.before.before.before.before.before.before.before.before.before.before.before.before.before.before.before.before.before.before.before.before.before) (gathered-means c.args.sample (narrow c.before.before.before.before.before.before.before.before.before.before.before.before.before.before.before.before.before.before.before.before.before.before) c.args.n (lent c.before.before.before.before.before.before.before.before.before.before.before.before.before.before.before.before.before.before.before.before.before.before)) _
     (ap numbered (rw (clean c.ranges.n) at c.gather.ensures)))

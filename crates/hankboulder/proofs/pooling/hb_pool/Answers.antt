@@ -36,5 +36,5 @@ pub returns : goal.returns
 unfolding pool_entry pool_stored
 returns c =
     rw (clean_result c.gathered_code, c.gathered_code.ensures)
-    (exactly (means c) (pooled-means c.args.n c.args.orders.now (lists c) (lent c)) _
+    (exactly (means c.before.before.before.before.before.before.before.before.before.before.before.before.before.before.before.before.before.before.before.before.before.before.before.before.before.before.before.before) (pooled-means c.args.n c.args.orders.now (lists c.before.before.before.before.before.before.before.before.before.before.before.before.before.before.before.before.before.before.before.before.before.before.before.before.before.before.before.before) (lent c.before.before.before.before.before.before.before.before.before.before.before.before.before.before.before.before.before.before.before.before.before.before.before.before.before.before.before.before)) _
     (ap numbered (rw (clean c.ranges.n) at c.pool.ensures)))

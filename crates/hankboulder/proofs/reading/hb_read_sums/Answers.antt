@@ -29,5 +29,5 @@ unfolding read_entry read_stored
 returns c =
     let a = c.args in
     rw (clean_result c.reading_code, c.reading_code.ensures)
-    (exactly (means c) (read-means a.n a.low.now a.high.now a.linear_low.now a.linear_high.now a.running-limit a.allowance a.limit.now) _
+    (exactly (means c.before.before.before.before.before.before.before.before.before.before) (read-means a.n a.low.now a.high.now a.linear_low.now a.linear_high.now a.running-limit a.allowance a.limit.now) _
     (ap numbered (rw (clean c.ranges.n, clean c.ranges.running-limit, clean c.ranges.allowance) at c.read_sums.ensures)))

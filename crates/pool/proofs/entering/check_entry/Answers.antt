@@ -36,15 +36,15 @@ pub returns-then-not-orders_ok : goal.returns-then-not-orders_ok
 returns-then-not-orders_ok c = entry-order _ _ _ _ (call_false (ok c.before) c.if-not-orders_ok.true-raw)
 
 pub returns-then-not-orders_same : goal.returns-then-not-orders_same
-returns-then-not-orders_same c = entry_length _ _ _ _ (call_true (ok c.before) c.if-not-orders_ok.false-raw) (and_first_false _ (call_false (same c.before) c.if-not-orders_same.true-raw))
+returns-then-not-orders_same c = entry_length _ _ _ _ (call_true (ok c.before.before.before) c.if-not-orders_ok.false-raw) (and_first_false _ (call_false (same c.before) c.if-not-orders_same.true-raw))
 
 pub pool_sized-requires : goal.pool_sized-requires
 pool_sized-requires c = let p = c.requires in (p.0, rw c.order_of.ensures (order_small _), p.1)
 
 pub returns-then-not-pool_sized : goal.returns-then-not-pool_sized
 returns-then-not-pool_sized c =
-    entry_length _ _ _ _ (call_true (ok c.before) c.if-not-orders_ok.false-raw) (rw (call_true (same c.before) c.if-not-orders_same.false-raw, call_false (sized c.before) c.if-not-pool_sized.true-raw) refl)
+    entry_length _ _ _ _ (call_true (ok c.before.before.before.before.before.before) c.if-not-orders_ok.false-raw) (rw (call_true (same c.before.before.before.before) c.if-not-orders_same.false-raw, call_false (sized c.before) c.if-not-pool_sized.true-raw) refl)
 
 pub returns : goal.returns
 returns c =
-    entry-passed _ _ _ _ (call_true (ok c.before) c.if-not-orders_ok.false-raw) (and_of (call_true (same c.before) c.if-not-orders_same.false-raw) (call_true (sized c.before) c.if-not-pool_sized.false-raw))
+    entry-passed _ _ _ _ (call_true (ok c.before.before.before.before.before.before) c.if-not-orders_ok.false-raw) (and_of (call_true (same c.before.before.before.before) c.if-not-orders_same.false-raw) (call_true (sized c.before) c.if-not-pool_sized.false-raw))

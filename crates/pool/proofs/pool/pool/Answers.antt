@@ -66,15 +66,15 @@ means s j = Meaning j.answer (problems s) (many s) (sums s) (sums_of (order_of s
 meant : (s : Start) → means s (pool s.args.n s.args.orders.now (lists s) (lent s))
 meant s = pool-means s.args.n s.args.orders.now (lists s) (lent s)
 
-checks : (c : After-check_entry) → c.check_entry-checked.result ≡ first_refusal (pool_entry_checks c.args.n (many c) c.args.orders.now (sized c))
+checks : (c : After-check_entry) → c.check_entry-checked.result ≡ first_refusal (pool_entry_checks c.args.n (many c.before.before.before.before) c.args.orders.now (sized c.before.before.before.before))
 checks c =
     rw (c.lengths_of-problems.ensures, c.lengths_of-sums.ensures, c.count_of-count.ensures, clean c.ranges.n) at c.check_entry-checked.ensures
 
-passed : (c : After-enum_told) → sized c.before.before ≡ true
-passed c = (entry-behind _ _ _ _ (sym (checks c.before.before) ∙ c.in-Passed.is)).sizes
+passed : (c : After-enum_told) → sized c.before.before.before.before.before ≡ true
+passed c = (entry-behind _ _ _ _ (sym (checks c.before) ∙ c.in-Passed.is)).sizes
 
-order : (c : After-order_of) → c.order_of.result ≡ order_of c.before.before.before.args.n
-order c = rw (clean c.before.before.before.ranges.n) at c.order_of.ensures
+order : (c : After-order_of) → c.order_of.result ≡ order_of c.args.n
+order c = rw (clean c.ranges.n) at c.order_of.ensures
 
 count : (c : After-check_entry) → c.count_of-count.result ≡ many c.before.before.before.before
 count c = c.count_of-count.ensures
@@ -88,16 +88,16 @@ check_entry-checked-requires c =
 pub pool_lists-requires : goal.pool_lists-requires
 unfolding pool
 pool_lists-requires c =
-    let z = passed c.before in
-    rw (count c, order c) (order_small c.args.n, count_most 1 (length c.args.orders.now), pool-lists _ _ (lent c) (lists c) z, pool-lent _ _ (lent c) (lists c) z)
+    let z = passed c.before.before.before.before.before.before in
+    rw (count c.before.before.before.before.before.before.before, order c.before.before.before.before.before) (order_small c.args.n, count_most 1 (length c.args.orders.now), pool-lists _ _ (lent c.before.before.before.before.before.before.before.before.before.before.before) (lists c.before.before.before.before.before.before.before.before.before.before.before) z, pool-lent _ _ (lent c.before.before.before.before.before.before.before.before.before.before.before) (lists c.before.before.before.before.before.before.before.before.before.before.before) z)
 
 pub returns-in-Passed : goal.returns-in-Passed
 unfolding pool
 returns-in-Passed c =
-    exactly (means c) (meant c) _
-    ((rw (count c, order c) at c.pool_lists.ensures) ∙ ap (given c) (pooling-passed _ _ _ (sized c) (sums c) (problems c) (sym (checks c) ∙ c.in-Passed.is)))
+    exactly (means c.before.before.before.before.before.before.before.before.before.before.before.before.before.before.before.before.before) (meant c.before.before.before.before.before.before.before.before.before.before.before.before.before.before.before.before.before) _
+    ((rw (count c.before.before.before.before.before.before.before.before.before.before.before.before.before, order c.before.before.before.before.before.before.before.before.before.before.before) at c.pool_lists.ensures) ∙ ap (given c.before.before.before.before.before.before.before.before.before.before.before.before.before.before.before.before.before) (pooling-passed _ _ _ (sized c.before.before.before.before.before.before.before.before.before.before.before.before.before.before.before.before.before) (sums c.before.before.before.before.before.before.before.before.before.before.before.before.before.before.before.before.before) (problems c.before.before.before.before.before.before.before.before.before.before.before.before.before.before.before.before.before) (sym (checks c.before.before.before.before.before.before.before.before.before.before.before.before.before) ∙ c.in-Passed.is)))
 
 pub returns-in-Refused : goal.returns-in-Refused
 unfolding pool
 returns-in-Refused c =
-    exactly (means c) (meant c) _ (ap (given c) (pooling-refused _ _ _ (sized c) (sums c) (problems c) (sym (checks c) ∙ c.in-Refused.is)))
+    exactly (means c.before.before.before.before.before) (meant c.before.before.before.before.before) _ (ap (given c.before.before.before.before.before) (pooling-refused _ _ _ (sized c.before.before.before.before.before) (sums c.before.before.before.before.before) (problems c.before.before.before.before.before) (sym (checks c.before) ∙ c.in-Refused.is)))

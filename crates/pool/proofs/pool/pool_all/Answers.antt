@@ -32,7 +32,7 @@ first c = record { states = rw (clean c.ranges.running) at c.begin-done.ensures 
 scratch : (c : After-copy_problem) → let o = c.copy_problem-limit.new.1.1.1.1.1.1.1.1 in Scratch o.0 o.1.0 o.1.1.0 o.1.1.1.0
 scratch c =
     let k = c.copy_problem-limit.auto.1.1.1.1.1.1.1.1 in
-    let w = c.before.before.before.before.before.loop-k.inv.1 in
+    let w = c.loop-k.invariant.1 in
     record { low = k.0 ∙ w.low; high = k.1.0 ∙ w.high; from = k.1.1.0 ∙ w.from; to = k.1.1.1.0 ∙ w.to }
 
 pub begin-done-requires : goal.begin-done-requires
@@ -42,21 +42,21 @@ pub loop-k-init : goal.loop-k-init
 loop-k-init c = (omega arith, record { low = refl; high = refl; from = refl; to = refl }, going_none)
 
 pub slice_bounds-copy_problem-end : goal.slice_bounds-copy_problem-end
-slice_bounds-copy_problem-end c = sym c.loop-k.inv.1.low
+slice_bounds-copy_problem-end c = sym c.loop-k.invariant.1.low
 
 pub slice_bounds-copy_problem-end-in-loop-k : goal.slice_bounds-copy_problem-end-in-loop-k
-slice_bounds-copy_problem-end-in-loop-k c = sym c.loop-k.inv.1.high
+slice_bounds-copy_problem-end-in-loop-k c = sym c.loop-k.invariant.1.high
 
 pub slice_bounds-copy_problem-end-in-loop-k-2 : goal.slice_bounds-copy_problem-end-in-loop-k-2
-slice_bounds-copy_problem-end-in-loop-k-2 c = sym c.loop-k.inv.1.from
+slice_bounds-copy_problem-end-in-loop-k-2 c = sym c.loop-k.invariant.1.from
 
 pub slice_bounds-copy_problem-end-in-loop-k-3 : goal.slice_bounds-copy_problem-end-in-loop-k-3
-slice_bounds-copy_problem-end-in-loop-k-3 c = sym c.loop-k.inv.1.to
+slice_bounds-copy_problem-end-in-loop-k-3 c = sym c.loop-k.invariant.1.to
 
 pub copy_problem-limit-requires : goal.copy_problem-limit-requires
 copy_problem-limit-requires c =
-    let p = c.before.before.before.requires in
-    (p.0, p.1, c.loop-k-test.true, scratch_rooms p.0 c.loop-k.inv.1, p.3)
+    let p = c.requires in
+    (p.0, p.1, c.loop-k-test.true, scratch_rooms p.0 c.loop-k.invariant.1, p.3)
 
 pub slice_bounds-add_problem-end : goal.slice_bounds-add_problem-end
 slice_bounds-add_problem-end c = sym (scratch c.before.before.before.before.before).low
@@ -72,21 +72,21 @@ slice_bounds-add_problem-end-in-loop-k-3 c = sym (scratch c.before.before.before
 
 pub add_problem-done-requires : goal.add_problem-done-requires
 add_problem-done-requires c =
-    let f = first c.before.before.before.before.before.before.before.before in
-    (c.before.before.before.before.before.before.before.before.requires.0, c.copy_problem-limit.ensures.rooms, going_rooms c.before.before.before.before.before.loop-k.inv.2 f, going_ready c.before.before.before.before.before.loop-k.inv.2 f)
+    let f = first c.before.before.before.before.before.before.before.before.before.before.before.before.before.before.before.before.before.before.before.before.before in
+    (c.requires.0, c.copy_problem-limit.ensures.rooms, going_rooms c.loop-k.invariant.2 f, going_ready c.loop-k.invariant.2 f)
 
 pub overflow_add-k : goal.overflow_add-k
-overflow_add-k c = omega (arith, c.before.before.before.before.before.before.before.before.before.before.before.before.before.before.before.before.before.before.before.loop-k-test.taken, c.before.before.before.before.before.before.before.before.before.before.before.before.before.before.before.before.before.before.before.before.before.before.before.requires.1)
+overflow_add-k c = omega (arith, c.loop-k-test.taken, c.requires.1)
 
 pub loop-k-preserved : goal.loop-k-preserved
 loop-k-preserved c =
     let m = c.add_problem-done.kept.1.1 in
-    let w = scratch c.before.before.before.before.before in (
-      omega (arith, c.before.before.before.before.before.loop-k-test.taken),
+    let w = scratch c.before.before.before.before.before.before.before.before.before.before.before.before.before.before.before.before.before.before.before in (
+      omega (arith, c.loop-k-test.taken),
       record { low = m.0 ∙ w.low; high = m.1.0 ∙ w.high; from = w.from; to = w.to },
-      going_next c.before.before.before.before.before.loop-k.inv.2 c.before.before.before.before.before.copy_problem-limit.ensures.sums
+      going_next c.loop-k.invariant.2 c.copy_problem-limit.ensures.sums
           (record { low = m.1.1.1.1.1.0; high = m.1.1.1.1.1.1.0; from = m.1.1.1.1.1.1.1.0; to = m.1.1.1.1.1.1.1.1.0 })
-          (rw (clean_result c.before.before.before.before.before.copy_problem-limit) at c.add_problem-done.ensures.0),
+          (rw (clean_result c.copy_problem-limit) at c.add_problem-done.ensures.0),
     )
 
 pub shape_of-l : goal.shape_of-l

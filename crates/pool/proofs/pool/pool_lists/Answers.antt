@@ -47,13 +47,13 @@ problems s =
     problem_at a.n (record { lows = a.lows.now; highs = a.highs.now; froms = a.froms.now; tos = a.tos.now; limits = a.limits.now })
 
 states : (c : After-pool_all) → let o = c.pool_all-summed.new.1.1.1.1.1.1.1.1 in
-    Stated c.before.before.before.before.before.before.before.before.before.before.args.n (checked_pool (sums_of c.before.before.before.before.before.before.before.before.before.before.args.n (lent c.before.before.before.before.before.before.before.before.before.before)) (problems c.before.before.before.before.before.before.before.before.before.before) c.before.before.before.before.before.before.before.before.before.before.args.count) c.pool_all-summed.result o.0 o.1.0 o.1.1.0 o.1.1.1.0
+    Stated c.args.n (checked_pool (sums_of c.args.n (lent c.before.before.before.before.before.before.before.before.before.before.before.before.before.before.before)) (problems c.before.before.before.before.before.before.before.before.before.before.before.before.before.before.before) c.args.count) c.pool_all-summed.result o.0 o.1.0 o.1.1.0 o.1.1.1.0
 states c =
     let p = c.copy_sums.ensures in
-    let a = c.before.before.before.before.before.before.before.before.before.before.args in
-    let z = c.before.before.before.before.before.before.before.before.before.before.requires.3 in
+    let a = c.args in
+    let z = c.requires.3 in
     stated_by
-    (ap (λ (k : Constraint). checked_pool k (problems c.before.before.before.before.before.before.before.before.before.before) a.count)
+    (ap (λ (k : Constraint). checked_pool k (problems c.before.before.before.before.before.before.before.before.before.before.before.before.before.before.before) a.count)
     (constraint_by (copied-front a.low.now _ z.low p.0) (copied-front a.high.now _ z.high p.1) (copied-front a.from.now _ z.from p.2)
     (copied-front a.to.now _ z.to p.3) (clean_element (nth a.limit.now 0) c.pool_all-arg-1.given)))
     c.pool_all-summed.ensures
@@ -82,22 +82,22 @@ pool_all-summed-requires c =
     )
 
 pub copy_sums-requires-in-Within : goal.copy_sums-requires-in-Within
-copy_sums-requires-in-Within c = let p = c.before.before.before.before.before.before.before.before.before.before.before.before.before.before.before.before.before.before.requires in (p.0, (states c.before.before.before.before.before.before.before.before).rooms, lent_rooms p.3)
+copy_sums-requires-in-Within c = let p = c.requires in (p.0, (states c.before.before.before.before.before.before.before.before.before.before.before.before.before).rooms, lent_rooms p.3)
 
 pub bounds-limit-0 : goal.bounds-limit-0
-bounds-limit-0 c = omega (arith, c.before.before.before.before.before.before.before.before.before.before.before.before.before.before.before.before.before.requires.3.limit)
+bounds-limit-0 c = omega (arith, c.requires.3.limit)
 
 pub returns-in-Within : goal.returns-in-Within
 returns-in-Within c =
     let q = c.copy_sums-in-Within.ensures in
-    let a = c.before.before.before.before.before.before.before.before.before.before.args in
-    let z = c.before.before.before.before.before.before.before.before.before.before.requires.3 in
-    let r = (states c).rooms in
-    laid-taken (λ t. t) (λ x. x) (λ α. tabulate 1 (λ i. α)) (states c) (lent c.before.before.before.before.before.before.before.before.before.before) c.in-Within.sum c.in-Within.is
+    let a = c.args in
+    let z = c.requires.3 in
+    let r = (states c.before.before.before.before.before.before.before.before.before.before.before.before.before.before.before.before.before.before).rooms in
+    laid-taken (λ t. t) (λ x. x) (λ α. tabulate 1 (λ i. α)) (states c.before.before.before.before.before.before.before.before.before.before.before.before.before.before.before.before.before.before) (lent c.before.before.before.before.before.before.before.before.before.before.before.before.before.before.before.before.before.before.before.before.before.before.before.before.before.before.before.before.before.before.before.before.before) c.in-Within.sum c.in-Within.is
     (q.0 ∙ copied-whole _ a.low.now r.low z.low) (q.1 ∙ copied-whole _ a.high.now r.high z.high)
     (q.2 ∙ copied-whole _ a.from.now r.linear_low z.from) (q.3 ∙ copied-whole _ a.to.now r.linear_high z.to)
     (ap (λ (v : ℤ). set a.limit.now 0 v) (clean_element c.in-Within.sum c.known_told-1.given.0.1) ∙ set-one a.limit.now _ z.limit)
 
 pub returns-in-Refused : goal.returns-in-Refused
 returns-in-Refused c =
-    laid-refused (λ t. t) (λ x. x) (λ α. tabulate 1 (λ i. α)) (states c) (lent c.before.before.before.before.before.before.before.before.before.before.before.before.before.before.before.before.before.before.before.before.before.before) c.in-Refused.r c.in-Refused.is
+    laid-refused (λ t. t) (λ x. x) (λ α. tabulate 1 (λ i. α)) (states c.before.before.before.before.before) (lent c.before.before.before.before.before.before.before.before.before.before.before.before.before.before.before.before.before.before.before.before) c.in-Refused.r c.in-Refused.is

@@ -44,23 +44,23 @@ within-requires c = pos_nonneg limit_range
 pub add_fitted-requires : goal.add_fitted-requires
 unfolding stated added_next
 add_fitted-requires c = (
-  c.before.before.before.before.before.before.before.requires.0,
-  rw (clean c.before.before.before.before.before.before.before.ranges.limit) (mended-ranged _ c.before.before.before.before.before.before.before.requires.1 (checks c.before.before.before.before.before.before.before) c.before.before.before.before.before.before.before.args.limit c.in-Passed.is refl),
-  rw (clean_element c.in-Within.running c.known_told-1.given.0.1) (c.before.before.before.before.before.before.before.requires.3.ranged _ c.in-Within.is),
+  c.requires.0,
+  rw (clean c.ranges.limit) (mended-ranged _ c.requires.1 (checks c.before.before.before.before.before.before.before.before) c.args.limit c.in-Passed.is refl),
+  rw (clean_element c.in-Within.running c.known_told-1.given.0.1) (c.requires.3.ranged _ c.in-Within.is),
 )
 
 pub returns-in-Within : goal.returns-in-Within
 unfolding stated added_next
 returns-in-Within c =
     let told = c.in-Passed.is in
-    let a = c.before.before.before.before.before.before.before.before.before.before.before.before.args in
+    let a = c.args in
     let at = sums_at a.n a.l.now a.u.now a.a.now a.b.now c.in-Within.running in (
       stated_by
-          (ap (λ (g : Constraint). fitted g at) (mended-front _ c.before.before.before.before.before.before.before.before.before.before.before.before.requires.1 (checks c.before.before.before.before.before.before.before.before.before.before.before.before) a.limit told)
-          ∙ ap (λ (r : Summed). added_next (mended_constraint (posed c.before.before.before.before.before.before.before.before.before.before.before.before)) (stated a.n r a.l.now a.u.now a.a.now a.b.now)) (sym c.in-Within.is)
-          ∙ sym (next-passed (posed c.before.before.before.before.before.before.before.before.before.before.before.before) _ (sym (mended_answer _ c.before.before.before.before.before.before.before.before.before.before.before.before.requires.1 (checks c.before.before.before.before.before.before.before.before.before.before.before.before) a.limit) ∙ told)))
-          (rw (clean c.before.before.before.before.before.before.before.before.before.before.before.before.ranges.limit, clean_element c.in-Within.running c.known_told-1.given.0.1) at c.add_fitted.ensures),
-      mended_rooms _ c.before.before.before.before.before.before.before.before.before.before.before.before.requires.1 (checks c.before.before.before.before.before.before.before.before.before.before.before.before),
+          (ap (λ (g : Constraint). fitted g at) (mended-front _ c.requires.1 (checks c.before.before.before.before.before.before.before.before.before.before.before.before.before) a.limit told)
+          ∙ ap (λ (r : Summed). added_next (mended_constraint (posed c.before.before.before.before.before.before.before.before.before.before.before.before.before.before.before.before.before)) (stated a.n r a.l.now a.u.now a.a.now a.b.now)) (sym c.in-Within.is)
+          ∙ sym (next-passed (posed c.before.before.before.before.before.before.before.before.before.before.before.before.before.before.before.before.before) _ (sym (mended_answer _ c.requires.1 (checks c.before.before.before.before.before.before.before.before.before.before.before.before.before) a.limit) ∙ told)))
+          (rw (clean c.ranges.limit, clean_element c.in-Within.running c.known_told-1.given.0.1) at c.add_fitted.ensures),
+      mended_rooms _ c.requires.1 (checks c.before.before.before.before.before.before.before.before.before.before.before.before.before),
     )
 
 pub returns-in-Refused-done : goal.returns-in-Refused-done
@@ -68,11 +68,11 @@ unfolding stated added_next
 returns-in-Refused-done c =
     let a = c.args in (
       record {
-        outcome = next-passed (posed c) _ (sym (mended_answer _ c.requires.1 (checks c) a.limit) ∙ c.in-Passed.is)
-            ∙ ap (λ (r : Summed). added_next (mended_constraint (posed c)) (stated a.n r a.l.now a.u.now a.a.now a.b.now)) c.in-Refused-done.is;
+        outcome = next-passed (posed c.before.before.before.before.before.before.before.before) _ (sym (mended_answer _ c.requires.1 (checks c.before.before.before.before) a.limit) ∙ c.in-Passed.is)
+            ∙ ap (λ (r : Summed). added_next (mended_constraint (posed c.before.before.before.before.before.before.before.before)) (stated a.n r a.l.now a.u.now a.a.now a.b.now)) c.in-Refused-done.is;
         rooms = c.requires.2;
       },
-      mended_rooms _ c.requires.1 (checks c),
+      mended_rooms _ c.requires.1 (checks c.before.before.before.before),
     )
 
 pub returns-in-Refused : goal.returns-in-Refused
@@ -80,9 +80,9 @@ unfolding stated added_next
 returns-in-Refused c =
     let a = c.args in (
       record {
-        outcome = next-refused (posed c) _ (sym (mended_answer _ c.requires.1 (checks c) a.limit) ∙ c.in-Refused.is)
+        outcome = next-refused (posed c.before.before.before.before.before.before.before.before) _ (sym (mended_answer _ c.requires.1 (checks c.before.before.before.before) a.limit) ∙ c.in-Refused.is)
             ∙ sym (c.refused_by.ensures.held a.n a.l.now a.u.now a.a.now a.b.now);
         rooms = c.requires.2;
       },
-      mended_rooms _ c.requires.1 (checks c),
+      mended_rooms _ c.requires.1 (checks c.before.before.before.before),
     )

@@ -34,14 +34,14 @@ unfolding stated
 returns-in-Passed c =
     rw (clean c.ranges.limit)
     (record {
-      outcome = sym (after-passed refused _ (sym (mended_answer _ c.requires.1 (checks c) c.args.limit) ∙ c.in-Passed.is)) ∙ ap taken (sym (mended-front _ c.requires.1 (checks c) c.args.limit c.in-Passed.is));
-      rooms = mended_rooms _ c.requires.1 (checks c);
+      outcome = sym (after-passed refused _ (sym (mended_answer _ c.requires.1 (checks c.before.before.before) c.args.limit) ∙ c.in-Passed.is)) ∙ ap taken (sym (mended-front _ c.requires.1 (checks c.before.before.before) c.args.limit c.in-Passed.is));
+      rooms = mended_rooms _ c.requires.1 (checks c.before.before.before);
     })
 
 pub returns-in-Refused : goal.returns-in-Refused
 unfolding stated
 returns-in-Refused c =
     record {
-      outcome = sym (after-refused refused _ _ (sym (mended_answer _ c.requires.1 (checks c) c.args.limit) ∙ c.in-Refused.is));
-      rooms = mended_rooms _ c.requires.1 (checks c);
+      outcome = sym (after-refused refused _ _ (sym (mended_answer _ c.requires.1 (checks c.before.before.before) c.args.limit) ∙ c.in-Refused.is));
+      rooms = mended_rooms _ c.requires.1 (checks c.before.before.before);
     }

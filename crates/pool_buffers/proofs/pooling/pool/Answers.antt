@@ -71,19 +71,19 @@ each c k h =
     let x = numbers_of w64 c.args.orders.now c.count_of-count.result in
     ap (λ (y : List ℤ). nth y k) c.load_numbers.ensures ∙ get_or-append x _ (pos 0) k (omega (arith, h, length-numbers_of w64 c.args.orders.now c.count_of-count.result))
 
-checks : (c : After-check_entry) → c.check_entry-checked.result ≡ first_refusal (pool_entry_checks c.args.n (many c) (numbers_of w64 c.args.orders.now (many c)) (sized c (many c)))
+checks : (c : After-check_entry) → c.check_entry-checked.result ≡ first_refusal (pool_entry_checks c.args.n (many c.before.before.before.before.before.before.before.before.before.before.before.before.before.before.before.before.before.before.before) (numbers_of w64 c.args.orders.now (many c.before.before.before.before.before.before.before.before.before.before.before.before.before.before.before.before.before.before.before)) (sized c.before.before.before.before.before.before.before.before.before.before.before.before.before.before.before.before.before.before.before (many c.before.before.before.before.before.before.before.before.before.before.before.before.before.before.before.before.before.before.before)))
 checks c =
     let m = c.count_of-count.result in
     let orders = c.args.orders.now in
     (rw (c.lengths_of-problems.ensures, c.lengths_of-sums.ensures, clean c.ranges.n) at c.check_entry-checked.ensures)
-    ∙ ap first_refusal (entry-front c.args.n m _ (numbers_of w64 orders m) (sized c m) (each c.before.before.before))
-    ∙ ap (λ (m : ℕ). first_refusal (pool_entry_checks c.args.n m (numbers_of w64 orders m) (sized c m))) c.count_of-count.ensures
+    ∙ ap first_refusal (entry-front c.args.n m _ (numbers_of w64 orders m) (sized c.before.before.before.before.before.before.before.before.before.before.before.before.before.before.before.before.before.before.before m) (each c.before.before.before.before.before))
+    ∙ ap (λ (m : ℕ). first_refusal (pool_entry_checks c.args.n m (numbers_of w64 orders m) (sized c.before.before.before.before.before.before.before.before.before.before.before.before.before.before.before.before.before.before.before m))) c.count_of-count.ensures
 
-passed : (c : After-enum_told) → sized c.before.before (many c.before.before) ≡ true
-passed c = (entry-behind _ _ _ _ (sym (checks c.before.before) ∙ c.in-Passed.is)).sizes
+passed : (c : After-enum_told) → sized c.before.before.before.before.before.before.before.before.before.before.before.before.before.before.before.before.before.before.before.before (many c.before.before.before.before.before.before.before.before.before.before.before.before.before.before.before.before.before.before.before.before) ≡ true
+passed c = (entry-behind _ _ _ _ (sym (checks c.before) ∙ c.in-Passed.is)).sizes
 
-order : (c : After-order_of) → c.order_of.result ≡ order_of c.before.before.before.args.n
-order c = rw (clean c.before.before.before.ranges.n) at c.order_of.ensures
+order : (c : After-order_of) → c.order_of.result ≡ order_of c.args.n
+order c = rw (clean c.ranges.n) at c.order_of.ensures
 
 count : (c : After-check_entry) → c.count_of-count.result ≡ many c.before.before.before.before.before.before.before.before.before.before.before.before.before.before.before.before.before.before.before
 count c = c.count_of-count.ensures
@@ -103,16 +103,16 @@ check_entry-checked-requires c =
 pub pool_lists-requires : goal.pool_lists-requires
 unfolding spelled_pool
 pool_lists-requires c =
-    let z = passed c.before in
-    rw (count c, order c) (order_small c.args.n, count_most (bytes w64) (length c.args.orders.now), lists_bytes _ _ (lists c) (lent c) z, lent_bytes _ _ (lists c) (lent c) z)
+    let z = passed c.before.before.before.before.before.before in
+    rw (count c.before.before.before.before.before.before.before, order c.before.before.before.before.before) (order_small c.args.n, count_most (bytes w64) (length c.args.orders.now), lists_bytes _ _ (lists c.before.before.before.before.before.before.before.before.before.before.before.before.before.before.before.before.before.before.before.before.before.before.before.before.before.before) (lent c.before.before.before.before.before.before.before.before.before.before.before.before.before.before.before.before.before.before.before.before.before.before.before.before.before.before) z, lent_bytes _ _ (lists c.before.before.before.before.before.before.before.before.before.before.before.before.before.before.before.before.before.before.before.before.before.before.before.before.before.before) (lent c.before.before.before.before.before.before.before.before.before.before.before.before.before.before.before.before.before.before.before.before.before.before.before.before.before.before) z)
 
 pub returns-in-Passed : goal.returns-in-Passed
 unfolding spelled_pool
 returns-in-Passed c =
-    (rw (count c, order c) at c.pool_lists.ensures)
-    ∙ ap (given c) (pooling-passed _ _ _ (sized c (many c)) (sums c) (problems c) (sym (checks c) ∙ c.in-Passed.is))
+    (rw (count c.before.before.before.before.before.before.before.before.before.before.before.before.before.before.before.before.before.before, order c.before.before.before.before.before.before.before.before.before.before.before.before.before.before.before.before) at c.pool_lists.ensures)
+    ∙ ap (given c.before.before.before.before.before.before.before.before.before.before.before.before.before.before.before.before.before.before.before.before.before.before.before.before.before.before.before.before.before.before.before.before.before.before.before.before.before) (pooling-passed _ _ _ (sized c.before.before.before.before.before.before.before.before.before.before.before.before.before.before.before.before.before.before.before.before.before.before.before.before.before.before.before.before.before.before.before.before.before.before.before.before.before (many c.before.before.before.before.before.before.before.before.before.before.before.before.before.before.before.before.before.before.before.before.before.before.before.before.before.before.before.before.before.before.before.before.before.before.before.before.before)) (sums c.before.before.before.before.before.before.before.before.before.before.before.before.before.before.before.before.before.before.before.before.before.before.before.before.before.before.before.before.before.before.before.before.before.before.before.before.before) (problems c.before.before.before.before.before.before.before.before.before.before.before.before.before.before.before.before.before.before.before.before.before.before.before.before.before.before.before.before.before.before.before.before.before.before.before.before.before) (sym (checks c.before.before.before.before.before.before.before.before.before.before.before.before.before.before.before.before.before.before) ∙ c.in-Passed.is))
 
 pub returns-in-Refused : goal.returns-in-Refused
 unfolding spelled_pool
 returns-in-Refused c =
-    ap (given c) (pooling-refused _ _ _ (sized c (many c)) (sums c) (problems c) (sym (checks c) ∙ c.in-Refused.is))
+    ap (given c.before.before.before.before.before.before.before.before.before.before.before.before.before.before.before.before.before.before.before.before) (pooling-refused _ _ _ (sized c.before.before.before.before.before.before.before.before.before.before.before.before.before.before.before.before.before.before.before.before (many c.before.before.before.before.before.before.before.before.before.before.before.before.before.before.before.before.before.before.before.before)) (sums c.before.before.before.before.before.before.before.before.before.before.before.before.before.before.before.before.before.before.before.before) (problems c.before.before.before.before.before.before.before.before.before.before.before.before.before.before.before.before.before.before.before.before) (sym (checks c.before) ∙ c.in-Refused.is))

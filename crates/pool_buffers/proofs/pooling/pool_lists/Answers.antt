@@ -38,11 +38,11 @@ problems s =
     spelled_problems a.n a.count (record { lows = a.lows.now; highs = a.highs.now; froms = a.froms.now; tos = a.tos.now; limits = a.limits.now })
 
 states : (c : After-pool_all) → let o = c.pool_all-summed.new.1.1.1.1.1.1.1.1 in
-    Stated c.args.n (checked_pool (spelled_sums c.args.n (lent c)) (problems c) c.args.count) c.pool_all-summed.result o.0 o.1.0 o.1.1.0 o.1.1.1.0
+    Stated c.args.n (checked_pool (spelled_sums c.args.n (lent c.before.before.before.before.before.before.before.before.before.before.before.before.before.before.before.before.before.before.before.before.before.before.before.before.before)) (problems c.before.before.before.before.before.before.before.before.before.before.before.before.before.before.before.before.before.before.before.before.before.before.before.before.before) c.args.count) c.pool_all-summed.result o.0 o.1.0 o.1.1.0 o.1.1.1.0
 states c =
     let p = c.load_sums.ensures in
     stated_by
-    (ap (λ (k : Constraint). checked_pool k (problems c) c.args.count) (constraint_by p.0 p.1 p.2 p.3 (clean_result c.load_signed-running ∙ c.load_signed-running.ensures)))
+    (ap (λ (k : Constraint). checked_pool k (problems c.before.before.before.before.before.before.before.before.before.before.before.before.before.before.before.before.before.before.before.before.before.before.before.before.before) c.args.count) (constraint_by p.0 p.1 p.2 p.3 (clean_result c.load_signed-running ∙ c.load_signed-running.ensures)))
     c.pool_all-summed.ensures
 
 pub load_sums-requires : goal.load_sums-requires
@@ -66,19 +66,19 @@ pool_all-summed-requires c =
     )
 
 pub store_sums-requires : goal.store_sums-requires
-store_sums-requires c = let p = c.before.before.before.before.before.before.before.before.requires in (p.0, (states c.before.before.before.before.before.before.before.before).rooms, p.3.sums)
+store_sums-requires c = let p = c.requires in (p.0, (states c.before.before.before.before.before.before.before.before.before.before.before.before.before).rooms, p.3.sums)
 
 pub store_signed-requires : goal.store_signed-requires
-store_signed-requires c = (refl, omega (arith, c.before.before.before.before.before.before.before.before.before.before.before.before.before.before.before.before.before.before.before.before.before.before.before.before.before.requires.3.limit))
+store_signed-requires c = (refl, omega (arith, c.requires.3.limit))
 
 pub returns-in-Within : goal.returns-in-Within
 returns-in-Within c =
     let q = c.store_sums.ensures in
     let n = c.args.n in
-    laid-taken (λ t. bytes_of w64 t (n * n)) (λ x. bytes_of w64 x n) bytes_of_number (states c) (lent c) c.in-Within.sum c.in-Within.is q.0 q.1 q.2 q.3
-    (number-stored (lent c).limit c.requires.3.limit (clean_element c.in-Within.sum c.known_told-1.given.0.1) c.store_signed.ensures)
+    laid-taken (λ t. bytes_of w64 t (n * n)) (λ x. bytes_of w64 x n) bytes_of_number (states c.before.before.before.before.before.before.before.before.before.before.before.before.before.before.before.before.before.before.before.before.before.before.before.before.before.before) (lent c.before.before.before.before.before.before.before.before.before.before.before.before.before.before.before.before.before.before.before.before.before.before.before.before.before.before.before.before.before.before.before.before.before.before.before.before.before.before.before.before.before.before.before.before.before.before.before.before.before.before.before) c.in-Within.sum c.in-Within.is q.0 q.1 q.2 q.3
+    (number-stored (lent c.before.before.before.before.before.before.before.before.before.before.before.before.before.before.before.before.before.before.before.before.before.before.before.before.before.before.before.before.before.before.before.before.before.before.before.before.before.before.before.before.before.before.before.before.before.before.before.before.before.before.before).limit c.requires.3.limit (clean_element c.in-Within.sum c.known_told-1.given.0.1) c.store_signed.ensures)
 
 pub returns-in-Refused : goal.returns-in-Refused
 returns-in-Refused c =
     let n = c.args.n in
-    laid-refused (λ t. bytes_of w64 t (n * n)) (λ x. bytes_of w64 x n) bytes_of_number (states c) (lent c) c.in-Refused.r c.in-Refused.is
+    laid-refused (λ t. bytes_of w64 t (n * n)) (λ x. bytes_of w64 x n) bytes_of_number (states c.before.before.before.before.before) (lent c.before.before.before.before.before.before.before.before.before.before.before.before.before.before.before.before.before.before.before.before.before.before.before.before.before.before.before.before.before.before) c.in-Refused.r c.in-Refused.is

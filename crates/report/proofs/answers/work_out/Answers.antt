@@ -28,7 +28,7 @@ returns c =
     let l = c.requires in
     record {
       verdict = rw (verdict_is l) c.decide-verdict.ensures;
-      box = rw (box_is l) (rw (limit-clean c.before) at c.box_bounds-answer.ensures);
+      box = rw (box_is l) (rw (limit-clean c.before.before.before.before.before.before.before) at c.box_bounds-answer.ensures);
     }
 
 pub box_bounds-answer-requires : goal.box_bounds-answer-requires

@@ -28,7 +28,7 @@ slice_bounds-put_line-end-2 c =
 pub shape_of-out : goal.shape_of-out
 shape_of-out c =
     let rows = lines (ascii "row") c.args.f.now c.args.n c.args.n in
-    let both = put_then c.put_text-rows.ensures {c = rows} (omega (arith, c.requires.2)) c.put_lines-next.ensures in
+    let both = put_then c.put_text-rows.ensures {s = rows} (omega (arith, c.requires.2)) c.put_lines-next.ensures in
     (put_room both _ (omega (arith, rows_room c.requires.0, c.requires.2)), omega arith)
 
 pub returns : goal.returns
@@ -38,6 +38,6 @@ returns c =
     let rows = lines (ascii "row") c.args.f.now n n in
     let over = over_text (to_z w64 (of_z w64 c.args.over)) in
     let room = put_room c.put_text-rows.ensures 0 (omega (arith, c.requires.2)) in
-    let both = put_then {c = rows} c.put_lines-next.ensures {c = over} (omega arith) c.put_line.ensures in
+    let both = put_then {t = rows} c.put_lines-next.ensures {s = over} (omega arith) c.put_line.ensures in
     rw (← clean c.ranges.over, ← first-lines (ascii "row") c.args.f.now n n (n * n) (omega arith))
-    (put-within (put_then c.put_text-rows.ensures {c = rows ++ over} (omega (arith, c.requires.2)) both) (omega (arith, rows_room c.requires.0)))
+    (put-within (put_then c.put_text-rows.ensures {s = rows ++ over} (omega (arith, c.requires.2)) both) (omega (arith, rows_room c.requires.0)))

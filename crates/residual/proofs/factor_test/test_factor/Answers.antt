@@ -54,7 +54,7 @@ meant s = let a = s.args in tested-means a.n a.low.now a.high.now a.factor.now _
 
 pub returns-then-m-eq0 : goal.returns-then-m-eq0
 unfolding factor_test factor_tested
-returns-then-m-eq0 c = exactly (means c) (meant c) _ (no-order _ _ _ _ _ FactorAnswer.Refused _ (sym (order c.before) ∙ c.if-m-eq0.true))
+returns-then-m-eq0 c = exactly (means c.before.before) (meant c.before.before) _ (no-order _ _ _ _ _ FactorAnswer.Refused _ (sym (order c.before) ∙ c.if-m-eq0.true))
 
 pub overflow_mul-m : goal.overflow_mul-m
 unfolding factor_test factor_tested
@@ -67,25 +67,25 @@ overflow_mul-m-2 c = record { fits = omega (arith, order_fits _ (order c.before)
 pub enter-checked-requires : goal.enter-checked-requires
 unfolding factor_test factor_tested
 enter-checked-requires c =
-    ((λ s. rw (clean c.ranges.n) (let z = sizes-of _ _ _ _ _ (sym (sized c) ∙ s) in (z.0, z.1))), refl, refl)
+    ((λ s. rw (clean c.ranges.n) (let z = sizes-of _ _ _ _ _ (sym (sized c.before.before) ∙ s) in (z.0, z.1))), refl, refl)
 
 pub returns-in-Refused : goal.returns-in-Refused
 unfolding factor_test factor_tested
 returns-in-Refused c =
-    exactly (means c) (meant c) _ (entered-refused _ _ _ _ _ FactorAnswer.Refused _ (came c) c.in-Refused.is)
+    exactly (means c.before.before.before.before.before.before.before) (meant c.before.before.before.before.before.before.before) _ (entered-refused _ _ _ _ _ FactorAnswer.Refused _ (came c.before) c.in-Refused.is)
 
 pub answer-requires : goal.answer-requires
 unfolding factor_test factor_tested
 answer-requires c =
     let q = c.in_default.is in
-    let b = came-through _ _ _ _ _ (came c) q in
+    let b = came-through _ _ _ _ _ (came c.before.before.before) q in
     let z = sizes-of _ _ _ _ _ b.sizes in
-    rw (order c.before.before.before.before.before.before.before.before.before) (((came c).held q).tables, (came c).rooms, omega (arith, z.2), order-positive _ b.ordered)
+    rw (order c.before.before.before.before.before.before.before.before) (((came c.before.before.before).held q).tables, (came c.before.before.before).rooms, omega (arith, z.2), order-positive _ b.ordered)
 
 pub returns : goal.returns
 unfolding factor_test factor_tested
 returns c =
     let q = c.in_default.is in
-    let h = (came c).held q in
-    exactly (means c) (meant c) _
-    ((rw (order c.before.before.before.before.before.before.before, h.low, h.high) at c.answer.ensures) ∙ entered-passed _ _ _ _ _ FactorAnswer.Refused _ (came c) q)
+    let h = (came c.before.before.before.before).held q in
+    exactly (means c.before.before.before.before.before.before.before.before.before.before) (meant c.before.before.before.before.before.before.before.before.before.before) _
+    ((rw (order c.before.before.before.before.before.before.before.before.before, h.low, h.high) at c.answer.ensures) ∙ entered-passed _ _ _ _ _ FactorAnswer.Refused _ (came c.before.before.before.before) q)

@@ -64,23 +64,23 @@ overflow_mul-m c = record { fits = omega (arith, order_fits _ (order c.before)) 
 pub enter-checked-requires : goal.enter-checked-requires
 unfolding residual_act tabling
 enter-checked-requires c =
-    ((λ s. rw (clean c.ranges.n) (let z = residual-sizes-of _ _ _ _ _ _ (sym (sized c) ∙ s) in (z.0, z.1))), refl, refl)
+    ((λ s. rw (clean c.ranges.n) (let z = residual-sizes-of _ _ _ _ _ _ (sym (sized c.before.before) ∙ s) in (z.0, z.1))), refl, refl)
 
 pub returns-in-Refused : goal.returns-in-Refused
 unfolding residual_act tabling
-returns-in-Refused c = entered-refused _ _ _ _ _ (kept _ _) _ (came c.before.before.before) c.in-Refused.is
+returns-in-Refused c = entered-refused _ _ _ _ _ (kept _ _) _ (came c.before) c.in-Refused.is
 
 pub write_residual-requires : goal.write_residual-requires
 unfolding residual_act tabling
 write_residual-requires c =
     let q = c.in_default.is in
-    let z = residual-sizes-of _ _ _ _ _ _ (came-through _ _ _ _ _ (came c) q).sizes in
-    rw (order c.before.before.before.before.before.before.before.before.before.before.before) (((came c).held q).tables, (came c).rooms, omega (arith, z.2), z.3, z.4)
+    let z = residual-sizes-of _ _ _ _ _ _ (came-through _ _ _ _ _ (came c.before.before.before.before.before) q).sizes in
+    rw (order c.before.before.before.before.before.before.before.before.before.before) (((came c.before.before.before.before.before).held q).tables, (came c.before.before.before.before.before).rooms, omega (arith, z.2), z.3, z.4)
 
 pub returns : goal.returns
 unfolding residual_act tabling
 returns c =
     let q = c.in_default.is in
-    let h = (came c).held q in
-    ◌∙◌ {b = behind c.before.before.before.before.before.before.before.before} (rw (order c.before.before.before.before.before.before.before, h.low, h.high) at c.write_residual.ensures)
-    (entered-passed _ _ _ _ _ (kept _ _) (behind c.before.before.before.before.before.before.before.before) (came c) q)
+    let h = (came c.before.before.before.before.before.before.before.before).held q in
+    ◌∙◌ {b = behind c.before.before.before.before.before.before.before.before.before.before.before.before.before.before} (rw (order c.before.before.before.before.before.before.before.before.before.before.before.before.before, h.low, h.high) at c.write_residual.ensures)
+    (entered-passed _ _ _ _ _ (kept _ _) (behind c.before.before.before.before.before.before.before.before.before.before.before.before.before.before) (came c.before.before.before.before.before.before.before.before) q)

@@ -28,8 +28,8 @@ turn_column-requires c =
     rw (m.1, m.2) (
       p.factor,
       h,
-      columns_unturned (R c) p.factor.order h c.args.low.now p.rooms.low-size (λ a b i j. low-within p.tables i j),
-      columns_unturned (R c) p.factor.order h c.args.high.now p.rooms.high-size (λ a b i j. high-within p.tables i j),
+      columns_unturned (R c.before.before.before.before) p.factor.order h c.args.low.now p.rooms.low-size (λ a b i j. low-within p.tables i j),
+      columns_unturned (R c.before.before.before.before) p.factor.order h c.args.high.now p.rooms.high-size (λ a b i j. high-within p.tables i j),
     )
 
 pub loop-j-preserved : goal.loop-j-preserved
@@ -37,8 +37,8 @@ loop-j-preserved c =
     let l = c.loop-j in
     let e = c.turn_column.ensures in (
       omega arith,
-      rw (add-one, ← columns-more c.args.n (R c) c.args.low.now l.j, ← l.invariant.1) e.0,
-      rw (add-one, ← columns-more c.args.n (R c) c.args.high.now l.j, ← l.invariant.2) e.1,
+      rw (add-one, ← columns-more c.args.n (R c.before.before.before.before.before) c.args.low.now l.j, ← l.invariant.1) e.0,
+      rw (add-one, ← columns-more c.args.n (R c.before.before.before.before.before) c.args.high.now l.j, ← l.invariant.2) e.1,
     )
 
 pub returns : goal.returns

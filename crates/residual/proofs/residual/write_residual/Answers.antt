@@ -69,20 +69,20 @@ turn-requires c = offer c.before.before.before c.if-shaped.true
 
 pub copy_numbers-requires : goal.copy_numbers-requires
 unfolding tabled
-copy_numbers-requires c = (omega (arith, few c, low_room c), omega (arith, few c, c.requires.3))
+copy_numbers-requires c = (omega (arith, few c.before.before.before, low_room c.before.before.before), omega (arith, few c.before.before.before, c.requires.3))
 
 pub copy_numbers-requires-2 : goal.copy_numbers-requires-2
 unfolding tabled
-copy_numbers-requires-2 c = (omega (arith, few c, high_room c), omega (arith, few c, c.requires.4))
+copy_numbers-requires-2 c = (omega (arith, few c.before.before.before.before.before.before.before.before, high_room c.before.before.before.before.before.before.before.before), omega (arith, few c.before.before.before.before.before.before.before.before, c.requires.4))
 
 pub returns-then-shaped-2 : goal.returns-then-shaped-2
 unfolding tabled
 returns-then-shaped-2 c =
-    rw (c.copy_numbers.ensures ∙ low_full c c.if-shaped-2.true, c.copy_numbers-2.ensures ∙ high_full c c.if-shaped-2.true)
+    rw (c.copy_numbers.ensures ∙ low_full c.before.before.before.before.before.before.before.before.before.before.before c.if-shaped-2.true, c.copy_numbers-2.ensures ∙ high_full c.before.before.before.before.before.before.before.before.before.before.before c.if-shaped-2.true)
     (after-passed (kept _ _) _ (first_passes _ _ (sym c.factor_shape-shaped.ensures ∙ c.if-shaped-2.true) ∙ first-none))
 
 pub returns-else-shaped-2 : goal.returns-else-shaped-2
 unfolding tabled
 returns-else-shaped-2 c =
-    rw (c.copy_numbers.ensures, c.copy_numbers-2.ensures, none c c.if-shaped-2.false)
+    rw (c.copy_numbers.ensures, c.copy_numbers-2.ensures, none c.before.before.before.before.before.before.before.before.before.before.before c.if-shaped-2.false)
     (after-refused (kept _ _) _ _ (first-refuses _ _ (sym c.factor_shape-shaped.ensures ∙ c.if-shaped-2.false)))

@@ -37,8 +37,8 @@ smaller c =
     let e = c.loop-i.invariant.2 in
     let f = c.row_over-over.ensures in
     ⊎_elim
-    (λ w. rw (w.1, clean_result c.row_over-over, f) (min_second (least c) (over c) (le_z_false {x = least c} {y = over c} (lt_holds (rw (clean_result c.row_over-over, f, e) at w.0.taken)))))
-    (λ w. rw (w.1, e) (min_first (least c) (over c) (le_z_true {x = least c} {y = over c} (lt_fails (rw (clean_result c.row_over-over, f, e) at w.0.left))))) c.if-over-least.branch
+    (λ w. rw (w.1, clean_result c.row_over-over, f) (min_second (least c.before) (over c.before) (le_z_false {x = least c.before} {y = over c.before} (lt_holds (rw (clean_result c.row_over-over, f, e) at w.0.taken)))))
+    (λ w. rw (w.1, e) (min_first (least c.before) (over c.before) (le_z_true {x = least c.before} {y = over c.before} (lt_fails (rw (clean_result c.row_over-over, f, e) at w.0.left))))) c.if-over-least.branch
 
 pub row_over-least-requires : goal.row_over-least-requires
 row_over-least-requires c = c.requires

@@ -54,10 +54,10 @@ pub radius-requires : goal.radius-requires
 unfolding at radius
 radius-requires c =
     let p = c.requires in
-    rw (clean_element (low-at c) c.radius-arg-1.given, clean_element (high-at c) c.radius-arg-2-1.given)
+    rw (clean_element (low-at c.before.before) c.radius-arg-1.given, clean_element (high-at c.before.before) c.radius-arg-2-1.given)
     (p.0.ranged.ordered _ _ p.1 p.2, p.0.ranged.low _ _ p.1 p.2, p.0.ranged.high _ _ p.1 p.2)
 
 pub returns : goal.returns
 unfolding at radius
 returns c =
-    clean_result c.radius ∙ c.radius.ensures ∙ rw (clean_element (low-at c) c.radius-arg-1.given, clean_element (high-at c) c.radius-arg-2-1.given)
+    clean_result c.radius ∙ c.radius.ensures ∙ rw (clean_element (low-at c.before.before.before) c.radius-arg-1.given, clean_element (high-at c.before.before.before) c.radius-arg-2-1.given)

@@ -57,16 +57,16 @@ inside c = sym c.decreases.given.1 ∙ c.measure-measured.ensures
 
 pub gather_measured-requires : goal.gather_measured-requires
 unfolding gather
-gather_measured-requires c = inside_near _ (narrow c.before.before.before) (inside c)
+gather_measured-requires c = inside_near _ (narrow c.before.before.before.before.before.before.before) (inside c)
 
 pub returns-in-Inside : goal.returns-in-Inside
 unfolding gather
 returns-in-Inside c =
-    exactly (means c) (gather-means c.args.sample (narrow c) c.args.n (lent c)) _
-    ((rw (clean c.ranges.n) at c.gather_measured.ensures) ∙ ap (given c) (gathering_inside c.args.sample c.args.n (sized c) (posed c) (inside c)))
+    exactly (means c.before.before.before.before.before.before.before.before.before.before.before.before.before) (gather-means c.args.sample (narrow c.before.before.before.before.before.before.before.before.before.before.before.before.before) c.args.n (lent c.before.before.before.before.before.before.before.before.before.before.before.before.before)) _
+    ((rw (clean c.ranges.n) at c.gather_measured.ensures) ∙ ap (given c.before.before.before.before.before.before.before.before.before.before.before.before.before) (gathering_inside c.args.sample c.args.n (sized c.before.before.before.before.before.before.before.before.before.before.before.before.before) (posed c.before.before.before.before.before.before.before.before.before.before.before.before.before) (inside c)))
 
 pub returns-in-Outside : goal.returns-in-Outside
 unfolding gather
 returns-in-Outside c =
-    exactly (means c) (gather-means c.args.sample (narrow c) c.args.n (lent c)) _
-    (ap (given c) (gathering_outside c.args.sample c.args.n (sized c) (posed c) (sym c.in-Outside.is ∙ c.measure-measured.ensures)))
+    exactly (means c.before.before) (gather-means c.args.sample (narrow c.before.before) c.args.n (lent c.before.before)) _
+    (ap (given c.before.before) (gathering_outside c.args.sample c.args.n (sized c.before.before) (posed c.before.before) (sym c.in-Outside.is ∙ c.measure-measured.ensures)))

@@ -81,11 +81,11 @@ lengths c = sums-sizes-of _ _ _ _ (passed c)
 lying : (c : Else2) → let a = c.args in Arrays a.low.now a.high.now a.from.now a.to.now
 lying c = let z = lengths c in record { low = z.low; high = z.high; linear_low = z.linear_low; linear_high = z.linear_high }
 
-copies : (c : After-copy_sums) → let o = c.copy_sums.new in let a = c.before.before.before.before.before.args in
+copies : (c : After-copy_sums) → let o = c.copy_sums.new in let a = c.args in
     (o.1.1.1.1.1.0 ≡ a.low.now) × (o.1.1.1.1.1.1.0 ≡ a.high.now) × (o.1.1.1.1.1.1.1.0 ≡ a.from.now) × (o.1.1.1.1.1.1.1.1.0 ≡ a.to.now)
 copies c =
     let p = c.copy_sums.ensures in
-    let a = c.before.before.before.before.before.args in
+    let a = c.args in
     let z = lying c.before.before.before.before.before in
     let t = replicate (factor_count * factor_count) (pos 0) in
     let x = replicate factor_count (pos 0) in (
@@ -106,18 +106,18 @@ states c =
     let F = factor_of a.m in
     stated_by
     (ap (checked_sums F a.m.draw) (constraint_by p.0 p.1 p.2 p.3 (clean_element (nth a.limit.now 0) c.add_checked-arg-1.given))
-    ∙ ap (λ (k : ℕ). checked_sums F a.m.draw (constraint_of k a.low.now a.high.now a.from.now a.to.now (nth a.limit.now 0))) (sym (lengths c).order)
-    ∙ sums-sized F a.m.draw a.n (sizes c) (posed c) (order-given a.n (λ z. c.if-order-eq0.left (order c.before.before.before.before ∙ z))) (passed c) refl)
+    ∙ ap (λ (k : ℕ). checked_sums F a.m.draw (constraint_of k a.low.now a.high.now a.from.now a.to.now (nth a.limit.now 0))) (sym (lengths c.before.before.before.before.before.before.before.before.before.before.before.before.before.before.before).order)
+    ∙ sums-sized F a.m.draw a.n (sizes c.before.before.before.before.before.before.before.before.before.before.before.before.before.before.before.before.before.before.before.before) (posed c.before.before.before.before.before.before.before.before.before.before.before.before.before.before.before.before.before.before.before.before) (order-given a.n (λ z. c.if-order-eq0.left (order c.before.before.before.before.before.before.before.before.before.before.before.before.before.before.before.before.before.before.before ∙ z))) (passed c.before.before.before.before.before.before.before.before.before.before.before.before.before.before.before) refl)
     c.add_checked-summed.ensures
 
 pub returns-then-order-eq0 : goal.returns-then-order-eq0
 unfolding constraint_entered
-returns-then-order-eq0 c = ap (given c) (no-order _ _ _ _ _ refused _ (sym (order c.before) ∙ c.if-order-eq0.true))
+returns-then-order-eq0 c = ap (given c.before.before) (no-order _ _ _ _ _ refused _ (sym (order c.before) ∙ c.if-order-eq0.true))
 
 pub returns-then-not-sums_sized : goal.returns-then-not-sums_sized
 unfolding constraint_entered
 returns-then-not-sums_sized c =
-    ap (given c.before) (no-sizes _ _ _ _ _ refused _ (λ e. c.if-order-eq0.false (order c ∙ e)) (call_false (sized c.before) c.if-not-sums_sized.true-raw))
+    ap (given c.before.before.before.before.before) (no-sizes _ _ _ _ _ refused _ (λ e. c.if-order-eq0.false (order c.before.before.before.before ∙ e)) (call_false (sized c.before) c.if-not-sums_sized.true-raw))
 
 pub copy_sums-requires : goal.copy_sums-requires
 unfolding constraint_entered
@@ -129,26 +129,26 @@ slice_copy_out-add_checked c = omega (arith, (lengths c.before.before.before.bef
 
 pub copy_sums-requires-in-Within : goal.copy_sums-requires-in-Within
 unfolding constraint_entered
-copy_sums-requires-in-Within c = (omega arith, (states c).rooms, arrays_rooms (lying c.before.before.before.before.before.before.before.before.before.before.before.before.before.before.before))
+copy_sums-requires-in-Within c = (omega arith, (states c.before.before.before.before.before.before.before.before.before.before.before.before.before).rooms, arrays_rooms (lying c.before.before.before.before.before.before.before.before.before.before.before.before.before.before.before.before.before.before.before.before.before.before.before.before.before.before.before.before))
 
 pub bounds-limit-0 : goal.bounds-limit-0
 unfolding constraint_entered
-bounds-limit-0 c = omega (arith, (lengths c.before.before.before.before.before.before.before.before.before.before.before.before.before.before.before).limit)
+bounds-limit-0 c = omega (arith, (lengths c.before.before.before.before.before.before.before.before.before.before.before.before.before.before.before.before.before.before.before.before.before.before.before.before.before.before.before.before.before.before.before.before.before).limit)
 
 pub returns-in-Within : goal.returns-in-Within
 unfolding constraint_entered
 returns-in-Within c =
     let q = c.copy_sums-in-Within.ensures in
     let o = c.add_checked-summed.last.1.1 in
-    let b = lent c.before.before.before.before.before.before.before.before.before.before.before.before.before.before.before in
-    let r = (states c).rooms in
-    let z = lying c.before.before.before.before.before.before.before.before.before.before.before.before.before.before.before in
-    laid-taken (λ t. t) (λ x. x) (λ α. tabulate 1 (λ i. α)) (states c) b c.before.before.before.before.before.before.before.before.before.before.in-Within.sum c.before.before.before.before.before.before.before.before.before.before.in-Within.is
+    let b = lent c.before.before.before.before.before.before.before.before.before.before.before.before.before.before.before.before.before.before.before.before.before.before.before.before.before.before.before.before.before.before.before.before.before.before.before.before.before.before in
+    let r = (states c.before.before.before.before.before.before.before.before.before.before.before.before.before.before.before.before.before.before).rooms in
+    let z = lying c.before.before.before.before.before.before.before.before.before.before.before.before.before.before.before.before.before.before.before.before.before.before.before.before.before.before.before.before.before.before.before.before.before in
+    laid-taken (λ t. t) (λ x. x) (λ α. tabulate 1 (λ i. α)) (states c.before.before.before.before.before.before.before.before.before.before.before.before.before.before.before.before.before.before) b c.in-Within.sum c.in-Within.is
     (q.0 ∙ copied-whole o.0 b.low r.low z.low) (q.1 ∙ copied-whole o.1.0 b.high r.high z.high)
     (q.2 ∙ copied-whole o.1.1.0 b.from r.linear_low z.linear_low) (q.3 ∙ copied-whole o.1.1.1.0 b.to r.linear_high z.linear_high)
-    (ap (λ (v : ℤ). set c.before.before.before.before.before.before.before.before.before.before.before.before.before.before.before.args.limit.now 0 v) (clean_element c.before.before.before.before.before.before.before.before.before.before.in-Within.sum c.known_told-1.given.0.1) ∙ set-one c.before.before.before.before.before.before.before.before.before.before.before.before.before.before.before.args.limit.now _ (lengths c.before.before.before.before.before.before.before.before.before.before.before.before.before.before.before).limit)
+    (ap (λ (v : ℤ). set c.args.limit.now 0 v) (clean_element c.in-Within.sum c.known_told-1.given.0.1) ∙ set-one c.args.limit.now _ (lengths c.before.before.before.before.before.before.before.before.before.before.before.before.before.before.before.before.before.before.before.before.before.before.before.before.before.before.before.before.before.before.before.before.before).limit)
 
 pub returns-in-Refused : goal.returns-in-Refused
 unfolding constraint_entered
 returns-in-Refused c =
-    laid-refused (λ t. t) (λ x. x) (λ α. tabulate 1 (λ i. α)) (states c) (lent c.before.before.before.before.before.before.before.before.before.before.before.before.before.before.before.before.before.before.before.before.before.before.before.before.before.before.before) c.in-Refused.r c.in-Refused.is
+    laid-refused (λ t. t) (λ x. x) (λ α. tabulate 1 (λ i. α)) (states c.before.before.before.before.before) (lent c.before.before.before.before.before.before.before.before.before.before.before.before.before.before.before.before.before.before.before.before.before.before.before.before.before) c.in-Refused.r c.in-Refused.is

@@ -50,9 +50,9 @@ returns-then-allowance-lt0 c = rw (running c.before, le_z_false (lt_yes c.ranges
 pub returns-then-allowance-gt-ALLOWANCE_RANGE : goal.returns-then-allowance-gt-ALLOWANCE_RANGE
 unfolding limits_in
 returns-then-allowance-gt-ALLOWANCE_RANGE c =
-    rw (running c.before, le_z_true (least c), le_z_false (lt_yes (fits_literal {z = pos allowance_range} tt) c.ranges.allowance c.if-allowance-gt-ALLOWANCE_RANGE.true))
+    rw (running c.before.before, le_z_true (least c.before), le_z_false (lt_yes (fits_literal {z = pos allowance_range} tt) c.ranges.allowance c.if-allowance-gt-ALLOWANCE_RANGE.true))
 
 pub returns : goal.returns
 unfolding limits_in
 returns c =
-    rw (running c.before, le_z_true (least c), le_z_true (most c)) (rw (clean (overflow_add-allowance c), clean c.ranges.allowance, clean c.ranges.running) at c.within-2.ensures)
+    rw (running c.before.before.before, le_z_true (least c.before.before), le_z_true (most c.before)) (rw (clean (overflow_add-allowance c.before), clean c.ranges.allowance, clean c.ranges.running) at c.within-2.ensures)

@@ -37,12 +37,12 @@ checks : (c : After-check_sums) → c.check_sums-checked.result ≡ first c.befo
 checks c =
     rw (c.limits_in.ensures, clean c.ranges.allowance, clean c.ranges.running) at c.check_sums-checked.ensures
 
-passed : (c : After-enum_told) → first c.before.before.before.before ≡ Passed
-passed c = sym (checks c.before.before) ∙ c.in-Passed.is
+passed : (c : After-enum_told) → first c.before.before.before ≡ Passed
+passed c = sym (checks c.before) ∙ c.in-Passed.is
 
 pub overflow_add-result : goal.overflow_add-result
 overflow_add-result c =
-    rw (clean c.ranges.allowance, clean c.ranges.running) (limit_fits _ _ (limits_passed _ (sums c) (passed c)))
+    rw (clean c.ranges.allowance, clean c.ranges.running) (limit_fits _ _ (limits_passed _ (sums c.before.before.before) (passed c)))
 
 pub returns-in-Passed : goal.returns-in-Passed
 unfolding checked_reading
@@ -51,4 +51,4 @@ returns-in-Passed c =
 
 pub returns-in-Refused : goal.returns-in-Refused
 unfolding checked_reading
-returns-in-Refused c = after-refused Reading.Refused _ _ (sym (checks c.before.before.before) ∙ c.in-Refused.is)
+returns-in-Refused c = after-refused Reading.Refused _ _ (sym (checks c.before) ∙ c.in-Refused.is)

@@ -63,13 +63,13 @@ means s r = ReadingMeaning r s.args.allowance (sums s)
 shown : (s : Start) → means s (read_sums s.args.n (sizes s) s.args.allowance (sums s))
 shown s = reading-means s.args.n (sizes s) s.args.allowance (sums s)
 
-read : (c : After-read_checked) → c.read_checked.result ≡ checked_reading c.before.before.before.before.before.before.args.allowance (sums c.before.before.before.before.before.before)
+read : (c : After-read_checked) → c.read_checked.result ≡ checked_reading c.args.allowance (sums c.before.before.before.before.before.before)
 read c =
-    rw (order c, clean c.ranges.running, clean c.ranges.allowance) at c.read_checked.ensures
+    rw (order c.before.before.before.before.before, clean c.ranges.running, clean c.ranges.allowance) at c.read_checked.ensures
 
 pub returns-then-m-eq0 : goal.returns-then-m-eq0
 unfolding read_sums constraint_entered
-returns-then-m-eq0 c = exactly (means c) (shown c) _ (no-order _ _ _ _ _ Reading.Refused _ (sym (order c.before) ∙ c.if-m-eq0.true))
+returns-then-m-eq0 c = exactly (means c.before.before) (shown c.before.before) _ (no-order _ _ _ _ _ Reading.Refused _ (sym (order c.before) ∙ c.if-m-eq0.true))
 
 pub overflow_mul-sizes : goal.overflow_mul-sizes
 unfolding read_sums constraint_entered
@@ -78,17 +78,17 @@ overflow_mul-sizes c = record { fits = omega (arith, order_fits _ (order c.befor
 pub returns-then-not-constraint_sized : goal.returns-then-not-constraint_sized
 unfolding read_sums constraint_entered
 returns-then-not-constraint_sized c =
-    exactly (means c) (shown c) _
-    (no-sizes _ _ _ _ _ Reading.Refused _ (λ z. c.if-m-eq0.false (order c ∙ z)) (call_false (sized c.before) c.if-not-constraint_sized.true-raw))
+    exactly (means c.before.before.before.before.before) (shown c.before.before.before.before.before) _
+    (no-sizes _ _ _ _ _ Reading.Refused _ (λ z. c.if-m-eq0.false (order c.before.before.before.before ∙ z)) (call_false (sized c.before) c.if-not-constraint_sized.true-raw))
 
 pub read_checked-requires : goal.read_checked-requires
 unfolding read_sums constraint_entered
 read_checked-requires c =
     let z = constraint_sizes-of _ _ (fitting c) in
-    rw (order c) (order_small _, omega (arith, z.0), omega (arith, z.1), omega (arith, z.2), omega (arith, z.3))
+    rw (order c.before.before.before.before) (order_small _, omega (arith, z.0), omega (arith, z.1), omega (arith, z.2), omega (arith, z.3))
 
 pub returns : goal.returns
 unfolding read_sums constraint_entered
 returns c =
-    exactly (means c) (shown c) _
-    (read c ∙ reading-sized c.args.n (sizes c) c.args.allowance (sums c) (order-given c.args.n (λ z. c.if-m-eq0.false (order c ∙ z))) (fitting c) refl)
+    exactly (means c.before.before.before.before.before.before) (shown c.before.before.before.before.before.before) _
+    (read c ∙ reading-sized c.args.n (sizes c.before.before.before.before.before.before) c.args.allowance (sums c.before.before.before.before.before.before) (order-given c.args.n (λ z. c.if-m-eq0.false (order c.before.before.before.before.before ∙ z))) (fitting c.before) refl)

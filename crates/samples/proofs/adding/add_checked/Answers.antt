@@ -38,7 +38,7 @@ checks : (c : After-mend_sums) → let a = c.args in
     c.mend_sums-checked.new.low c.mend_sums-checked.new.high
 checks c = rw (c.within.ensures, clean c.ranges.limit) at c.mend_sums-checked.ensures
 
-answer : (c : After-mend_sums) → c.mend_sums-checked.result ≡ first_refusal (own_checks (posed c))
+answer : (c : After-mend_sums) → c.mend_sums-checked.result ≡ first_refusal (own_checks (posed c.before.before.before.before))
 answer c =
     let z = c.requires.1 in
     mended_answer _ (arrays_rooms z) (checks c) c.args.limit ∙ ap (λ (d : Constraint). first_refusal (own_checks d)) (arrays_front z c.args.limit)
@@ -50,7 +50,7 @@ arrays c = gains_arrays _ _ c.lay_gains-more.ensures
 pub returns-in-Refused : goal.returns-in-Refused
 unfolding stated
 returns-in-Refused c =
-    record { outcome = sums-refused _ _ (posed c) (sym (answer c) ∙ c.in-Refused.is); rooms = mended_rooms _ (arrays_rooms c.requires.1) (checks c) }
+    record { outcome = sums-refused _ _ (posed c.before.before.before.before.before.before.before) (sym (answer c.before.before.before) ∙ c.in-Refused.is); rooms = mended_rooms _ (arrays_rooms c.requires.1) (checks c.before.before.before) }
 
 pub slice_bounds-add_fitted-end : goal.slice_bounds-add_fitted-end
 unfolding stated
@@ -72,13 +72,13 @@ pub add_fitted-requires : goal.add_fitted-requires
 unfolding stated
 add_fitted-requires c =
     rw (clean_result c.lay_gains-more, clean c.ranges.limit)
-    (omega arith, gains-ranged c.args.m c.requires.0 c.lay_gains-more.ensures, mended-ranged _ (arrays_rooms c.requires.1) (checks c) c.args.limit c.in_default.is refl)
+    (omega arith, gains-ranged c.args.m c.requires.0 c.lay_gains-more.ensures, mended-ranged _ (arrays_rooms c.requires.1) (checks c.before.before.before.before.before.before.before.before.before.before.before.before.before.before.before.before) c.args.limit c.in_default.is refl)
 
 pub returns : goal.returns
 unfolding stated
 returns c =
     let z = c.requires.1 in
     stated_by
-    (sums-added (factor_of c.args.m) c.args.m.draw (posed c) (sym (answer c) ∙ c.in_default.is) (gains-front _ _ c.lay_gains-more.ensures)
-    (mended-front _ (arrays_rooms z) (checks c) c.args.limit c.in_default.is ∙ ap mended_constraint (arrays_front z c.args.limit)))
+    (sums-added (factor_of c.args.m) c.args.m.draw (posed c.before.before.before.before.before.before.before.before.before.before.before.before.before.before.before.before.before.before.before.before.before.before.before.before.before) (sym (answer c.before.before.before.before.before.before.before.before.before.before.before.before.before.before.before.before.before.before.before.before.before) ∙ c.in_default.is) (gains-front _ _ c.lay_gains-more.ensures)
+    (mended-front _ (arrays_rooms z) (checks c.before.before.before.before.before.before.before.before.before.before.before.before.before.before.before.before.before.before.before.before.before) c.args.limit c.in_default.is ∙ ap mended_constraint (arrays_front z c.args.limit)))
     (rw (clean_result c.lay_gains-more, clean c.ranges.limit) at c.add_fitted.ensures)

@@ -40,10 +40,10 @@ high_loss : (c : After-product_ends) → let a = c.args in
 high_loss c = read-high c.product_ends-loss.ensures (greatest-within c.requires.0 (factor c.before) draw)
 
 pub overflow_sub-a : goal.overflow_sub-a
-overflow_sub-a c = rw (high_loss c) (negated_fits (greatest-within c.requires.0 (factor c.before) draw))
+overflow_sub-a c = rw (high_loss c.before.before) (negated_fits (greatest-within c.requires.0 (factor c.before.before.before) draw))
 
 pub overflow_sub-b : goal.overflow_sub-b
-overflow_sub-b c = rw (low_loss c) (negated_fits (least-within c.requires.0 (factor c.before) draw))
+overflow_sub-b c = rw (low_loss c.before.before.before.before) (negated_fits (least-within c.requires.0 (factor c.before.before.before.before.before) draw))
 
 pub loop-i-init : goal.loop-i-init
 loop-i-init c = (omega arith, filled_none c.requires.1, filled_none c.requires.2)
@@ -72,8 +72,8 @@ loop-i-smaller c = omega (arith, c.loop-i-test.true)
 pub loop-i-preserved : goal.loop-i-preserved
 loop-i-preserved c = (
   omega (arith, c.loop-i-test.true),
-  rw add-one (filled_more c.loop-i-test.true (clean (overflow_sub-a c) ∙ rw (high_loss c)) c.loop-i.invariant.1),
-  rw add-one (filled_more c.loop-i-test.true (clean (overflow_sub-b c) ∙ rw (low_loss c)) c.loop-i.invariant.2),
+  rw add-one (filled_more c.loop-i-test.true (clean (overflow_sub-a c.before.before) ∙ rw (high_loss c.before.before.before.before)) c.loop-i.invariant.1),
+  rw add-one (filled_more c.loop-i-test.true (clean (overflow_sub-b c) ∙ rw (low_loss c.before.before.before.before)) c.loop-i.invariant.2),
 )
 
 pub returns : goal.returns

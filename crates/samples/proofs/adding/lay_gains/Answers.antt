@@ -14,13 +14,13 @@ use Rattle.samples.proofs.adding.lay_gains.Goals as goal
 abbrev After-least_square : Type 0
 After-least_square = lts.After-least_square tie.the-claims reads.Pre reads.Post
 
-square : (c : After-least_square) → let m = c.before.before.before.before.before.before.before.before.args.m in
+square : (c : After-least_square) → let m = c.args.m in
     to_z w64 (of_z w64 c.least_square.result) ≡ least_square (between (read_lows m) (read_highs m) factor_count)
 square c = clean_result c.least_square ∙ c.least_square.ensures
 
 pub overflow_sub-result : goal.overflow_sub-result
 overflow_sub-result c =
-    rw (square c) (negated_fits (least_square_within (near-read c.before.before.before.before.before.before.before.before.args.m c.before.before.before.before.before.before.before.before.requires.0) {i = factor_count} (omega arith)))
+    rw (square c) (negated_fits (least_square_within (near-read c.args.m c.requires.0) {i = factor_count} (omega arith)))
 
 pub lay_products-requires : goal.lay_products-requires
 unfolding gains
@@ -33,7 +33,7 @@ lay_draws-requires c =
 
 pub least_square-requires : goal.least_square-requires
 unfolding gains
-least_square-requires c = (near-read c.before.before.before.before.before.before.before.args.m c.before.before.before.before.before.before.before.requires.0, omega arith)
+least_square-requires c = (near-read c.args.m c.requires.0, omega arith)
 
 pub returns : goal.returns
 unfolding gains

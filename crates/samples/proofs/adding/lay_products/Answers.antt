@@ -76,8 +76,8 @@ pub loop-k-preserved : goal.loop-k-preserved
 unfolding table
 loop-k-preserved c = (
   omega (arith, c.loop-k-test.true),
-  rw add-one (filled_more c.loop-k-test.true (low_gain_lem c) c.loop-k.invariant.1),
-  rw add-one (filled_more c.loop-k-test.true (high_gain_lem c) c.loop-k.invariant.2),
+  rw add-one (filled_more c.loop-k-test.true (low_gain_lem c.before.before) c.loop-k.invariant.1),
+  rw add-one (filled_more c.loop-k-test.true (high_gain_lem c.before.before) c.loop-k.invariant.2),
 )
 
 pub returns : goal.returns

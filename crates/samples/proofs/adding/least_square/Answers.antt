@@ -23,4 +23,4 @@ pub returns : goal.returns
 returns c =
     let a = c.args in
     rw (clean_result c.smaller)
-    (rw (clean (overflow_mul-a c), clean (overflow_mul-b c), clean_element (nth a.low.now a.i) c.a-1.given, clean_element (nth a.high.now a.i) c.b-1.given) at c.smaller.ensures)
+    (rw (clean (overflow_mul-a c.before), clean (overflow_mul-b c.before), clean_element (nth a.low.now a.i) c.a-1.given, clean_element (nth a.high.now a.i) c.b-1.given) at c.smaller.ensures)

@@ -10,7 +10,7 @@ use Rattle.scaling.proofs.Greatest.{greatest-none, greatest-found, greatest-pass
 use Rattle.scaling.proofs.exponents.exponent.Given as goal
 
 abbrev pub invariant-loop-k : goal.invariant-loop-k
-invariant-loop-k l = (l.k ≤ greatest_exponent) × (exponent (to_z w64 l.u) ≡ greatest_of (stays_within (to_z w64 l.u)) l.k)
+invariant-loop-k l = (l.k ≤ greatest_exponent) × (exponent l.u ≡ greatest_of (stays_within l.u) l.k)
 
 abbrev pub decreases-loop-k : goal.decreases-loop-k
 decreases-loop-k l = l.k

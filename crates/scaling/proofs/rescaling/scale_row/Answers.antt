@@ -42,7 +42,7 @@ module _ (c : After-scaled_entry) where
   result : c.scaled_entry-scaled.result ≡ rescaled (scale_in c.args.x.now) (at c.args.n c.args.t.now) c.args.i c.loop-j.j
   unfolding rescaled
   result =
-      rw (clean_element (nth c.args.x.now c.args.i) c.k-1.given, clean_element (nth c.args.x.now c.loop-j.j) c.scaled_entry-arg-1.given, clean_element _ c.scaled_entry-arg-in-loop-j-1.given, entry c) at c.scaled_entry-scaled.ensures
+      rw (clean_element (nth c.args.x.now c.args.i) c.k-1.given, clean_element (nth c.args.x.now c.loop-j.j) c.scaled_entry-arg-1.given, clean_element _ c.scaled_entry-arg-in-loop-j-1.given, entry c.before.before.before) at c.scaled_entry-scaled.ensures
 
 pub overflow_mul-start : goal.overflow_mul-start
 overflow_mul-start c = omega (arith, inside c.requires.1 c.requires.1, table_fits c.requires.0)
@@ -77,7 +77,7 @@ bounds-t-start c = place c.before
 pub scaled_entry-scaled-requires : goal.scaled_entry-scaled-requires
 scaled_entry-scaled-requires c =
     let h = c.loop-j-test.true in
-    rw (clean_element _ c.k-1.given, clean_element _ c.scaled_entry-arg-1.given, clean_element _ c.scaled_entry-arg-in-loop-j-1.given, entry c)
+    rw (clean_element _ c.k-1.given, clean_element _ c.scaled_entry-arg-1.given, clean_element _ c.scaled_entry-arg-in-loop-j-1.given, entry c.before.before)
     (scale-exponent c.requires.2 c.args.i c.requires.1, scale-exponent c.requires.2 c.loop-j.j h, c.requires.3 c.args.i c.loop-j.j c.requires.1 h)
 
 pub within-requires : goal.within-requires
@@ -86,8 +86,8 @@ within-requires c = pos_nonneg _
 pub returns-then-not-within : goal.returns-then-not-within
 returns-then-not-within c =
     record {
-      answered = sym (all_false _ _ c.loop-j.j c.loop-j-test.taken (rw (← result c) (call_false (rw (clean_result c.scaled_entry-scaled) at c.within.ensures) c.if-not-within.true-raw)));
-      size = c.loop-j.inv.1;
+      answered = sym (all_false _ _ c.loop-j.j c.loop-j-test.taken (rw (← result c.before.before) (call_false (rw (clean_result c.scaled_entry-scaled) at c.within.ensures) c.if-not-within.true-raw)));
+      size = c.loop-j.invariant.1;
       part = λ e. absurd (false≢true e);
     }
 
@@ -109,10 +109,10 @@ loop-j-preserved c =
     let j = c.loop-j.j in
     let e : suc (a.i * a.n + j) ≡ a.i * a.n + (j + 1) = omega arith in (
       omega (arith, c.loop-j-test.taken),
-      length-set c.loop-j.t _ _ ∙ c.loop-j.inv.1,
-      rw (clean_result c.scaled_entry-scaled, result c, ← e)
-          (part-more a.i j c.loop-j-test.taken (omega arith) (omega (arith, place c, c.loop-j.inv.1))
-          (rw (← result c) (call_true (rw (clean_result c.scaled_entry-scaled) at c.within.ensures) c.if-not-within.false-raw)) c.loop-j.inv.2),
+      length-set c.loop-j.t _ _ ∙ c.loop-j.invariant.1,
+      rw (clean_result c.scaled_entry-scaled, result c.before.before, ← e)
+          (part-more a.i j c.loop-j-test.taken (omega arith) (omega (arith, place c.before.before.before.before.before, c.loop-j.invariant.1))
+          (rw (← result c.before.before) (call_true (rw (clean_result c.scaled_entry-scaled) at c.within.ensures) c.if-not-within.false-raw)) c.loop-j.invariant.2),
     )
 
 pub returns : goal.returns

@@ -61,7 +61,7 @@ given s g = written g s.args.vector.now
 
 pub returns-then-m-eq0 : goal.returns-then-m-eq0
 unfolding bracket bracketing
-returns-then-m-eq0 c = exactly (means c) (shown c) _ (ap (given c) (no-order _ _ _ _ _ refused _ (sym (order c.before) ∙ c.if-m-eq0.true)))
+returns-then-m-eq0 c = exactly (means c.before.before) (shown c.before.before) _ (ap (given c.before.before) (no-order _ _ _ _ _ refused _ (sym (order c.before) ∙ c.if-m-eq0.true)))
 
 pub overflow_mul-m : goal.overflow_mul-m
 unfolding bracket bracketing
@@ -70,24 +70,24 @@ overflow_mul-m c = record { fits = omega (arith, order_fits _ (order c.before)) 
 pub enter-checked-requires : goal.enter-checked-requires
 unfolding bracket bracketing
 enter-checked-requires c =
-    ((λ s. rw (clean c.ranges.n) (let z = sizes-of _ _ _ _ _ (sym (sized c) ∙ s) in (z.0, z.1))), refl, refl)
+    ((λ s. rw (clean c.ranges.n) (let z = sizes-of _ _ _ _ _ (sym (sized c.before.before) ∙ s) in (z.0, z.1))), refl, refl)
 
 pub returns-in-Refused : goal.returns-in-Refused
 unfolding bracket bracketing
 returns-in-Refused c =
-    exactly (means c) (shown c) _ (ap (given c) (entered-refused _ _ _ _ _ refused _ (came c) c.in-Refused.is))
+    exactly (means c.before.before.before.before.before.before.before) (shown c.before.before.before.before.before.before.before) _ (ap (given c.before.before.before.before.before.before.before) (entered-refused _ _ _ _ _ refused _ (came c.before) c.in-Refused.is))
 
 pub bracket_bounds-requires : goal.bracket_bounds-requires
 unfolding bracket bracketing
 bracket_bounds-requires c =
     let q = c.in_default.is in
-    let b = came-through _ _ _ _ _ (came c) q in
-    rw (order c.before.before.before.before.before.before.before) (((came c).held q).tables, order-positive _ b.ordered, (sizes-of _ _ _ _ _ b.sizes).2)
+    let b = came-through _ _ _ _ _ (came c.before.before.before.before) q in
+    rw (order c.before.before.before.before.before.before.before.before.before) (((came c.before.before.before.before).held q).tables, order-positive _ b.ordered, (sizes-of _ _ _ _ _ b.sizes).2)
 
 pub returns : goal.returns
 unfolding bracket bracketing
 returns c =
     let q = c.in_default.is in
-    let h = (came c).held q in
-    exactly (means c) (shown c) _
-    ((rw (order c.before.before.before.before.before.before.before, h.low, h.high) at c.bracket_bounds.ensures) ∙ ap (given c) (entered-passed _ _ _ _ _ refused _ (came c) q))
+    let h = (came c.before.before.before.before.before.before).held q in
+    exactly (means c.before.before.before.before.before.before.before.before.before.before.before.before) (shown c.before.before.before.before.before.before.before.before.before.before.before.before) _
+    ((rw (order c.before.before.before.before.before.before.before.before.before.before.before, h.low, h.high) at c.bracket_bounds.ensures) ∙ ap (given c.before.before.before.before.before.before.before.before.before.before.before.before) (entered-passed _ _ _ _ _ refused _ (came c.before.before.before.before.before.before) q))

@@ -21,11 +21,11 @@ pub quotient-requires : goal.quotient-requires
 unfolding first_under
 quotient-requires c =
     let e : c.first_under.result ≡ true = call_true refl c.if-not-first_under.false-raw in
-    let g = rw (clean c.before.before.ranges.w, e) at c.first_under.ensures in
-    (c.before.before.requires.0, found-entries _ _ _ _ _ c.before.before.requires.0.order g, found-nonzero _ _ _ _ _ c.before.before.requires.0.order g)
+    let g = rw (clean c.ranges.w, e) at c.first_under.ensures in
+    (c.requires.0, found-entries _ _ _ _ _ c.requires.0.order g, found-nonzero _ _ _ _ _ c.requires.0.order g)
 
 pub returns : goal.returns
 unfolding first_under
 returns c =
     let e : c.first_under.result ≡ true = call_true refl c.if-not-first_under.false-raw in
-    was_hit _ _ _ _ _ (rw (clean c.before.before.ranges.w, e) at c.first_under.ensures) (rw (clean_result c.quotient) c.quotient.ensures)
+    was_hit _ _ _ _ _ (rw (clean c.ranges.w, e) at c.first_under.ensures) (rw (clean_result c.quotient) c.quotient.ensures)

@@ -88,12 +88,12 @@ ask-found-requires c =
 
 pub loop-below-smaller : goal.loop-below-smaller
 loop-below-smaller c =
-    rw (clean_result c.raised-below, c.raised-below.ensures, clean_result c.next-w, clean_result c.ask-found) (went c).less
+    rw (clean_result c.raised-below, c.raised-below.ensures, clean_result c.next-w, clean_result c.ask-found) (went c.before.before).less
 
 pub loop-below-preserved : goal.loop-below-preserved
 loop-below-preserved c =
-    rw (clean_result c.raised-below, c.raised-below.ensures, clean_result c.next-w, clean_result c.ask-found) (went c).narrowed
+    rw (clean_result c.raised-below, c.raised-below.ensures, clean_result c.next-w, clean_result c.ask-found) (went c.before.before).narrowed
 
 pub returns : goal.returns
 returns c =
-    arrived _ _ _ c.requires.1 c.loop-below.invariant (lt_fails (rw (clean (overflow_add-below c)) at c.loop-below-test.false))
+    arrived _ _ _ c.requires.1 c.loop-below.invariant (lt_fails (rw (clean (overflow_add-below c.before)) at c.loop-below-test.false))

@@ -18,7 +18,7 @@ use Rattle.stiffness.proofs.Descending.{inside_within, upper-most, lower_within,
 use Rattle.stiffness.proofs.least_bound.least_bound.Given as goal
 
 abbrev pub invariant-loop-below : goal.invariant-loop-below
-invariant-loop-below l = Narrowed l.n (at l.n l.low) (at l.n l.high) (to_z w64 l.below) (to_z w64 l.v) l.x
+invariant-loop-below l = Narrowed l.n (at l.n l.low) (at l.n l.high) l.below l.v l.x
 
 abbrev pub decreases-loop-below : goal.decreases-loop-below
 decreases-loop-below l = nat_abs (to_z w64 l.v -ℤ to_z w64 l.below)

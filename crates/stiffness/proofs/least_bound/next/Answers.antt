@@ -42,4 +42,4 @@ returns-then-left-gt0 c =
 
 pub returns : goal.returns
 returns c =
-    rw (clean_result c.floor_div, c.floor_div.ensures, clean (overflow_add-below c), clean c.ranges.below, clean c.ranges.v) (middle c.requires.2.high)
+    rw (clean_result c.floor_div, c.floor_div.ensures, clean (overflow_add-below c.before), clean c.ranges.below, clean c.ranges.v) (middle c.requires.2.high)

@@ -64,12 +64,12 @@ order_in-n-requires c = c.requires
 pub returns-then-not-sized : goal.returns-then-not-sized
 unfolding field_checks
 returns-then-not-sized c =
-    sym (first_passes _ _ (present c.before) ∙ first-refuses _ _ (rw c.length_of-sized.ensures at (not-true (eqb c.length_of-sized.result 1) c.if-not-sized.true-raw)))
+    sym (first_passes _ _ (present c.before.before.before.before) ∙ first-refuses _ _ (rw c.length_of-sized.ensures at (not-true (eqb c.length_of-sized.result 1) c.if-not-sized.true-raw)))
 
 pub returns-then-not-ordered : goal.returns-then-not-ordered
 unfolding field_checks
 returns-then-not-ordered c =
-    sym (first_passes _ _ (present c.before.before.before) ∙ first_passes _ _ (one_byte c.before) ∙ first-refuses _ _ (found c ∙ not-true _ c.if-not-ordered.true-raw))
+    sym (first_passes _ _ (present c.before.before.before.before.before) ∙ first_passes _ _ (one_byte c.before) ∙ first-refuses _ _ (found c.before.before ∙ not-true _ c.if-not-ordered.true-raw))
 
 pub lengths_ok-requires : goal.lengths_ok-requires
 unfolding field_checks

@@ -42,7 +42,7 @@ check_laid-checked-requires c = let z = c.requires in (z.order, table_fits z.ord
 
 pub returns-in-Passed : goal.returns-in-Passed
 returns-in-Passed c =
-    let m = bounds c.before.before in
+    let m = bounds c.before.before.before.before in
     let passed = c.in-Passed.is in
     record {
       answered = c.check_ends.ensures ∙ sym (more-checks _ _ (sym m.answered ∙ passed));
@@ -54,7 +54,7 @@ returns-in-Passed c =
 
 pub returns-in-Refused : goal.returns-in-Refused
 returns-in-Refused c =
-    let m = bounds c.before.before.before in
+    let m = bounds c.before in
     record {
       answered = sym (no-more-checks _ _ _ (sym m.answered ∙ c.in-Refused.is));
       low-size = m.low-size;

@@ -31,7 +31,7 @@ vector_in-requires c = (c.requires.inside, omega (arith, length c Kind.LinearLow
 
 pub vector_in-requires-2 : goal.vector_in-requires-2
 unfolding problem_in
-vector_in-requires-2 c = (c.requires.inside, omega (arith, length c Kind.LinearHigh), small c)
+vector_in-requires-2 c = (c.requires.inside, omega (arith, length c.before Kind.LinearHigh), small c.before)
 
 pub overflow_mul-n : goal.overflow_mul-n
 unfolding problem_in
@@ -39,7 +39,7 @@ overflow_mul-n c = omega (arith, table_fits (small c.before.before))
 
 pub table_in-requires : goal.table_in-requires
 unfolding problem_in
-table_in-requires c = (c.requires.inside, omega (arith, length c Kind.Low), table_fits (small c))
+table_in-requires c = (c.requires.inside, omega (arith, length c.before.before Kind.Low), table_fits (small c.before.before))
 
 pub overflow_mul-n-2 : goal.overflow_mul-n-2
 unfolding problem_in
@@ -47,15 +47,15 @@ overflow_mul-n-2 c = omega (arith, table_fits (small c.before.before.before))
 
 pub table_in-requires-2 : goal.table_in-requires-2
 unfolding problem_in
-table_in-requires-2 c = (c.requires.inside, omega (arith, length c Kind.Low, length c Kind.High), table_fits (small c))
+table_in-requires-2 c = (c.requires.inside, omega (arith, length c.before.before.before Kind.Low, length c.before.before.before Kind.High), table_fits (small c.before.before.before))
 
 pub number_in-requires : goal.number_in-requires
 unfolding problem_in
-number_in-requires c = (c.requires.inside, omega (arith, length c Kind.Limit))
+number_in-requires c = (c.requires.inside, omega (arith, length c.before.before.before.before Kind.Limit))
 
 pub vector_in-requires-3 : goal.vector_in-requires-3
 unfolding problem_in
-vector_in-requires-3 c = (c.requires.inside, omega (arith, length c Kind.Centre), small c)
+vector_in-requires-3 c = (c.requires.inside, omega (arith, length c.before.before.before.before.before Kind.Centre), small c.before.before.before.before.before)
 
 pub returns : goal.returns
 unfolding problem_in

@@ -22,7 +22,7 @@ means c = reading-means c.args.file.now (record { each = λ j. omega (arith, c.s
 pub returns-then-file-gt-LONGEST : goal.returns-then-file-gt-LONGEST
 unfolding read_as
 returns-then-file-gt-LONGEST c =
-    exactly (ReadingMeaning c.args.file.now) (means c) _ (rw c.no_problem.ensures (sym (reading-long _ (omega arith))))
+    exactly (ReadingMeaning c.args.file.now) (means c.before.before) _ (rw c.no_problem.ensures (sym (reading-long _ (omega arith))))
 
 pub read_in-requires : goal.read_in-requires
 unfolding read_as
@@ -32,7 +32,7 @@ pub returns-in-Passed : goal.returns-in-Passed
 unfolding read_as
 returns-in-Passed c =
     let w = c.walk-walked.ensures in
-    exactly (ReadingMeaning c.args.file.now) (means c.before) _
+    exactly (ReadingMeaning c.args.file.now) (means c.before.before.before.before.before) _
     (c.read_in.ensures
     ∙ ap (λ (w : Walked). read_in c.args.file.now w.layout) w
     ∙ sym (reading-walked _ (omega arith) (sym (ap (λ (w : Walked). w.checked) w) ∙ c.in-Passed.is)))
@@ -40,6 +40,6 @@ returns-in-Passed c =
 pub returns-in-Refused : goal.returns-in-Refused
 unfolding read_as
 returns-in-Refused c =
-    exactly (ReadingMeaning c.args.file.now) (means c) _
+    exactly (ReadingMeaning c.args.file.now) (means c.before.before.before.before) _
     (rw c.no_problem-in-Refused.ensures
     (sym (reading-stopped _ (omega arith) _ (sym (ap (λ (w : Walked). w.checked) c.walk-walked.ensures) ∙ c.in-Refused.is))))

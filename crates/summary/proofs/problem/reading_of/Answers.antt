@@ -36,11 +36,11 @@ mended c = rw (limit-clean c.before.before.before.before.before.before.before) a
 
 pub mend_problem-checked-requires : goal.mend_problem-checked-requires
 unfolding read_as
-mend_problem-checked-requires c = rw (limit-clean c.before.before.before.before.before.before) c.before.before.before.before.before.before.requires
+mend_problem-checked-requires c = rw (limit-clean c.before.before.before.before.before.before) c.requires
 
 pub returns-in-Passed : goal.returns-in-Passed
 unfolding read_as
-returns-in-Passed c = reading-mended _ (limit-clean c.before.before.before.before.before.before.before.before.before) (mended c) c.in-Passed.is
+returns-in-Passed c = reading-mended _ (limit-clean c.before.before.before.before.before.before.before.before) (mended c.before) c.in-Passed.is
 
 pub returns-in-Refused : goal.returns-in-Refused
 unfolding read_as

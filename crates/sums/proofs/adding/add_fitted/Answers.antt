@@ -24,31 +24,31 @@ added s = let a = s.args in sums_at a.n a.gl.now a.gu.now a.ga.now a.gb.now a.mo
 
 tried : (c : After-add_inside) → let a = c.args in
     let o = c.add_inside-whole.new.1.1.1.1.1.1.1 in
-    Tried a.n (added c) a.l.now a.u.now a.a.now a.b.now a.limit c.add_inside-whole.result o.0 o.1.0 o.1.1.0 o.1.1.1.0
+    Tried a.n (added c.before.before.before.before.before) a.l.now a.u.now a.a.now a.b.now a.limit c.add_inside-whole.result o.0 o.1.0 o.1.1.0 o.1.1.1.0
 tried c = rw (clean c.ranges.limit, clean c.ranges.more) at c.add_inside-whole.ensures
 
-halves : (c : After-halve) → let a = c.before.before.before.before.before.args in
-    let o = c.before.before.before.before.before.add_inside-whole.last.1.1.1.1.1.1.1 in
+halves : (c : After-halve) → let a = c.args in
+    let o = c.add_inside-whole.last.1.1.1.1.1.1.1 in
     let h = c.halve-half.new.1.1 in
     Sums (halved (sums_at a.n o.0 o.1.0 o.1.1.0 o.1.1.1.0 a.limit)) a.n h.0 h.1.0 h.1.1.0 h.1.1.1.0 c.halve-half.result
-halves c = rw (clean c.before.before.before.before.before.before.before.before.before.before.before.ranges.limit) at c.halve-half.ensures
+halves c = rw (clean c.ranges.limit) at c.halve-half.ensures
 
 pub halve-half-requires : goal.halve-half-requires
 halve-half-requires c =
-    (c.before.before.before.before.before.before.before.before.before.before.requires.0, rw (clean c.before.before.before.before.before.before.before.before.before.before.ranges.limit) (kept-ranged c.in-Refused.is (tried c.before.before.before.before.before.before.before.before.before.before) c.before.before.before.before.before.before.before.before.before.before.requires.2))
+    (c.requires.0, rw (clean c.ranges.limit) (kept-ranged c.in-Refused.is (tried c.before.before.before.before.before.before.before.before.before) c.requires.2))
 
 pub add_inside-requires : goal.add_inside-requires
 add_inside-requires c = (
-  c.before.before.before.before.before.before.requires.0,
-  rw (clean c.before.before.before.before.before.before.ranges.more) c.before.before.before.before.before.before.requires.1,
-  rw (clean_result c.halve-half) (halves-ranged c.in-Refused.is (tried c.before.before.before.before.before.before) (halves c) c.before.before.before.before.before.before.requires.2),
+  c.requires.0,
+  rw (clean c.ranges.more) c.requires.1,
+  rw (clean_result c.halve-half) (halves-ranged c.in-Refused.is (tried c.before.before.before.before.before.before.before.before.before.before.before.before.before.before.before.before.before.before) (halves c.before.before.before.before.before.before.before.before) c.requires.2),
 )
 
 pub returns-in-Within : goal.returns-in-Within
 returns-in-Within c =
-    rw (clean_element c.in-Within.sum c.known_told-1.given.0.1) (whole-fitted c.in-Within.is (tried c.before.before.before.before.before.before))
+    rw (clean_element c.in-Within.sum c.known_told-1.given.0.1) (whole-fitted c.in-Within.is (tried c.before.before.before.before.before))
 
 pub returns-in-Refused : goal.returns-in-Refused
 returns-in-Refused c =
-    half-fitted c.in-Refused.is (tried c.before.before.before.before.before.before) (halves c)
-    (rw (clean_result c.halve-half, clean c.before.before.before.before.before.before.ranges.more) at c.add_inside.ensures)
+    half-fitted c.in-Refused.is (tried c.before.before.before.before.before.before.before.before.before.before.before.before.before.before.before.before.before.before.before.before.before.before.before) (halves c.before.before.before.before.before.before.before.before.before.before.before.before.before)
+    (rw (clean_result c.halve-half, clean c.ranges.more) at c.add_inside.ensures)

@@ -20,7 +20,7 @@ asked c = rw (clean c.ranges.limit, clean c.ranges.more) at c.sums_within.ensure
 pub returns-then-sums_within : goal.returns-then-sums_within
 returns-then-sums_within c =
     rw (clean_result c.add_sums-sum)
-    (tried_in (sym (asked c.before) ∙ c.if-sums_within.true) (rw (clean c.ranges.limit, clean c.ranges.more) at c.add_sums-sum.ensures))
+    (tried_in (sym (asked c.before.before.before.before.before.before.before.before.before.before) ∙ c.if-sums_within.true) (rw (clean c.ranges.limit, clean c.ranges.more) at c.add_sums-sum.ensures))
 
 pub returns : goal.returns
 returns c = tried_full (sym (asked c.before) ∙ c.if-sums_within.false) c.requires.2.rooms

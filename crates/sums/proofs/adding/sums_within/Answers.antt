@@ -70,18 +70,18 @@ pub added_within-requires-2 : goal.added_within-requires-2
 added_within-requires-2 c = let p = c.requires in (ranged-to p.1, ranged-to p.2, pos_nonneg linear_range)
 
 pub returns-then-not-added_within-2 : goal.returns-then-not-added_within-2
-returns-then-not-added_within-2 c = sym (asked c.before.before ∙ rw (from c, call_false c.added_within-2.ensures c.if-not-added_within-2.true-raw))
+returns-then-not-added_within-2 c = sym (asked c.before.before.before.before ∙ rw (from c.before.before, call_false c.added_within-2.ensures c.if-not-added_within-2.true-raw))
 
 pub returns-then-not-within : goal.returns-then-not-within
 returns-then-not-within c =
-    sym (asked c.before.before.before.before ∙ rw (from c.before.before, to c, call_false (limit c.before) c.if-not-within.true-raw))
+    sym (asked c.before.before.before.before.before.before ∙ rw (from c.before.before.before.before, to c.before.before, call_false (limit c.before) c.if-not-within.true-raw))
 
 pub added_within-requires-3 : goal.added_within-requires-3
 added_within-requires-3 c = let p = c.requires in (ranged-low p.1, ranged-low p.2, pos_nonneg entry_range)
 
 pub returns-then-not-added_within-3 : goal.returns-then-not-added_within-3
 returns-then-not-added_within-3 c =
-    sym (asked c.before.before.before.before ∙ rw (from c.before.before, to c, call_true (limit c.before) c.if-not-within.false-raw, call_false c.added_within-3.ensures c.if-not-added_within-3.true-raw))
+    sym (asked c.before.before.before.before.before.before.before.before ∙ rw (from c.before.before.before.before.before.before, to c.before.before.before.before, call_true (limit c.before.before.before) c.if-not-within.false-raw, call_false c.added_within-3.ensures c.if-not-added_within-3.true-raw))
 
 pub added_within-requires-4 : goal.added_within-requires-4
 added_within-requires-4 c = let p = c.requires in (ranged-high p.1, ranged-high p.2, pos_nonneg entry_range)
@@ -89,4 +89,4 @@ added_within-requires-4 c = let p = c.requires in (ranged-high p.1, ranged-high 
 pub returns : goal.returns
 returns c =
     c.added_within-4.ensures
-    ∙ sym (asked c.before.before.before.before ∙ rw (from c.before.before, to c, call_true (limit c.before) c.if-not-within.false-raw, call_true c.added_within-3.ensures c.if-not-added_within-3.false-raw))
+    ∙ sym (asked c.before.before.before.before.before.before.before.before.before ∙ rw (from c.before.before.before.before.before.before.before, to c.before.before.before.before.before, call_true (limit c.before.before.before.before) c.if-not-within.false-raw, call_true c.added_within-3.ensures c.if-not-added_within-3.false-raw))

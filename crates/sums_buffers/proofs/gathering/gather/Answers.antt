@@ -46,12 +46,12 @@ inside : (c : After-measured) → Inside c.decreases.given.0.0 ≡ measured c.ar
 inside c = sym c.decreases.given.1 ∙ c.measure-measured.ensures
 
 pub gather_measured-requires : goal.gather_measured-requires
-gather_measured-requires c = inside_near _ (narrow c.before.before.before.before.before.before.before.before.before.before.before.before.before.before) (inside c)
+gather_measured-requires c = inside_near _ (narrow c.before.before.before.before.before.before.before.before.before.before.before.before) (inside c)
 
 pub returns-in-Inside : goal.returns-in-Inside
 returns-in-Inside c =
-    rw (← gathering_inside c.args.sample c.args.n (sized c) (posed c) (inside c)) (rw (clean c.ranges.n) at c.gather_measured.ensures)
+    rw (← gathering_inside c.args.sample c.args.n (sized c.before.before.before.before.before.before.before.before.before.before.before.before.before.before.before.before.before.before.before.before.before.before.before) (posed c.before.before.before.before.before.before.before.before.before.before.before.before.before.before.before.before.before.before.before.before.before.before.before) (inside c)) (rw (clean c.ranges.n) at c.gather_measured.ensures)
 
 pub returns-in-Outside : goal.returns-in-Outside
 returns-in-Outside c =
-    ap (given c) (gathering_outside c.args.sample c.args.n (sized c) (posed c) (sym c.in-Outside.is ∙ c.measure-measured.ensures))
+    ap (given c.before.before.before.before.before.before.before) (gathering_outside c.args.sample c.args.n (sized c.before.before.before.before.before.before.before) (posed c.before.before.before.before.before.before.before) (sym c.in-Outside.is ∙ c.measure-measured.ensures))

@@ -105,19 +105,19 @@ states c =
     let a = c.args in
     let F = factor_of a.m in
     stated_by
-    (ap (checked_sums F a.m.draw) (sym (arrays_front (loaded c.before.before.before.before.before) _) ∙ constraint_by p.0 p.1 p.2 p.3 (clean_result c.load_signed-running ∙ c.load_signed-running.ensures))
-    ∙ ap (λ (k : ℕ). checked_sums F a.m.draw (spelled_sums k (lent c))) (sym (lengths c).order)
-    ∙ sums-sized F a.m.draw a.n (sizes c) (posed c) (order-given a.n (λ z. c.if-order-eq0.left (order c.before.before.before.before ∙ z))) (passed c) refl)
+    (ap (checked_sums F a.m.draw) (sym (arrays_front (loaded c.before.before.before.before.before.before.before.before.before.before) _) ∙ constraint_by p.0 p.1 p.2 p.3 (clean_result c.load_signed-running ∙ c.load_signed-running.ensures))
+    ∙ ap (λ (k : ℕ). checked_sums F a.m.draw (spelled_sums k (lent c.before.before.before.before.before.before.before.before.before.before.before.before.before.before.before.before.before.before.before.before.before.before.before.before.before))) (sym (lengths c.before.before.before.before.before.before.before.before.before.before.before.before.before.before.before).order)
+    ∙ sums-sized F a.m.draw a.n (sizes c.before.before.before.before.before.before.before.before.before.before.before.before.before.before.before.before.before.before.before.before.before.before.before.before.before) (posed c.before.before.before.before.before.before.before.before.before.before.before.before.before.before.before.before.before.before.before.before.before.before.before.before.before) (order-given a.n (λ z. c.if-order-eq0.left (order c.before.before.before.before.before.before.before.before.before.before.before.before.before.before.before.before.before.before.before ∙ z))) (passed c.before.before.before.before.before.before.before.before.before.before.before.before.before.before.before) refl)
     c.add_checked-summed.ensures
 
 pub returns-then-order-eq0 : goal.returns-then-order-eq0
 unfolding constraint_entered
-returns-then-order-eq0 c = ap (given c) (no-order c.args.n (sizes c) (others c) (posed c).low (posed c).high refused (act c) (sym (order c.before) ∙ c.if-order-eq0.true))
+returns-then-order-eq0 c = ap (given c.before.before.before.before.before.before.before) (no-order c.args.n (sizes c.before.before.before.before.before.before.before) (others c.before.before.before.before.before.before.before) (posed c.before.before.before.before.before.before.before).low (posed c.before.before.before.before.before.before.before).high refused (act c.before.before.before.before.before.before.before) (sym (order c.before) ∙ c.if-order-eq0.true))
 
 pub returns-then-not-sums_sized : goal.returns-then-not-sums_sized
 unfolding constraint_entered
 returns-then-not-sums_sized c =
-    ap (given c) (no-sizes c.args.n (sizes c) (others c) (posed c).low (posed c).high refused (act c) (λ e. c.if-order-eq0.false (order c ∙ e)) (call_false (sized c.before) c.if-not-sums_sized.true-raw))
+    ap (given c.before.before.before.before.before.before.before.before.before.before) (no-sizes c.args.n (sizes c.before.before.before.before.before.before.before.before.before.before) (others c.before.before.before.before.before.before.before.before.before.before) (posed c.before.before.before.before.before.before.before.before.before.before).low (posed c.before.before.before.before.before.before.before.before.before.before).high refused (act c.before.before.before.before.before.before.before.before.before.before) (λ e. c.if-order-eq0.false (order c.before.before.before.before ∙ e)) (call_false (sized c.before) c.if-not-sums_sized.true-raw))
 
 pub load_sample-requires : goal.load_sample-requires
 unfolding constraint_entered
@@ -129,25 +129,25 @@ load_signed-running-requires c = (refl, omega (arith, (lengths c.before.before.b
 
 pub add_checked-summed-requires : goal.add_checked-summed-requires
 unfolding constraint_entered
-add_checked-summed-requires c = (c.before.before.before.before.before.requires, loaded c)
+add_checked-summed-requires c = (c.requires, loaded c.before.before.before.before.before.before.before.before.before)
 
 pub store_sums-requires : goal.store_sums-requires
 unfolding constraint_entered
-store_sums-requires c = (omega arith, (states c).rooms, lying c.before.before.before.before.before.before.before.before.before.before.before.before.before.before.before)
+store_sums-requires c = (omega arith, (states c.before.before.before.before.before.before.before.before.before.before.before.before.before).rooms, lying c.before.before.before.before.before.before.before.before.before.before.before.before.before.before.before.before.before.before.before.before.before.before.before.before.before.before.before.before)
 
 pub store_signed-requires : goal.store_signed-requires
 unfolding constraint_entered
-store_signed-requires c = (refl, omega (arith, (lengths c.before.before.before.before.before.before.before.before.before.before.before.before.before.before.before.before.before.before.before.before.before.before.before.before.before.before.before.before.before.before.before.before.before.before.before.before.before.before.before.before).limit))
+store_signed-requires c = (refl, omega (arith, (lengths c.before.before.before.before.before.before.before.before.before.before.before.before.before.before.before.before.before.before.before.before.before.before.before.before.before.before.before.before.before.before.before.before.before.before.before.before.before.before).limit))
 
 pub returns-in-Within : goal.returns-in-Within
 unfolding constraint_entered
 returns-in-Within c =
     let q = c.store_sums.ensures in
-    laid-taken (λ t. bytes_of w64 t (factor_count * factor_count)) (λ x. bytes_of w64 x factor_count) bytes_of_number (states c) (lent c.before.before.before.before.before.before.before.before.before.before.before.before.before.before.before) c.in-Within.sum c.in-Within.is
+    laid-taken (λ t. bytes_of w64 t (factor_count * factor_count)) (λ x. bytes_of w64 x factor_count) bytes_of_number (states c.before.before.before.before.before.before.before.before.before.before.before.before.before.before.before.before.before.before.before.before.before.before.before.before.before.before) (lent c.before.before.before.before.before.before.before.before.before.before.before.before.before.before.before.before.before.before.before.before.before.before.before.before.before.before.before.before.before.before.before.before.before.before.before.before.before.before.before.before.before.before.before.before.before.before.before.before.before.before.before) c.in-Within.sum c.in-Within.is
     q.0 q.1 q.2 q.3
-    (number-stored (lent c.before.before.before.before.before.before.before.before.before.before.before.before.before.before.before).limit (lengths c.before.before.before.before.before.before.before.before.before.before.before.before.before.before.before).limit (clean_element c.in-Within.sum c.known_told-1.given.0.1) c.store_signed.ensures)
+    (number-stored (lent c.before.before.before.before.before.before.before.before.before.before.before.before.before.before.before.before.before.before.before.before.before.before.before.before.before.before.before.before.before.before.before.before.before.before.before.before.before.before.before.before.before.before.before.before.before.before.before.before.before.before.before).limit (lengths c.before.before.before.before.before.before.before.before.before.before.before.before.before.before.before.before.before.before.before.before.before.before.before.before.before.before.before.before.before.before.before.before.before.before.before.before.before.before.before.before.before).limit (clean_element c.in-Within.sum c.known_told-1.given.0.1) c.store_signed.ensures)
 
 pub returns-in-Refused : goal.returns-in-Refused
 unfolding constraint_entered
 returns-in-Refused c =
-    laid-refused (λ t. bytes_of w64 t (factor_count * factor_count)) (λ x. bytes_of w64 x factor_count) bytes_of_number (states c) (lent c.before.before.before.before.before.before.before.before.before.before.before.before.before.before.before.before.before.before.before.before.before.before.before.before.before.before.before.before.before.before.before.before) c.in-Refused.r c.in-Refused.is
+    laid-refused (λ t. bytes_of w64 t (factor_count * factor_count)) (λ x. bytes_of w64 x factor_count) bytes_of_number (states c.before.before.before.before.before) (lent c.before.before.before.before.before.before.before.before.before.before.before.before.before.before.before.before.before.before.before.before.before.before.before.before.before.before.before.before.before.before) c.in-Refused.r c.in-Refused.is

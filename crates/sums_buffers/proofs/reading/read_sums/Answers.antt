@@ -80,19 +80,19 @@ Lent s =
     × (length s.args.limit.now ≡ bytes w64)
 
 lent : (c : After-read_sized) → c.read_sized-sized.result ≡ true → Lent c.before.before.before.before.before.before.before.before.before
-lent c e = read-sizes-of (order_of c.before.before.before.args.n) (lengths c.before.before.before) (length c.before.before.before.args.limit.now) (sym (sized c) ∙ e)
+lent c e = read-sizes-of (order_of c.args.n) (lengths c.before.before.before.before.before.before.before.before.before) (length c.args.limit.now) (sym (sized c) ∙ e)
 
 passed : (c : After-load_bounds) → c.read_sized-sized.result ≡ true
 passed c = call_true refl c.if-not-sized.false-raw
 
-read : (c : After-read_checked) → c.read_checked-reading.result ≡ read_sums c.before.before.before.before.before.args.n (sizes c.before.before.before.before.before) c.before.before.before.before.before.args.allowance (sums c.before.before.before.before.before)
+read : (c : After-read_checked) → c.read_checked-reading.result ≡ read_sums c.args.n (sizes c.before.before.before.before.before.before.before.before.before.before.before.before.before.before.before.before.before.before.before.before.before.before) c.args.allowance (sums c.before.before.before.before.before.before.before.before.before.before.before.before.before.before.before.before.before.before.before.before.before.before)
 read c =
     let a = c.args in
     reading-spelled (order_of a.n) a.low.now a.high.now a.from.now a.to.now _ _ _ _ a.running (order_small a.n)
-    (laid_by a.low.now a.high.now (order c.before.before.before.before.before.before.before.before) (passed c) c.load_bounds.ensures)
-    (terms_by (order c.before.before.before.before.before.before.before.before) (passed c) c.load_terms.ensures) (terms_by (order c.before.before.before.before.before.before.before.before) (passed c) c.load_terms-2.ensures) a.allowance
-    c.read_checked-reading.ensures (order c.before.before.before.before.before.before.before.before) (clean c.ranges.running) (clean c.ranges.allowance)
-    ∙ reading-sized a.n (sizes c) a.allowance (sums c) (order-given a.n (λ z. c.if-m-eq0.left (order c.before.before.before.before.before.before.before.before ∙ z))) (sym (sized c.before.before.before.before.before.before.before.before) ∙ passed c) refl
+    (laid_by a.low.now a.high.now (order c.before.before.before.before.before.before.before.before.before.before.before.before.before.before.before.before) (passed c.before.before.before.before.before) c.load_bounds.ensures)
+    (terms_by (order c.before.before.before.before.before.before.before.before.before.before.before.before.before.before.before.before) (passed c.before.before.before.before.before) c.load_terms.ensures) (terms_by (order c.before.before.before.before.before.before.before.before.before.before.before.before.before.before.before.before) (passed c.before.before.before.before.before) c.load_terms-2.ensures) a.allowance
+    c.read_checked-reading.ensures (order c.before.before.before.before.before.before.before.before.before.before.before.before.before.before.before.before) (clean c.ranges.running) (clean c.ranges.allowance)
+    ∙ reading-sized a.n (sizes c.before.before.before.before.before.before.before.before.before.before.before.before.before.before.before.before.before.before.before.before.before.before) a.allowance (sums c.before.before.before.before.before.before.before.before.before.before.before.before.before.before.before.before.before.before.before.before.before.before) (order-given a.n (λ z. c.if-m-eq0.left (order c.before.before.before.before.before.before.before.before.before.before.before.before.before.before.before.before ∙ z))) (sym (sized c.before.before.before.before.before.before.before.before.before.before.before.before.before) ∙ passed c.before.before.before.before.before) refl
 
 -- what check 3 finds beside the tables
 abbrev others : Start → Bool
@@ -125,22 +125,22 @@ overflow_mul-sizes-3 c = record { fits = omega (arith, small c.before) }
 pub returns-then-not-sized : goal.returns-then-not-sized
 unfolding read_sums constraint_entered
 returns-then-not-sized c =
-    ap (given c) (no-sizes _ _ (others c) _ _ Reading.Refused (act c) (λ e. c.if-m-eq0.false (order c ∙ e)) (call_false (sized c.before) c.if-not-sized.true-raw))
+    ap (given c.before.before.before.before.before.before.before.before.before.before) (no-sizes _ _ (others c.before.before.before.before.before.before.before.before.before.before) _ _ Reading.Refused (act c.before.before.before.before.before.before.before.before.before.before) (λ e. c.if-m-eq0.false (order c.before.before.before.before ∙ e)) (call_false (sized c.before) c.if-not-sized.true-raw))
 
 pub load_terms-requires : goal.load_terms-requires
 unfolding read_sums constraint_entered
 load_terms-requires c =
-    rw (order c.before.before.before.before.before) (order_small _, (λ s. let z = lent c s in omega (arith, z.2)), refl)
+    rw (order c.before.before.before.before.before) (order_small _, (λ s. let z = lent c.before.before s in omega (arith, z.2)), refl)
 
 pub load_terms-requires-2 : goal.load_terms-requires-2
 unfolding read_sums constraint_entered
 load_terms-requires-2 c =
-    rw (order c.before.before.before.before.before.before.before) (order_small _, (λ s. let z = lent c s in omega (arith, z.3)), refl)
+    rw (order c.before.before.before.before.before.before.before) (order_small _, (λ s. let z = lent c.before.before.before.before s in omega (arith, z.3)), refl)
 
 pub load_bounds-requires : goal.load_bounds-requires
 unfolding read_sums constraint_entered
 load_bounds-requires c =
-    rw (order c.before.before.before.before.before.before.before.before.before.before) (order_small _, (λ s. let z = lent c s in (omega (arith, z.0), omega (arith, z.1))), refl, refl)
+    rw (order c.before.before.before.before.before.before.before.before.before.before) (order_small _, (λ s. let z = lent c.before.before.before.before.before.before.before s in (omega (arith, z.0), omega (arith, z.1))), refl, refl)
 
 pub slice_bounds-read_checked-end : goal.slice_bounds-read_checked-end
 unfolding read_sums constraint_entered
@@ -161,15 +161,15 @@ slice_bounds-read_checked-end-4 c = sym c.load_terms-2.ensures.size
 pub read_checked-reading-requires : goal.read_checked-reading-requires
 unfolding read_sums constraint_entered
 read_checked-reading-requires c =
-    let m = small c.before.before.before.before.before.before.before.before.before.before.before.before in
-    let f = order_fits _ (order c.before.before.before.before.before.before.before.before.before.before.before.before) in
+    let m = small c.before.before.before.before.before.before.before.before.before.before.before.before.before.before.before in
+    let f = order_fits _ (order c.before.before.before.before.before.before.before.before.before.before.before.before.before.before.before) in
     let r = c.load_bounds.ensures.rooms in
     (m, omega (arith, f, r.low-size), omega (arith, f, r.high-size), omega (arith, m, c.load_terms.ensures.size), omega (arith, m, c.load_terms-2.ensures.size))
 
 pub store_signed-requires : goal.store_signed-requires
 unfolding read_sums constraint_entered
 store_signed-requires c =
-    (refl, omega (arith, (lent c.before.before.before.before.before.before.before.before (passed c)).4))
+    (refl, omega (arith, (lent c.before.before.before.before.before.before.before.before.before.before.before.before.before.before.before (passed c.before.before.before.before.before.before.before)).4))
 
 pub returns-in-Limit : goal.returns-in-Limit
 unfolding read_sums constraint_entered
@@ -177,9 +177,9 @@ returns-in-Limit c =
     let v = c.in-Limit.alpha in
     let f = clean_element v c.known_told-1.given.0.1 in
     ap₂ (λ (w : ℤ) (o : List ℕ). record { answer = Reading.Limit w; limit = o }) f
-    (number-stored c.args.limit.now (lent c.before.before.before.before.before.before.before.before (passed c)).4 f c.store_signed.ensures)
-    ∙ ap (given c) (sym c.in-Limit.is ∙ read c)
+    (number-stored c.args.limit.now (lent c.before.before.before.before.before.before.before.before.before.before.before.before.before.before.before.before.before.before (passed c.before.before.before.before.before.before.before.before.before.before)).4 f c.store_signed.ensures)
+    ∙ ap (given c.before.before.before.before.before.before.before.before.before.before.before.before.before.before.before.before.before.before.before.before.before.before.before.before.before.before.before) (sym c.in-Limit.is ∙ read c.before.before.before.before.before)
 
 pub returns-in-Refused : goal.returns-in-Refused
 unfolding read_sums constraint_entered
-returns-in-Refused c = ap (given c.before.before.before.before.before.before.before.before.before.before.before.before.before.before.before.before.before.before.before.before.before.before.before.before.before) (sym c.in-Refused.is ∙ read c)
+returns-in-Refused c = ap (given c.before.before.before.before.before.before.before.before.before.before.before.before.before.before.before.before.before.before.before.before.before.before.before) (sym c.in-Refused.is ∙ read c.before)

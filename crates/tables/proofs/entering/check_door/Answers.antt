@@ -24,11 +24,11 @@ order c = rw (clean c.ranges.n) at c.order_of.ensures
 
 pub returns-in-Refused : goal.returns-in-Refused
 returns-in-Refused c =
-    record { answered = sym (no-more-checks _ _ _ (sym (entry c) ∙ c.in-Refused.is)); low-size = refl; high-size = refl; low = λ q. cc q; high = λ q. cc q }
+    record { answered = sym (no-more-checks _ _ _ (sym (entry c.before) ∙ c.in-Refused.is)); low-size = refl; high-size = refl; low = λ q. cc q; high = λ q. cc q }
 
 pub check_laid-requires : goal.check_laid-requires
 check_laid-requires c = rw (order c.before.before) (order_small _, order_fits _ refl, c.requires)
 
 pub returns : goal.returns
 returns c =
-    mended-after _ (sym (entry c.before.before.before) ∙ c.in_default.is) (rw (order c) at c.check_laid.ensures)
+    mended-after _ (sym (entry c.before.before.before.before.before) ∙ c.in_default.is) (rw (order c.before.before.before) at c.check_laid.ensures)

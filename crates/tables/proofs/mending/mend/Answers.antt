@@ -32,7 +32,7 @@ loop-i-init c = (omega arith, refl, refl)
 pub mend_row-requires : goal.mend_row-requires
 unfolding joined_rows
 mend_row-requires c =
-    (c.requires.0, omega arith, omega (arith, low-kept c, high-kept c), omega (arith, low-kept c, high-kept c))
+    (c.requires.0, omega arith, omega (arith, low-kept c.before.before.before, high-kept c.before.before.before), omega (arith, low-kept c.before.before.before, high-kept c.before.before.before))
 
 pub loop-i-preserved : goal.loop-i-preserved
 unfolding joined_rows

@@ -36,10 +36,10 @@ returns-then-not-within c = rw (not-true c.args.within c.if-not-within.true-raw)
 
 pub returns-in-Passed : goal.returns-in-Passed
 returns-in-Passed c =
-    let p = c.before.before.before.requires in
-    rw (not-false c.before.before.before.args.within c.before.before.before.if-not-within.false-raw)
+    let p = c.requires in
+    rw (not-false c.args.within c.if-not-within.false-raw)
     (apart _ _ _ p.1 p.2 (sym c.in-Passed.is ∙ c.check_apart-checked.ensures) c.mend.ensures.0 c.mend.ensures.1)
 
 pub returns-in-Refused : goal.returns-in-Refused
 returns-in-Refused c =
-    rw (not-false c.before.before.before.args.within c.before.before.before.if-not-within.false-raw) (kept true _ _ _ (sym c.in-Refused.is ∙ c.check_apart-checked.ensures))
+    rw (not-false c.args.within c.if-not-within.false-raw) (kept true _ _ _ (sym c.in-Refused.is ∙ c.check_apart-checked.ensures))

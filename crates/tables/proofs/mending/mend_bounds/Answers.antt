@@ -29,8 +29,8 @@ module _ (n : ℕ) (l u : List ℤ) (h : n * n ≤ length l) (k : n * n ≤ leng
 
 pub returns-then-tables_bounded : goal.returns-then-tables_bounded
 returns-then-tables_bounded c =
-    let p = c.before.before.before.requires in
-    rw c.before.before.before.if-within.true (even _ _ _ p.1 p.2 (sym c.tables_bounded.ensures ∙ c.if-tables_bounded.true))
+    let p = c.requires in
+    rw c.if-within.true (even _ _ _ p.1 p.2 (sym c.tables_bounded.ensures ∙ c.if-tables_bounded.true))
 
 pub returns : goal.returns
 returns c = c.mend_apart.ensures

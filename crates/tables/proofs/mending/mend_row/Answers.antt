@@ -54,16 +54,16 @@ module _ (c : In-loop) where
   q = c.loop-j.j * c.args.n + c.args.i
 
   low_first : p < length c.loop-j.low
-  low_first = omega (arith, inside c.requires.1 column, low-kept c)
+  low_first = omega (arith, inside c.requires.1 column, low-kept c.before)
 
   low_second : q < length c.loop-j.low
-  low_second = omega (arith, inside column c.requires.1, low-kept c)
+  low_second = omega (arith, inside column c.requires.1, low-kept c.before)
 
   high-first : p < length c.loop-j.high
-  high-first = omega (arith, inside c.requires.1 column, high-kept c)
+  high-first = omega (arith, inside c.requires.1 column, high-kept c.before)
 
   high-second : q < length c.loop-j.high
-  high-second = omega (arith, inside column c.requires.1, high-kept c)
+  high-second = omega (arith, inside column c.requires.1, high-kept c.before)
 
   eighth_first : Fits w64 (p * 8)
   eighth_first = record { fits = omega (arith, table_fits c.requires.0, inside c.requires.1 column) }
@@ -77,12 +77,12 @@ loop-j-preserved c =
     let s = c.loop-j in
     let a = c.args in
     let x = clean_result c.greater-greatest
-    ∙ (rw (clean_element (nth s.low (p c)) c.greater-arg-1.given, clean_element (nth s.low (q c)) c.greater-arg-in-loop-j-1.given) at c.greater-greatest.ensures) in
+    ∙ (rw (clean_element (nth s.low (p c.before.before.before.before.before.before.before.before.before.before.before.before)) c.greater-arg-1.given, clean_element (nth s.low (q c.before.before.before.before.before.before.before.before.before.before.before.before)) c.greater-arg-in-loop-j-1.given) at c.greater-greatest.ensures) in
     let y = clean_result c.smaller-least
-    ∙ (rw (clean_element (nth s.high (p c)) c.smaller-arg-1.given, clean_element (nth s.high (q c)) c.smaller-arg-in-loop-j-1.given) at c.smaller-least.ensures) in (
+    ∙ (rw (clean_element (nth s.high (p c.before.before.before.before.before.before.before.before.before.before.before.before)) c.smaller-arg-1.given, clean_element (nth s.high (q c.before.before.before.before.before.before.before.before.before.before.before.before)) c.smaller-arg-in-loop-j-1.given) at c.smaller-least.ensures) in (
       omega arith,
-      ◌∙◌ {b = joined max_ℤ s.low (p c) (q c)} (rw x at c.put_pair.ensures) (ap (λ (t : List ℤ). joined max_ℤ t (p c) (q c)) s.inv.1 ∙ rw add-one refl),
-      ◌∙◌ {b = joined min_ℤ s.high (p c) (q c)} (rw y at c.put_pair-in-loop-j.ensures) (ap (λ (t : List ℤ). joined min_ℤ t (p c) (q c)) s.inv.2 ∙ rw add-one refl),
+      ◌∙◌ {b = joined max_ℤ s.low (p c.before.before.before.before.before.before.before.before.before.before.before.before) (q c.before.before.before.before.before.before.before.before.before.before.before.before)} (rw x at c.put_pair.ensures) (ap (λ (t : List ℤ). joined max_ℤ t (p c.before.before.before.before.before.before.before.before.before.before.before.before) (q c.before.before.before.before.before.before.before.before.before.before.before.before)) s.invariant.1 ∙ rw add-one refl),
+      ◌∙◌ {b = joined min_ℤ s.high (p c.before.before.before.before.before.before.before.before.before.before.before.before) (q c.before.before.before.before.before.before.before.before.before.before.before.before)} (rw y at c.put_pair-in-loop-j.ensures) (ap (λ (t : List ℤ). joined min_ℤ t (p c.before.before.before.before.before.before.before.before.before.before.before.before) (q c.before.before.before.before.before.before.before.before.before.before.before.before)) s.invariant.2 ∙ rw add-one refl),
     )
 
 pub loop-j-init : goal.loop-j-init
@@ -123,7 +123,7 @@ slice_copy_out-greater-in-loop-j c = low_second c.before
 
 pub put_pair-requires : goal.put_pair-requires
 unfolding joined_row
-put_pair-requires c = (low_first c, low_second c)
+put_pair-requires c = (low_first c.before.before.before.before, low_second c.before.before.before.before)
 
 pub offset_bounds-high-p : goal.offset_bounds-high-p
 unfolding joined_row
@@ -143,7 +143,7 @@ slice_copy_out-smaller-in-loop-j c = high-second c.before.before.before.before.b
 
 pub put_pair-requires-in-loop-j : goal.put_pair-requires-in-loop-j
 unfolding joined_row
-put_pair-requires-in-loop-j c = (high-first c, high-second c)
+put_pair-requires-in-loop-j c = (high-first c.before.before.before.before.before.before.before.before.before.before, high-second c.before.before.before.before.before.before.before.before.before.before)
 
 pub shape_of-low : goal.shape_of-low
 unfolding joined_row

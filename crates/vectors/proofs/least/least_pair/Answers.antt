@@ -23,4 +23,4 @@ pub returns : goal.returns
 unfolding least_pair
 returns c =
     clean_result c.least_term ∙ c.least_term.ensures
-    ∙ rw (clean_result c.entry-l, clean_result c.entry-u, c.entry-l.ensures, c.entry-u.ensures, clean (overflow_mul-x c), clean_element (nth c.args.x.now c.args.i) c.least_term-arg-1.given, clean_element _ c.least_term-arg-2-1.given)
+    ∙ rw (clean_result c.entry-l, clean_result c.entry-u, c.entry-l.ensures, c.entry-u.ensures, clean (overflow_mul-x c.before), clean_element (nth c.args.x.now c.args.i) c.least_term-arg-1.given, clean_element _ c.least_term-arg-2-1.given)

@@ -25,7 +25,7 @@ overflow_mul-result-3 c =
 pub overflow_add-result : goal.overflow_add-result
 overflow_add-result c =
     let p = c.requires in
-    rw (clean (overflow_mul-result c), clean (overflow_mul-result-3 c), clean_result c.entry-l, c.entry-l.ensures, clean (overflow_mul-result-2 c), clean_result c.least_row-row, c.least_row-row.ensures, clean_element _ c.result-1.given)
+    rw (clean (overflow_mul-result c.before.before), clean (overflow_mul-result-3 c), clean_result c.entry-l, c.entry-l.ensures, clean (overflow_mul-result-2 c), clean_result c.least_row-row, c.least_row-row.ensures, clean_element _ c.result-1.given)
     (share_adds p.0 p.1)
 
 pub returns-then-x-i-eq0 : goal.returns-then-x-i-eq0
@@ -36,4 +36,4 @@ pub returns : goal.returns
 unfolding least_share
 returns c =
     clean (overflow_add-result c)
-    ∙ rw (clean (overflow_mul-result c), clean (overflow_mul-result-3 c), clean_result c.entry-l, c.entry-l.ensures, clean (overflow_mul-result-2 c), clean_result c.least_row-row, c.least_row-row.ensures, clean_element _ c.result-1.given)
+    ∙ rw (clean (overflow_mul-result c.before.before), clean (overflow_mul-result-3 c), clean_result c.entry-l, c.entry-l.ensures, clean (overflow_mul-result-2 c), clean_result c.least_row-row, c.least_row-row.ensures, clean_element _ c.result-1.given)

@@ -54,7 +54,7 @@ shown s = let a = s.args in tested-means a.n _ a.low.now a.high.now a.x.now
 
 pub returns-then-m-eq0 : goal.returns-then-m-eq0
 unfolding vector_test vector_tested
-returns-then-m-eq0 c = exactly (means c) (shown c) _ (no-order _ _ _ _ _ Answer.Refused _ (sym (order c.before) ∙ c.if-m-eq0.true))
+returns-then-m-eq0 c = exactly (means c.before.before) (shown c.before.before) _ (no-order _ _ _ _ _ Answer.Refused _ (sym (order c.before) ∙ c.if-m-eq0.true))
 
 pub overflow_mul-m : goal.overflow_mul-m
 unfolding vector_test vector_tested
@@ -63,12 +63,12 @@ overflow_mul-m c = record { fits = omega (arith, order_fits _ (order c.before)) 
 pub enter-checked-requires : goal.enter-checked-requires
 unfolding vector_test vector_tested
 enter-checked-requires c =
-    ((λ s. rw (clean c.ranges.n) (let z = sizes-of _ _ _ _ _ (sym (sized c) ∙ s) in (z.0, z.1))), refl, refl)
+    ((λ s. rw (clean c.ranges.n) (let z = sizes-of _ _ _ _ _ (sym (sized c.before.before) ∙ s) in (z.0, z.1))), refl, refl)
 
 pub returns-in-Refused : goal.returns-in-Refused
 unfolding vector_test vector_tested
 returns-in-Refused c =
-    exactly (means c) (shown c) _ (entered-refused _ _ _ _ _ Answer.Refused _ (came c) c.in-Refused.is)
+    exactly (means c.before.before.before.before.before.before.before) (shown c.before.before.before.before.before.before.before) _ (entered-refused _ _ _ _ _ Answer.Refused _ (came c.before) c.in-Refused.is)
 
 pub slice_bounds-answer-end : goal.slice_bounds-answer-end
 unfolding vector_test vector_tested
@@ -82,13 +82,13 @@ pub answer-requires : goal.answer-requires
 unfolding vector_test vector_tested
 answer-requires c =
     let q = c.in_default.is in
-    let z = sizes-of _ _ _ _ _ (came-through _ _ _ _ _ (came c) q).sizes in
-    rw (order c.before.before.before.before.before.before.before.before.before) (((came c).held q).tables, omega (arith, z.2))
+    let z = sizes-of _ _ _ _ _ (came-through _ _ _ _ _ (came c.before.before.before) q).sizes in
+    rw (order c.before.before.before.before.before.before.before.before) (((came c.before.before.before).held q).tables, omega (arith, z.2))
 
 pub returns : goal.returns
 unfolding vector_test vector_tested
 returns c =
     let q = c.in_default.is in
-    let h = (came c).held q in
-    exactly (means c) (shown c) _
-    ((rw (order c.before.before.before.before.before.before.before, h.low, h.high) at c.answer.ensures) ∙ entered-passed _ _ _ _ _ Answer.Refused _ (came c) q)
+    let h = (came c.before.before.before.before).held q in
+    exactly (means c.before.before.before.before.before.before.before.before.before.before) (shown c.before.before.before.before.before.before.before.before.before.before) _
+    ((rw (order c.before.before.before.before.before.before.before.before.before, h.low, h.high) at c.answer.ensures) ∙ entered-passed _ _ _ _ _ Answer.Refused _ (came c.before.before.before.before) q)

@@ -34,22 +34,22 @@ returns-in-Definite c =
     let w = c.in-Definite.v in
     rw (clean_element w c.known_told-1.given.0.1)
     (ap (λ (t : List ℤ). record { verdict = Verdict.Definite w; factor = t; vector = c.args.vector.now }) (whole (d.room ∙ c.requires.3))
-    ∙ made_of (given c) {g = of c} d (Verdict.Definite w) c.in-Definite.is)
+    ∙ made_of (given c.before.before.before.before.before.before.before) {g = of c.before.before.before.before.before.before.before} d (Verdict.Definite w) c.in-Definite.is)
 
 pub returns-in-NotDefinite : goal.returns-in-NotDefinite
 unfolding stated left_by
 returns-in-NotDefinite c =
     let d = c.decide-verdict.ensures in
     let q = c.in-NotDefinite.is in
-    rw (left_as {g = of c} d Verdict.NotDefinite q, c.copy_numbers.ensures ∙ copied-whole _ _ (omega (arith, c.requires.0.order, d.size)) c.requires.4)
-    (made_of (given c) {g = of c} d Verdict.NotDefinite q)
+    rw (left_as {g = of c.before.before.before.before.before.before.before.before.before.before.before} d Verdict.NotDefinite q, c.copy_numbers.ensures ∙ copied-whole _ _ (omega (arith, c.requires.0.order, d.size)) c.requires.4)
+    (made_of (given c.before.before.before.before.before.before.before.before.before.before.before) {g = of c.before.before.before.before.before.before.before.before.before.before.before} d Verdict.NotDefinite q)
 
 pub returns-in-Undecided : goal.returns-in-Undecided
 unfolding stated left_by
 returns-in-Undecided c =
     let d = c.decide-verdict.ensures in
     let q = c.in-Undecided.is in
-    rw (left_as {g = of c} d Verdict.Undecided q) (made_of (given c) {g = of c} d Verdict.Undecided q)
+    rw (left_as {g = of c.before.before.before.before.before.before.before} d Verdict.Undecided q) (made_of (given c.before.before.before.before.before.before.before) {g = of c.before.before.before.before.before.before.before} d Verdict.Undecided q)
 
 pub returns-in-Refused : goal.returns-in-Refused
 unfolding stated left_by
@@ -57,4 +57,4 @@ returns-in-Refused c =
     let d = c.decide-verdict.ensures in
     let r = c.in-Refused.r in
     let q = c.in-Refused.is in
-    rw (left_as {g = of c} d (Verdict.Refused r) q) (made_of (given c) {g = of c} d (Verdict.Refused r) q)
+    rw (left_as {g = of c.before.before.before.before.before.before.before} d (Verdict.Refused r) q) (made_of (given c.before.before.before.before.before.before.before) {g = of c.before.before.before.before.before.before.before} d (Verdict.Refused r) q)

@@ -18,10 +18,10 @@ returns-then-not-solve c =
 pub shows-requires : goal.shows-requires
 shows-requires c =
     let e : c.solve.result ≡ true = call_true refl c.if-not-solve.false-raw in
-    solved-asked c.before.before.before.before.requires.0 c.before.before.before.before.requires.1 c.before.before.before.before.args.s c.before.before.before.before.requires.2 (rw (clean c.before.before.before.before.ranges.s, e) at c.solve.ensures)
+    solved-asked c.requires.0 c.requires.1 c.args.s c.requires.2 (rw (clean c.ranges.s, e) at c.solve.ensures)
 
 pub returns : goal.returns
 returns c =
     let e : c.solve.result ≡ true = call_true refl c.if-not-solve.false-raw in
-    let a = c.before.before.before.before.before.args in
-    solved-one _ {o = solved a.n (stopped_at a.t.now a.j a.m) a.s} (rw (clean c.before.before.before.before.before.ranges.s, e) at c.solve.ensures) _ (rw c.shows.ensures (shows_ext _ _ _ _ _ (nth-tabulate _ _)))
+    let a = c.args in
+    solved-one _ {o = solved a.n (stopped_at a.t.now a.j a.m) a.s} (rw (clean c.ranges.s, e) at c.solve.ensures) _ (rw c.shows.ensures (shows_ext _ _ _ _ _ (nth-tabulate _ _)))

@@ -45,19 +45,19 @@ table s = head + s.args.n * s.args.n * bytes w32
 first : (c : After-put_order) → Put c.args.file.now 0 (bytes_of_entries (order c.before.before.before ∷ [])) (head + 1) c.put_order-at.result c.put_order-at.new.file
 first c = one-put (order c.before.before.before) c.put_order-at.ensures
 
-second : (c : After-put_numbers) → Put c.before.before.before.before.args.file.now 0 (bytes_of_entries (order c.before.before.before.before ∷ low c.before.before.before.before ∷ [])) (head + 1 + table c.before.before.before.before) c.put_numbers-next.result c.put_numbers-next.new.file
-second c = next-put (order c.before.before.before.before ∷ []) (low c.before.before.before.before) (omega arith) (first c.before.before.before.before) c.put_numbers-next.ensures
+second : (c : After-put_numbers) → Put c.args.file.now 0 (bytes_of_entries (order c.before.before.before.before.before.before.before ∷ low c.before.before.before.before.before.before.before ∷ [])) (head + 1 + table c.before.before.before.before.before.before.before) c.put_numbers-next.result c.put_numbers-next.new.file
+second c = next-put (order c.before.before.before.before.before.before.before ∷ []) (low c.before.before.before.before.before.before.before) (omega arith) (first c.before.before.before.before) c.put_numbers-next.ensures
 
 pub put_numbers-next-requires : goal.put_numbers-next-requires
 put_numbers-next-requires c =
     let t = table_fits c.requires.0 in
-    (refl, omega (arith, c.requires.1, c.requires.2), put_room (first c) (table c) (omega (arith, c.requires.3)), omega arith)
+    (refl, omega (arith, c.requires.1, c.requires.2), put_room (first c.before.before.before) (table c.before.before.before.before.before.before) (omega (arith, c.requires.3)), omega arith)
 
 pub put_numbers-requires : goal.put_numbers-requires
 put_numbers-requires c =
-    let t = table_fits c.before.before.before.before.before.before.before.requires.0 in
-    (refl, omega (arith, c.before.before.before.before.before.before.before.requires.1, c.before.before.before.before.before.before.before.requires.2), put_room (second c) (table c.before.before.before.before.before.before.before) (omega (arith, c.before.before.before.before.before.before.before.requires.3)), omega arith)
+    let t = table_fits c.requires.0 in
+    (refl, omega (arith, c.requires.1, c.requires.2), put_room (second c.before.before.before) (table c.before.before.before.before.before.before.before.before.before.before) (omega (arith, c.requires.3)), omega arith)
 
 pub returns : goal.returns
 returns c =
-    put-within (next-put (order c.before.before.before.before.before.before.before.before ∷ low c.before.before.before.before.before.before.before.before ∷ []) (high c.before.before.before.before.before.before.before.before) (omega arith) (second c) c.put_numbers.ensures) (omega arith)
+    put-within (next-put (order c.before.before.before.before.before.before.before.before.before.before.before.before.before ∷ low c.before.before.before.before.before.before.before.before.before.before.before.before.before ∷ []) (high c.before.before.before.before.before.before.before.before.before.before.before.before.before) (omega arith) (second c.before.before.before.before.before.before) c.put_numbers.ensures) (omega arith)

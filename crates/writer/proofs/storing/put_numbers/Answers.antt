@@ -29,6 +29,6 @@ returns c =
     let a = c.args in
     let n = a.count * a.size in
     let t = bytes_of (width_of a.size) a.x.now a.count in
-    field_put a.kind t (size c) (omega (arith, c.requires.2)) c.put_head-start.ensures
-    (part-put _ _ t _ n (size c) (each c) (put_room c.put_head-start.ensures n c.requires.2)
+    field_put a.kind t (size c.before.before.before.before.before.before.before.before.before) (omega (arith, c.requires.2)) c.put_head-start.ensures
+    (part-put _ _ t _ n (size c.before.before.before.before.before.before.before.before.before) (each c.before.before.before.before.before.before.before.before.before) (put_room c.put_head-start.ensures n c.requires.2)
     c.store_numbers.ensures)

@@ -39,9 +39,9 @@ pub returns : goal.returns
 returns c =
     let h = c.requires.4 in
     put-within
-    (next-put (from c ∷ limit c ∷ centre c ∷ []) (to c) (omega arith)
-    (next-put (from c ∷ limit c ∷ []) (centre c) (omega arith)
-    (next-put (from c ∷ []) (limit c) (omega arith) (one-put (from c) c.put_numbers-at_limit.ensures) (put_by (ap (λ (α : ℤ). entry_bytes (number α)) (clean c.ranges.limit)) c.put_numbers-at_centre.ensures))
+    (next-put (from c.before.before.before.before.before.before.before.before.before.before.before.before.before.before.before.before.before.before ∷ limit c.before.before.before.before.before.before.before.before.before.before.before.before.before.before.before.before.before.before ∷ centre c.before.before.before.before.before.before.before.before.before.before.before.before.before.before.before.before.before.before ∷ []) (to c.before.before.before.before.before.before.before.before.before.before.before.before.before.before.before.before.before.before) (omega arith)
+    (next-put (from c.before.before.before.before.before.before.before.before.before.before.before.before.before.before.before.before.before.before ∷ limit c.before.before.before.before.before.before.before.before.before.before.before.before.before.before.before.before.before.before ∷ []) (centre c.before.before.before.before.before.before.before.before.before.before.before.before.before.before.before.before.before.before) (omega arith)
+    (next-put (from c.before.before.before.before.before.before.before.before.before.before.before.before.before.before.before.before.before.before ∷ []) (limit c.before.before.before.before.before.before.before.before.before.before.before.before.before.before.before.before.before.before) (omega arith) (one-put (from c.before.before.before.before.before.before.before.before.before.before.before.before.before.before.before.before.before.before) c.put_numbers-at_limit.ensures) (put_by (ap (λ (α : ℤ). entry_bytes (number α)) (clean c.ranges.limit)) c.put_numbers-at_centre.ensures))
     c.put_numbers-at_high.ensures)
     c.put_numbers.ensures)
     (omega arith)

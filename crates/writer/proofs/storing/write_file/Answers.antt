@@ -56,6 +56,6 @@ pub returns : goal.returns
 unfolding file_of whole_file
 returns c =
     let α = c.args.limit in
-    let same = ap (λ (x : ℤ). bytes_of_entries (terms c x)) (clean c.ranges.limit) in
-    put_whole (file_of (posed c)) (file-length (posed c) ∙ sym c.requires.1)
-    (entries-put (bounds c) (terms c α) (omega arith) c.put_bounds-at.ensures (put_by same c.put_terms.ensures))
+    let same = ap (λ (x : ℤ). bytes_of_entries (terms c.before.before.before.before.before.before.before.before.before.before.before.before.before.before x)) (clean c.ranges.limit) in
+    put_whole (file_of (posed c.before.before.before.before.before.before.before.before.before.before.before.before.before.before)) (file-length (posed c.before.before.before.before.before.before.before.before.before.before.before.before.before.before) ∙ sym c.requires.1)
+    (entries-put (bounds c.before.before.before.before.before.before.before.before.before.before.before.before.before.before) (terms c.before.before.before.before.before.before.before.before.before.before.before.before.before.before α) (omega arith) c.put_bounds-at.ensures (put_by same c.put_terms.ensures))

@@ -89,7 +89,7 @@ shown s = writing-means s.args.n (sizes s) (posed s) s.args.file.now refl (exact
 pub returns-then-m-eq0 : goal.returns-then-m-eq0
 unfolding write
 returns-then-m-eq0 c =
-    exactly (Means (posed c)) (shown c) _ (writing-no-order _ _ (posed c) _ (sym (order c.before) ∙ c.if-m-eq0.true))
+    exactly (Means (posed c.before.before.before)) (shown c.before.before.before) _ (writing-no-order _ _ (posed c.before.before.before) _ (sym (order c.before) ∙ c.if-m-eq0.true))
 
 pub overflow_mul-sizes : goal.overflow_mul-sizes
 unfolding write
@@ -102,25 +102,25 @@ write_sized-requires c = small c.before.before
 pub returns-then-not-write_sized : goal.returns-then-not-write_sized
 unfolding write
 returns-then-not-write_sized c =
-    exactly (Means (posed c)) (shown c) _
-    (writing-no-sizes _ _ (posed c) _ (λ z. c.if-m-eq0.false (order c ∙ z)) (call_false (sized c.before) c.if-not-write_sized.true-raw))
+    exactly (Means (posed c.before.before.before.before.before.before)) (shown c.before.before.before.before.before.before) _
+    (writing-no-sizes _ _ (posed c.before.before.before.before.before.before) _ (λ z. c.if-m-eq0.false (order c.before.before.before.before ∙ z)) (call_false (sized c.before) c.if-not-write_sized.true-raw))
 
 pub problem_of-problem-requires : goal.problem_of-problem-requires
 unfolding write
 problem_of-problem-requires c =
-    let z = lent c.before.before (fitting c) in
-    rw (order c) (order_small _, omega (arith, z.low), omega (arith, z.high), omega (arith, z.linear_low), omega (arith, z.linear_high), omega (arith, z.centre))
+    let z = lent c.before.before.before.before.before.before (fitting c) in
+    rw (order c.before.before.before.before) (order_small _, omega (arith, z.low), omega (arith, z.high), omega (arith, z.linear_low), omega (arith, z.linear_high), omega (arith, z.centre))
 
 pub write_checked-requires : goal.write_checked-requires
 unfolding write
 write_checked-requires c =
-    rw (made c) (padded_rooms (posed c) (exact_sizes c (fitting c.before.before)) (order_small c.args.n), (lent c (fitting c.before.before)).file)
+    rw (made c.before) (padded_rooms (posed c.before.before.before.before.before.before.before.before) (exact_sizes c.before.before.before.before.before.before.before.before (fitting c.before.before)) (order_small c.args.n), (lent c.before.before.before.before.before.before.before.before (fitting c.before.before)).file)
 
 pub returns : goal.returns
 unfolding write
 returns c =
-    let f = fitting c.before.before.before in
-    exactly (Means (posed c)) (shown c) _
-    (c.write_checked.ensures ∙ ap (λ (p : Problem). checked_writing p c.args.file.now) (made c)
-    ∙ writing-padded (posed c) c.args.file.now (exact_sizes c f)
-    ∙ writing-sized c.args.n (sizes c) (posed c) c.args.file.now (order-given c.args.n (λ z. c.if-m-eq0.false (order c.before.before.before.before ∙ z))) f refl)
+    let f = fitting c.before.before.before.before.before in
+    exactly (Means (posed c.before.before.before.before.before.before.before.before.before.before.before)) (shown c.before.before.before.before.before.before.before.before.before.before.before) _
+    (c.write_checked.ensures ∙ ap (λ (p : Problem). checked_writing p c.args.file.now) (made c.before.before.before.before)
+    ∙ writing-padded (posed c.before.before.before.before.before.before.before.before.before.before.before) c.args.file.now (exact_sizes c.before.before.before.before.before.before.before.before.before.before.before f)
+    ∙ writing-sized c.args.n (sizes c.before.before.before.before.before.before.before.before.before.before.before) (posed c.before.before.before.before.before.before.before.before.before.before.before) c.args.file.now (order-given c.args.n (λ z. c.if-m-eq0.false (order c.before.before.before.before.before.before.before.before.before ∙ z))) f refl)

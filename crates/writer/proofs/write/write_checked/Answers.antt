@@ -69,30 +69,30 @@ none : (c : At-match-branch) → c.match.passed ≡ true → c.mend_problem-chec
 none c h = ⊎_elim (λ w. w.1.given.1) (λ w. absurd (false≢true (sym w.2 ∙ h))) c.match.branch
 
 -- else the buffer is kept
-keeps : (c : At-match-branch) → c.match.passed ≡ false → ◌≡◌ {A = Written} (record { answer = c.mend_problem-checked.result; file = c.args.file.now }) (checked_writing (given c) c.args.file.now)
+keeps : (c : At-match-branch) → c.match.passed ≡ false → ◌≡◌ {A = Written} (record { answer = c.mend_problem-checked.result; file = c.args.file.now }) (checked_writing (given c.before) c.args.file.now)
 unfolding checked_writing
 keeps c h =
     ⊎_elim (λ w. absurd (false≢true (sym h ∙ w.2)))
     (λ w.
     ap (λ (k : Checked). record { answer = k; file = c.args.file.now }) w.1.given.1
-    ∙ after-refused (kept c.args.file.now) _ (written (given c)) (sym (mended c).answered ∙ w.1.given.1))
+    ∙ after-refused (kept c.args.file.now) _ (written (given c.before)) (sym (mended c.before).answered ∙ w.1.given.1))
     c.match.branch
 
 pub mend_problem-checked-requires : goal.mend_problem-checked-requires
 unfolding checked_writing
-mend_problem-checked-requires c = rw (limit-clean c.before.before.before.before.before.before) c.before.before.before.before.before.before.requires.0
+mend_problem-checked-requires c = rw (limit-clean c.before.before.before.before.before.before) c.requires.0
 
 pub write_file-requires : goal.write_file-requires
 unfolding checked_writing
 write_file-requires c =
     let p = c.requires in
-    let e = none c.before c.if-passed.true in
-    (subst ProblemRooms (sym (together c e)) (mended_rooms (given c) p.0), p.1)
+    let e = none c.before.before.before.before.before.before.before c.if-passed.true in
+    (subst ProblemRooms (sym (together c.before.before.before.before.before.before.before.before e)) (mended_rooms (given c.before.before.before.before.before.before.before.before) p.0), p.1)
 
 pub returns-then-passed : goal.returns-then-passed
 unfolding checked_writing
 returns-then-passed c =
-    stores c.before.before (none c.before c.if-passed.true) c.write_file.ensures
+    stores c.before.before.before.before.before.before.before.before.before.before.before (none c.before.before.before.before.before.before.before.before.before.before c.if-passed.true) c.write_file.ensures
 
 pub returns-else-passed : goal.returns-else-passed
 unfolding checked_writing
