@@ -5,7 +5,7 @@ use Prim.Native.Nat.{ℕ, zero, suc, ◌+◌, ◌*◌, ◌/◌, ◌%◌, ◌^◌
 use native.Mathlib.Nat.{mul-le-mul_right, le_trans, lt_of_not-le, lt_irrefl, lt_of_lt_of_le}
 use native.Mathlib.Omega.{arith}
 use lib.Dec.{T, leb, eqb, ltb, ltb→lt, nltb→le}
-use lib.IntN.{ℤ, pos, nat_abs, ◌*ℤ◌}
+use lib.IntN.{pos, nat_abs, ◌*ℤ◌}
 use lib.Pow.{pow_pos, pow-lt, pow_mono, pow-add}
 use lib.Ieee.{Float, nan, inf, fin, binary32, fits, of_fields, of_bits, to_bits, odd, is_nan}
 use lib.Ieee.Bits.{of_bits-to_bits}
@@ -46,25 +46,25 @@ not_finite b true true s t x h = absurd h
 not_finite b true false s t x h = absurd h
 not_finite b false g s t x h = odd_sign 24 s (8388608 + t) x 149
 
-of_fields : (b : ℕ) (s : Bool) (e t : ℕ) → T (finite_within b (of_fields binary32 s e t)) → HasValue (of_fields binary32 s e t) s (magnitude e t) (2 ^ 149)
+of_fields_lem : (b : ℕ) (s : Bool) (e t : ℕ) → T (finite_within b (of_fields binary32 s e t)) → HasValue (of_fields binary32 s e t) s (magnitude e t) (2 ^ 149)
 unfolding of_fields significand_of
-of_fields b s zero t h = odd_sign 24 s t 0 149
-of_fields b s (suc x) t h = not_finite b (eqb (suc x) 255) (eqb t 0) s t x h
+of_fields_lem b s zero t h = odd_sign 24 s t 0 149
+of_fields_lem b s (suc x) t h = not_finite b (eqb (suc x) 255) (eqb t 0) s t x h
 
-of-bits : (b : ℕ) (x : Float) → T (fits binary32 x) → T (finite_within b x)
+of_bits_lem : (b : ℕ) (x : Float) → T (fits binary32 x) → T (finite_within b x)
     → HasValue x (negative (to_bits binary32 x)) (magnitude (exponent (to_bits binary32 x)) (digits (to_bits binary32 x))) (2 ^ 149)
 unfolding of_bits
-of-bits b x f h =
+of_bits_lem b x f h =
     let n = to_bits binary32 x in
     let e : of_bits binary32 n ≡ x = of_bits-to_bits binary32 x f in
     subst (λ (y : Float). HasValue y (negative n) (magnitude (exponent n) (digits n)) (2 ^ 149)) e
-    (of_fields b (negative n) (exponent n) (digits n) (subst (λ (y : Float). T (finite_within b y)) (sym e) h))
+    (of_fields_lem b (negative n) (exponent n) (digits n) (subst (λ (y : Float). T (finite_within b y)) (sym e) h))
 
 pub units_of_bits : (b : ℕ) (x : Float) → T (fits binary32 x) → T (finite_within b x)
     → units_of x ≡ signed (negative (to_bits binary32 x)) (magnitude (exponent (to_bits binary32 x)) (digits (to_bits binary32 x)))
 units_of_bits b x f h =
     let n = to_bits binary32 x in
-    units_is x (negative n) (magnitude (exponent n) (digits n)) (2 ^ 149) (magnitude (exponent n) (digits n)) f (pow_pos 149) refl (of-bits b x f h)
+    units_is x (negative n) (magnitude (exponent n) (digits n)) (2 ^ 149) (magnitude (exponent n) (digits n)) f (pow_pos 149) refl (of_bits_lem b x f h)
 
 -- |x| ≤ 128 = 2^7 bounds the exponent's field
 bounded : (e t : ℕ) → magnitude e t ≤ 128 * 2 ^ 149 → e ≤ 134

@@ -1,11 +1,9 @@
 use Prim.Native.Nat.{ℕ, ◌/◌, ◌^◌, ◌<◌}
 use native.Mathlib.Nat.{div-le_self}
 use native.Mathlib.Omega.{arith}
-use borrow.Author.Rules.{rules}
 use Rattle.integers.specs.Division.{floor_div}
 use Rattle.integers.proofs.Machine.{read_i64}
 use Rattle.floats.proofs.rounded_down.Lts as lts
-use Rattle.floats.proofs.rounded_down.Tie as tie
 use Rattle.floats.proofs.rounded_down.Reads as reads
 use Rattle.floats.proofs.rounded_down.Goals as goal
 

@@ -7,11 +7,9 @@ use lib.IntN.{pos}
 use lib.Pow.{pow_pos, pow_mono, shl_exact}
 use mir.Syntax.{w64}
 use mir.Val.{SFits, to_z}
-use borrow.Author.Rules.{rules}
 use Rattle.integers.proofs.Machine.{read_i64}
 use Rattle.floats.proofs.Next.{up_is}
 use Rattle.floats.proofs.rounded_up.Lts as lts
-use Rattle.floats.proofs.rounded_up.Tie as tie
 use Rattle.floats.proofs.rounded_up.Reads as reads
 use Rattle.floats.proofs.rounded_up.Goals as goal
 
