@@ -1,4 +1,3 @@
-use borrow.Author.Rules.{rules}
 use Rattle.text.proofs.Puts.{put_byte}
 use Rattle.text.proofs.put.Goals as goal
 

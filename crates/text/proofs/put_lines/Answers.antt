@@ -1,11 +1,10 @@
 use mathlib.Core.Path.{◌≡◌, refl, ◌∙◌}
-use Prim.Native.Nat.{◌+◌, ◌-◌, ◌*◌, ◌≤◌, ◌<◌}
+use Prim.Native.Nat.{◌+◌, ◌*◌, ◌<◌}
 use native.Mathlib.Nat.{suc-mul}
 use native.Mathlib.Numerals.{add-one}
 use native.Mathlib.Omega.{arith}
 use lib.ListN.{length}
 use Rattle.tables.specs.Matrix.{nth}
-use Rattle.text.specs.Putting.{Put}
 use Rattle.text.specs.Text.{line, lines, line_room}
 use Rattle.text.proofs.Puts.{put_nothing, put-within, put_then, one_more}
 use Rattle.text.proofs.put_lines.Goals as goal
@@ -36,7 +35,7 @@ loop-i-preserved c =
     let n = c.put_line-next in
     let l = c.loop-i in
     let a = c.args in
-    (omega arith, n.auto.0 ∙ l.invariant.1, rw (add-one l.i, suc-mul l.i) (put_then l.invariant.2 {s = line a.word.now (λ k. nth a.x.now (l.i * a.width + k)) a.width} (omega arith) n.ensures))
+    (omega arith, n.auto.out ∙ l.invariant.1, rw (add-one l.i, suc-mul l.i) (put_then l.invariant.2 {s = line a.word.now (λ k. nth a.x.now (l.i * a.width + k)) a.width} (omega arith) n.ensures))
 
 pub shape_of-out : goal.shape_of-out
 unfolding lines

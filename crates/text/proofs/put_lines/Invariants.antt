@@ -1,13 +1,8 @@
-use mathlib.Core.Path.{◌≡◌, refl, ◌∙◌}
-use Prim.Native.Nat.{◌+◌, ◌-◌, ◌*◌, ◌≤◌, ◌<◌}
-use native.Mathlib.Nat.{suc-mul}
-use native.Mathlib.Numerals.{add-one}
-use native.Mathlib.Omega.{arith}
+use mathlib.Core.Path.{◌≡◌}
+use Prim.Native.Nat.{◌-◌, ◌*◌, ◌≤◌}
 use lib.ListN.{length}
-use Rattle.tables.specs.Matrix.{nth}
 use Rattle.text.specs.Putting.{Put}
-use Rattle.text.specs.Text.{line, lines, line_room}
-use Rattle.text.proofs.Puts.{put_nothing, put-within, put_then, one_more}
+use Rattle.text.specs.Text.{lines, line_room}
 use Rattle.text.proofs.put_lines.Given as goal
 
 abbrev pub invariant-loop-i : goal.invariant-loop-i

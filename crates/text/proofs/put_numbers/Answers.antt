@@ -1,12 +1,8 @@
 use mathlib.Core.Path.{◌≡◌, refl, ◌∙◌}
-use Prim.Native.Nat.{◌+◌, ◌-◌, ◌*◌, ◌≤◌}
 use native.Mathlib.Numerals.{add-one}
 use native.Mathlib.Omega.{arith}
-use lib.ListN.{length}
 use Rattle.integers.proofs.Machine.{clean_element}
-use Rattle.tables.specs.Matrix.{nth}
-use Rattle.text.specs.Putting.{Put}
-use Rattle.text.specs.Text.{numbers, spaced}
+use Rattle.text.specs.Text.{numbers}
 use Rattle.text.proofs.Puts.{put_nothing, put-within, put_then}
 use Rattle.text.proofs.put_numbers.Goals as goal
 
@@ -21,7 +17,7 @@ loop-k-preserved c =
     let e = c.put_decimal-arg-in-loop-k-1.given in
     let s = c.put-from in
     let l = c.loop-k in
-    (omega arith, n.auto.0 ∙ s.auto.0 ∙ l.invariant.1, rw (add-one l.k) (put-within (put_then l.invariant.2 (omega arith) (put_then s.ensures (omega arith) (rw (clean_element _ e) at n.ensures))) (omega arith)))
+    (omega arith, n.auto.out ∙ s.auto.out ∙ l.invariant.1, rw (add-one l.k) (put-within (put_then l.invariant.2 (omega arith) (put_then s.ensures (omega arith) (rw (clean_element _ e) at n.ensures))) (omega arith)))
 
 pub shape_of-out : goal.shape_of-out
 unfolding numbers

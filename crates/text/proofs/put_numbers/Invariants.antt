@@ -1,13 +1,9 @@
-use mathlib.Core.Path.{◌≡◌, refl, ◌∙◌}
+use mathlib.Core.Path.{◌≡◌}
 use Prim.Native.Nat.{◌+◌, ◌-◌, ◌*◌, ◌≤◌}
-use native.Mathlib.Numerals.{add-one}
-use native.Mathlib.Omega.{arith}
 use lib.ListN.{length}
-use Rattle.integers.proofs.Machine.{clean_element}
 use Rattle.tables.specs.Matrix.{nth}
 use Rattle.text.specs.Putting.{Put}
 use Rattle.text.specs.Text.{numbers, spaced}
-use Rattle.text.proofs.Puts.{put_nothing, put-within, put_then}
 use Rattle.text.proofs.put_numbers.Given as goal
 
 abbrev pub invariant-loop-k : goal.invariant-loop-k
