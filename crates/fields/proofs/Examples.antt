@@ -7,7 +7,6 @@ use Rattle.words.specs.Numbers.{from_le_bytes, unsigned_at}
 use Rattle.tables.specs.declared.Refusal.TheVariants.{Cut, Tag, Again, Falling}
 use Rattle.tables.specs.declared.Checked.TheVariants.{Passed, Refused}
 use Rattle.fields.specs.declared.field.Kind.{Kind}
-use Rattle.fields.specs.declared.field.Kind.TheVariants as Kind
 use Rattle.fields.specs.declared.layout.Layout.{Layout}
 use Rattle.fields.specs.declared.layout.Walked.{Walked}
 use Rattle.fields.specs.Fields.{kind_count, kind_in, kind_of, tagged, field_at}

@@ -10,12 +10,9 @@ use borrow.Author.Tests.{le-leb, lt-leb, eq-eqb, ne_eqb}
 use Rattle.words.specs.Numbers.{unsigned_at}
 use Rattle.tables.specs.declared.Refusal.TheVariants.{Cut, Tag}
 use Rattle.fields.specs.declared.field.Kind.{Kind}
-use Rattle.fields.specs.declared.field.Kind.TheVariants as Kind
 use Rattle.fields.specs.declared.field.Tagged.{Tagged}
-use Rattle.fields.specs.declared.field.Tagged.TheVariants as Tagged
 use Rattle.fields.specs.declared.field.Field.{Field}
 use Rattle.fields.specs.declared.field.Found.{Found}
-use Rattle.fields.specs.declared.field.Found.TheVariants as Found
 use Rattle.fields.specs.Fields.{kinds, kind_count, place_of, tag_of, kind_in, kind_of, head, tagged, field_at}
 
 -- ---- tags

@@ -1,4 +1,3 @@
-mod FirstField
 pub mod Finding
 pub mod Walking
 pub mod Parts

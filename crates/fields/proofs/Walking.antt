@@ -14,7 +14,6 @@ use Rattle.tables.specs.declared.Checked.TheVariants as Checked
 use Rattle.fields.specs.declared.field.Kind.{Kind}
 use Rattle.fields.specs.declared.field.Field.{Field}
 use Rattle.fields.specs.declared.field.Found.{Found}
-use Rattle.fields.specs.declared.field.Found.TheVariants as Found
 use Rattle.fields.specs.declared.layout.Layout.{Layout}
 use Rattle.fields.specs.declared.layout.Walked.{Walked}
 use Rattle.fields.specs.Fields.{tag_of, head, field_at}

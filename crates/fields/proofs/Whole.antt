@@ -11,7 +11,6 @@ use Rattle.words.specs.Numbers.{to_le_bytes}
 use Rattle.words.proofs.Laws.{AllBytes, length-to_le_bytes}
 use Rattle.tables.specs.declared.Checked.TheVariants as Checked
 use Rattle.fields.specs.declared.field.Kind.{Kind}
-use Rattle.fields.specs.declared.field.Kind.TheVariants as Kind
 use Rattle.fields.specs.declared.layout.Layout.{Layout}
 use Rattle.fields.specs.Fields.{kinds, kind_count, place_of, tag_of, head}
 use Rattle.fields.specs.Layouts.{seen, walked, content}

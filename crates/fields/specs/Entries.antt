@@ -1,6 +1,6 @@
 -- A file as it is written: fields with rising tags, one after the other. The walk passes exactly these files, and finds these contents
 -- (proofs/Entries). With all kinds there is one such file of given contents (proofs/Whole).
-use Rattle.std.specs.Prelude.{◌≡◌, true, false, List, [], ◌∷◌, ◌++◌, map, ℕ, ◌+◌, ◌^◌, ◌<◌, eqb, length}
+use Rattle.std.specs.Prelude.{◌≡◌, true, false, List, [], ◌∷◌, ◌++◌, map, ℕ, ◌^◌, ◌<◌, eqb, length}
 use Rattle.std.proofs.Math.Option.{Option, none, some}
 use Rattle.words.specs.Numbers.{to_le_bytes}
 use Rattle.fields.specs.declared.field.Kind.{Kind}

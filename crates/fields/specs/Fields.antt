@@ -3,11 +3,8 @@ use Rattle.std.specs.Prelude.{true, false, List, [], ◌∷◌, ℕ, ◌+◌, le
 use Rattle.words.specs.Numbers.{unsigned_at}
 use Rattle.tables.specs.declared.Refusal.TheVariants.{Cut, Tag}
 use Rattle.fields.specs.declared.field.Kind.{Kind}
-use Rattle.fields.specs.declared.field.Kind.TheVariants as Kind
 use Rattle.fields.specs.declared.field.Tagged.{Tagged}
-use Rattle.fields.specs.declared.field.Tagged.TheVariants as Tagged
 use Rattle.fields.specs.declared.field.Found.{Found}
-use Rattle.fields.specs.declared.field.Found.TheVariants as Found
 
 -- the kinds of field, in the order of their tags: n, L, U, the low ends of a, α, c, the high ends of a
 abbrev pub kinds : List Kind

@@ -1,7 +1,6 @@
 -- R18 of docs/RULES.md: what the reader hands out.
 use Rattle.std.specs.Prelude.{List, [], ℕ, take, drop}
 use Rattle.fields.specs.declared.field.Found.{Found}
-use Rattle.fields.specs.declared.field.Found.TheVariants as Found
 use Rattle.fields.specs.Fields.{field_at}
 
 -- the content of what was found, a part of the file; the empty part where there is no field

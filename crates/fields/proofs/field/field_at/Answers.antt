@@ -1,6 +1,5 @@
 use mathlib.Core.Path.{sym, ◌∙◌}
 use native.Mathlib.Omega.{arith}
-use borrow.Author.Rules.{rules}
 use Rattle.fields.specs.Fields.{tagged}
 use Rattle.fields.proofs.Finding.{field_end, field-head_cut, field_cut, field-whole}
 use Rattle.fields.proofs.field.field_at.Goals as goal

@@ -1,3 +1,4 @@
+use native.Mathlib.Omega.{arith}
 use mathlib.Core.Path.{sym}
 use Rattle.fields.specs.Fields.{kinds, kind_of, kind_in}
 use Rattle.fields.proofs.Finding.{kind_unlisted}
@@ -34,5 +35,4 @@ returns-in-7 c = rw c.in-7.is
 pub returns-in_default : goal.returns-in_default
 unfolding kind_of kind_in
 returns-in_default c =
-    let n = c.match.rest in
-    sym (kind_unlisted kinds _ (n.0.0.0.0.0.0.1, (n.0.0.0.0.0.1, (n.0.0.0.0.1, (n.0.0.0.1, (n.0.0.1, (n.0.1, (n.1, tt))))))))
+    sym (kind_unlisted kinds c.args.tag (λ e. omega arith, (λ e. omega arith, (λ e. omega arith, (λ e. omega arith, (λ e. omega arith, (λ e. omega arith, (λ e. omega arith, tt))))))))

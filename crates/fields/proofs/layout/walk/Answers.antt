@@ -1,25 +1,19 @@
 use mathlib.Core.Path.{◌≡◌, sym, ◌∙◌}
 use mathlib.Core.List.{List}
-use Prim.Native.Nat.{ℕ, ◌-◌, ◌≤◌}
+use Prim.Native.Nat.{ℕ}
 use native.Mathlib.Omega.{arith}
-use borrow.Author.Rules.{rules}
-use lib.ListN.{length}
+use Rattle.std.proofs.lemmas.Bool.{lt-ltb, le-ltb}
 use Rattle.fields.specs.declared.field.Found.TheVariants as Found
 use Rattle.fields.specs.declared.layout.Layout.{Layout}
 use Rattle.fields.specs.Fields.{field_at}
 use Rattle.fields.specs.Layouts.{walk, walked}
 use Rattle.fields.proofs.Finding.{found_inside}
 use Rattle.fields.proofs.Walking.{seen_is, falls_is, walk_end, walk_refused, walk_again, walk_falling, walk_more}
-use Rattle.fields.proofs.layout.walk.Lts as lts
-use Rattle.fields.proofs.layout.walk.Tie as tie
-use Rattle.fields.proofs.layout.walk.Reads as reads
 use Rattle.fields.proofs.layout.walk.Goals as goal
-
-abbrev After-known_told : Type 0
-After-known_told = lts.After-known_told tie.the-claims reads.Pre reads.Post goal.the-invariant-loop-field goal.the-decreases-loop-field
+use Rattle.fields.proofs.layout.walk.Goals.{In-Here}
 
 -- the field at hand
-here : (c : After-known_told) → field_at c.args.file.now c.loop-field.at ≡ Found.Here c.in-Here.field
+here : (c : In-Here) → field_at c.args.file.now c.loop-field.at ≡ Found.Here c.in-Here.field
 here c = sym c.field_at-found.ensures ∙ c.in-Here.is
 
 -- the walk goes on behind the field's tag, with the field in the layout
@@ -33,25 +27,25 @@ loop-field-init c = (omega arith, rw c.unseen-layout.ensures)
 pub returns-then-again : goal.returns-then-again
 unfolding walked
 returns-then-again c =
-    c.stopped.ensures ∙ sym (c.loop-field.invariant.1 ∙ walk_again _ _ _ _ _ (here c.before.before.before.before) (seen_is _ _ c.start_of-again.ensures c.if-again.true-raw))
+    c.stopped.ensures ∙ sym (c.loop-field.invariant.1 ∙ walk_again _ _ _ _ _ (here (goal.at.returns-then-again c).In-Here) (seen_is _ _ c.start_of-again.ensures (lt-ltb _ _ c.if-again.true)))
 
 pub returns-then-falls : goal.returns-then-falls
 unfolding walked
 returns-then-falls c =
     c.stopped-then-falls.ensures
     ∙ sym (c.loop-field.invariant.1
-    ∙ walk_falling _ _ _ _ _ (here c.before.before.before.before.before) (seen_is _ _ c.start_of-again.ensures c.if-again.false-raw) (falls_is c.in-Here.field.kind _ c.tag_of-tag.ensures c.if-falls.true-raw))
+    ∙ walk_falling _ _ _ _ _ (here (goal.at.returns-then-falls c).In-Here) (seen_is _ _ c.start_of-again.ensures (le-ltb _ _ c.if-again.false)) (falls_is c.in-Here.field.kind _ c.tag_of-tag.ensures (lt-ltb _ _ c.if-falls.true)))
 
 pub loop-field-smaller : goal.loop-field-smaller
 unfolding walked
-loop-field-smaller c = omega (arith, found_inside _ _ _ (here c.before.before.before.before.before))
+loop-field-smaller c = omega (arith, found_inside _ _ _ (here (goal.at.loop-field-smaller c).In-Here))
 
 pub loop-field-preserved : goal.loop-field-preserved
 unfolding walked
 loop-field-preserved c = (
-  omega (arith, found_inside _ _ _ (here c.before.before.before.before.before)),
+  omega (arith, found_inside _ _ _ (here (goal.at.loop-field-preserved c).In-Here)),
   c.loop-field.invariant.1
-      ∙ walk_more _ _ _ _ _ (here c.before.before.before.before.before) (seen_is _ _ c.start_of-again.ensures c.if-again.false-raw) (falls_is c.in-Here.field.kind _ c.tag_of-tag.ensures c.if-falls.false-raw)
+      ∙ walk_more _ _ _ _ _ (here (goal.at.loop-field-preserved c).In-Here) (seen_is _ _ c.start_of-again.ensures (le-ltb _ _ c.if-again.false)) (falls_is c.in-Here.field.kind _ c.tag_of-tag.ensures (le-ltb _ _ c.if-falls.false))
       ∙ onward _ _ c.tag_of-tag.ensures c.placed-layout.ensures,
 )
 
