@@ -36,5 +36,5 @@ least_four-requires c =
 
 pub returns : goal.returns
 returns c =
-    rw (clean_result c.least_four, c.least_four.ensures, c.raised.ensures, clean c.ranges.sum, c.share_at-a.ensures, c.share_at-b.ensures, c.share_at-c.ensures, c.share_at-e.ensures, add-one c.args.d, add-one, add-one)
+    rw (clean_element c.least_four.result c.least_four.type_inv, c.least_four.ensures, c.raised.ensures, clean c.ranges.sum, c.share_at-a.ensures, c.share_at-b.ensures, c.share_at-c.ensures, c.share_at-e.ensures, add-one c.args.d, add-one, add-one)
     (shares_least _ _ _ 3 _ _ _)

@@ -48,16 +48,16 @@ pub least_choice-requires : goal.least_choice-requires
 unfolding shares_after
 least_choice-requires c =
     choice_small 2 c.requires
-    (rw (clean_result c.least_three-one, c.least_three-one.ensures, clean c.ranges.sum, c.share_after-b1.ensures, c.share_after-c1.ensures, c.share_after-e1.ensures, add-one c.args.d, add-one, add-one))
-    (rw (clean_result c.least_three-opposite, c.least_three-opposite.ensures, clean c.ranges.sum, c.share_after-b2.ensures, c.share_after-c2.ensures, c.share_after-e2.ensures, add-one c.args.d, add-one, add-one))
+    (rw (clean_element c.least_three-one.result c.least_three-one.type_inv, c.least_three-one.ensures, clean c.ranges.sum, c.share_after-b1.ensures, c.share_after-c1.ensures, c.share_after-e1.ensures, add-one c.args.d, add-one, add-one))
+    (rw (clean_element c.least_three-opposite.result c.least_three-opposite.type_inv, c.least_three-opposite.ensures, clean c.ranges.sum, c.share_after-b2.ensures, c.share_after-c2.ensures, c.share_after-e2.ensures, add-one c.args.d, add-one, add-one))
     (omega arith)
 
 pub returns : goal.returns
 unfolding shares_after
 returns c =
-    clean_result c.least_choice
+    clean_element c.least_choice.result c.least_choice.type_inv
     ∙ c.least_choice.ensures
     ∙ choice_is 2 c.requires
-    (rw (clean_result c.least_three-one, c.least_three-one.ensures, clean c.ranges.sum, c.share_after-b1.ensures, c.share_after-c1.ensures, c.share_after-e1.ensures, add-one c.args.d, add-one, add-one))
-    (rw (clean_result c.least_three-opposite, c.least_three-opposite.ensures, clean c.ranges.sum, c.share_after-b2.ensures, c.share_after-c2.ensures, c.share_after-e2.ensures, add-one c.args.d, add-one, add-one))
-    (rw (clean_result c.least_three-zero, c.least_three-zero.ensures, clean c.ranges.sum, add-one))
+    (rw (clean_element c.least_three-one.result c.least_three-one.type_inv, c.least_three-one.ensures, clean c.ranges.sum, c.share_after-b1.ensures, c.share_after-c1.ensures, c.share_after-e1.ensures, add-one c.args.d, add-one, add-one))
+    (rw (clean_element c.least_three-opposite.result c.least_three-opposite.type_inv, c.least_three-opposite.ensures, clean c.ranges.sum, c.share_after-b2.ensures, c.share_after-c2.ensures, c.share_after-e2.ensures, add-one c.args.d, add-one, add-one))
+    (rw (clean_element c.least_three-zero.result c.least_three-zero.type_inv, c.least_three-zero.ensures, clean c.ranges.sum, add-one))

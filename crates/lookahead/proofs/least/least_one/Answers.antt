@@ -9,4 +9,4 @@ pub returns : goal.returns
 unfolding least_one
 returns c =
     let p = c.requires in
-    rw (clean_result c.least_of, c.least_of.ensures, clean c.ranges.sum, clean (fits_within p.plus (omega arith)), clean (fits_within p.minus (omega arith)))
+    rw (clean_element c.least_of.result c.least_of.type_inv, c.least_of.ensures, clean c.ranges.sum, clean (fits_within p.plus (omega arith)), clean (fits_within p.minus (omega arith)))
