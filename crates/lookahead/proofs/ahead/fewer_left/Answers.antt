@@ -47,7 +47,6 @@ least_two-requires c =
     rw (c.raised-then-left-eq2.ensures, clean c.ranges.sum, c.share_at-a.ensures, c.share_at-b.ensures, add-one) (open_last c.requires.0 c.requires.1 1 (omega arith))
 
 pub returns-then-left-eq2 : goal.returns-then-left-eq2
-unfolding least_shares
 returns-then-left-eq2 c =
     let e : c.args.left ≡ 2 = omega arith in
     rw (clean_element c.least_two.result c.least_two.type_inv, c.least_two.ensures, c.raised-then-left-eq2.ensures, clean c.ranges.sum, c.share_at-a.ensures, c.share_at-b.ensures, e, add-one)
@@ -72,7 +71,6 @@ least_three-requires c =
     rw (c.raised-2.ensures, clean c.ranges.sum, c.share_at-a.ensures, c.share_at-b.ensures, c.share_at-c.ensures, add-one c.args.d, add-one) (open_last c.requires.0 c.requires.1 2 (omega arith))
 
 pub returns : goal.returns
-unfolding least_shares
 returns c =
     let e : c.args.left ≡ 3 = omega arith in
     rw (clean_element c.least_three.result c.least_three.type_inv, c.least_three.ensures, c.raised-2.ensures, clean c.ranges.sum, c.share_at-a.ensures, c.share_at-b.ensures, c.share_at-c.ensures, e, add-one c.args.d, add-one)
