@@ -104,5 +104,5 @@ code_no (Answer.Refused r) e = cc
 
 -- ---- what an answer means
 -- an answer that is the definition's means what the definition's does
-pub exactly : {A : Type 0} (means : A → Type 0) {d : A} → means d → (r : A) → r ≡ d → (r ≡ d) × means r
-exactly means m r e = (e, subst means (sym e) m)
+pub exactly : {A : Type 0} (means : A → Type 0) {d : A} → means d → (r : A) → r ≡ d → record { exact : r ≡ d; meaning : means r }
+exactly means m r e = record { exact = e; meaning = subst means (sym e) m }

@@ -35,7 +35,7 @@ quotient c = let f = c.ranges in c.ceil_div-q.ensures ∙ rw (clean f.b, clean f
 none : (c : Then1) → ceil_div c.args.b c.args.t ≤ℤ pos 0
 none c =
     let q = c.ceil_div-q in
-    rw (quotient c.before) at (le_yes {x = q.result} {y = pos 0} (record { sfits = q.type-inv }) (fits_literal tt) c.if-q-le0.true)
+    rw (quotient c.before) at (le_yes {x = q.result} {y = pos 0} (record { sfits = q.type_inv }) (fits_literal tt) c.if-q-le0.true)
 
 -- where there is a root
 abbrev above : Else1 → ℤ
@@ -44,7 +44,7 @@ above c = ceil_div c.args.b c.args.t
 some : (c : Else1) → pos 0 <ℤ above c
 some c =
     let q = c.ceil_div-q in
-    rw (quotient c.before) at (le_no {x = q.result} {y = pos 0} (record { sfits = q.type-inv }) (fits_literal tt) c.if-q-le0.false)
+    rw (quotient c.before) at (le_no {x = q.result} {y = pos 0} (record { sfits = q.type_inv }) (fits_literal tt) c.if-q-le0.false)
 
 most : (c : Else1) → above c ≤ℤ pos bound_range
 most c = within-high (within_ceil c.args.t c.requires.0)

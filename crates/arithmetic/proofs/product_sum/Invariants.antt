@@ -14,7 +14,7 @@ use Rattle.arithmetic.proofs.Products.{term_fits, terms_add}
 use Rattle.arithmetic.proofs.product_sum.Given as goal
 
 abbrev pub invariant-loop-k : goal.invariant-loop-k
-invariant-loop-k l = (l.k ≤ l.n) × (to_z w64 l.s ≡ sum l.k (λ i. nth l.x i *ℤ nth l.y i))
+invariant-loop-k l = (l.k ≤ l.n) × (l.s ≡ sum l.k (λ i. nth l.x i *ℤ nth l.y i))
 
 abbrev pub decreases-loop-k : goal.decreases-loop-k
 decreases-loop-k l = l.n - l.k

@@ -18,7 +18,7 @@ use Rattle.centre.proofs.gradient.Given as goal
 
 abbrev pub invariant-loop-j : goal.invariant-loop-j
 invariant-loop-j l =
-    (l.j ≤ l.n) × (to_z w64 l.least ≡ sum l.j (picked min_ℤ l.n l.low l.high l.c l.k)) × (to_z w64 l.greatest ≡ sum l.j (picked max_ℤ l.n l.low l.high l.c l.k))
+    (l.j ≤ l.n) × (l.least ≡ sum l.j (picked min_ℤ l.n l.low l.high l.c l.k)) × (l.greatest ≡ sum l.j (picked max_ℤ l.n l.low l.high l.c l.k))
 
 abbrev pub decreases-loop-j : goal.decreases-loop-j
 decreases-loop-j l = l.n - l.j

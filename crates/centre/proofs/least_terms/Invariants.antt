@@ -16,7 +16,7 @@ use Rattle.centre.proofs.Magnitudes.{low_term, high_term, least_fits}
 use Rattle.centre.proofs.least_terms.Given as goal
 
 abbrev pub invariant-loop-k : goal.invariant-loop-k
-invariant-loop-k l = (l.k ≤ l.n) × (to_z w64 l.least ≡ least_sum l.k (nth l.a) (nth l.b) (nth l.c))
+invariant-loop-k l = (l.k ≤ l.n) × (l.least ≡ least_sum l.k (nth l.a) (nth l.b) (nth l.c))
 
 abbrev pub decreases-loop-k : goal.decreases-loop-k
 decreases-loop-k l = l.n - l.k

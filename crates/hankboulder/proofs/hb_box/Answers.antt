@@ -14,7 +14,7 @@ use Rattle.hankboulder.proofs.hb_box.Reads as reads
 use Rattle.hankboulder.proofs.hb_box.Goals as goal
 
 abbrev Start : Type 0
-Start = lts.Start tie.the-claims reads.Pre reads.Post
+Start = lts.Start tie.the-claims reads.Pre reads.Post tie.handed_clauses
 
 abbrev means : Start → BoxResult → Type 0
 means s j = let a = s.args in BoxMeaning a.n a.low.now a.high.now a.linear_low.now a.linear_high.now a.limit j.number j.sides

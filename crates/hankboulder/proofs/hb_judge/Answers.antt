@@ -13,7 +13,7 @@ use Rattle.hankboulder.proofs.hb_judge.Reads as reads
 use Rattle.hankboulder.proofs.hb_judge.Goals as goal
 
 abbrev Start : Type 0
-Start = lts.Start tie.the-claims reads.Pre reads.Post
+Start = lts.Start tie.the-claims reads.Pre reads.Post tie.handed_clauses
 
 abbrev means : Start → JudgeResult → Type 0
 means s j = let a = s.args in JudgeMeaning a.n a.low.now a.high.now j.number j.factor j.vector j.over

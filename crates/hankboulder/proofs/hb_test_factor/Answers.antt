@@ -13,7 +13,7 @@ use Rattle.hankboulder.proofs.hb_test_factor.Reads as reads
 use Rattle.hankboulder.proofs.hb_test_factor.Goals as goal
 
 abbrev Start : Type 0
-Start = lts.Start tie.the-claims reads.Pre reads.Post
+Start = lts.Start tie.the-claims reads.Pre reads.Post tie.handed_clauses
 
 abbrev means : Start → TestFactorResult → Type 0
 means s j = let a = s.args in FactorMeaning a.n a.low.now a.high.now a.factor.now j.number j.over

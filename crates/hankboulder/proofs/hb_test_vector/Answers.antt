@@ -13,7 +13,7 @@ use Rattle.hankboulder.proofs.hb_test_vector.Reads as reads
 use Rattle.hankboulder.proofs.hb_test_vector.Goals as goal
 
 abbrev Start : Type 0
-Start = lts.Start tie.the-claims reads.Pre reads.Post
+Start = lts.Start tie.the-claims reads.Pre reads.Post tie.handed_clauses
 
 abbrev means : Start → ℤ → Type 0
 means s r = let a = s.args in VectorMeaning a.n a.low.now a.high.now a.vector.now r

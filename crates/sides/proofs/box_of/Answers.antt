@@ -45,12 +45,12 @@ bound_is c = let f = c.ranges in c.bound-b.ensures ∙ rw (clean f.d, clean f.t)
 bound-yes : (c : Else1) → let a = c.args in le_z (pos 0) (bound a.n a.d a.t (nth a.g.now)) ≡ true
 bound-yes c =
     let b = c.bound-b in
-    rw (bound_is c.before) at (le_z_true (lt_no {x = b.result} {y = pos 0} (record { sfits = b.type-inv }) (fits_literal tt) c.if-b-lt0.false))
+    rw (bound_is c.before) at (le_z_true (lt_no {x = b.result} {y = pos 0} (record { sfits = b.type_inv }) (fits_literal tt) c.if-b-lt0.false))
 
 bound-no : (c : Then1) → let a = c.args in le_z (pos 0) (bound a.n a.d a.t (nth a.g.now)) ≡ false
 bound-no c =
     let b = c.bound-b in
-    rw (bound_is c.before) at (le_z_false (lt_yes {x = b.result} {y = pos 0} (record { sfits = b.type-inv }) (fits_literal tt) c.if-b-lt0.true))
+    rw (bound_is c.before) at (le_z_false (lt_yes {x = b.result} {y = pos 0} (record { sfits = b.type_inv }) (fits_literal tt) c.if-b-lt0.true))
 
 -- the Y(k)
 filled : (c : After-first_halves) →
@@ -72,14 +72,14 @@ second-yes : (c : Else2) →
     le_z (pos 0) (second_bound a.n a.d a.t (nth a.g.now)) ≡ true
 second-yes c =
     let b = c.second_bound-b2 in
-    rw (second-bound_is c.before) at (le_z_true (lt_no {x = b.result} {y = pos 0} (record { sfits = b.type-inv }) (fits_literal tt) c.if-b2-lt0.false))
+    rw (second-bound_is c.before) at (le_z_true (lt_no {x = b.result} {y = pos 0} (record { sfits = b.type_inv }) (fits_literal tt) c.if-b2-lt0.false))
 
 second-no : (c : Then2) →
     let a = c.args in
     le_z (pos 0) (second_bound a.n a.d a.t (nth a.g.now)) ≡ false
 second-no c =
     let b = c.second_bound-b2 in
-    rw (second-bound_is c.before) at (le_z_false (lt_yes {x = b.result} {y = pos 0} (record { sfits = b.type-inv }) (fits_literal tt) c.if-b2-lt0.true))
+    rw (second-bound_is c.before) at (le_z_false (lt_yes {x = b.result} {y = pos 0} (record { sfits = b.type_inv }) (fits_literal tt) c.if-b2-lt0.true))
 
 pub bound-b-requires : goal.bound-b-requires
 bound-b-requires c = rw (clean c.ranges.t, clean c.ranges.d) (c.requires.0.near, c.requires.0.difference)

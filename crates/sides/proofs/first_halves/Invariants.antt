@@ -17,7 +17,7 @@ use Rattle.sides.proofs.HalfSides.{gradient_numerator, half_fits}
 use Rattle.sides.proofs.first_halves.Given as goal
 
 abbrev pub invariant-loop-k : goal.invariant-loop-k
-invariant-loop-k l = (l.k ≤ l.n) × Filled greatest_order l.k (λ i. ceil_div (nth l.g i) l.t +ℤ least_root l.t l.b) l.y
+invariant-loop-k at = (at.k ≤ at.n) × Filled greatest_order at.k (λ i. ceil_div (nth at.g i) at.t +ℤ least_root at.t at.b) at.y
 
 abbrev pub decreases-loop-k : goal.decreases-loop-k
 decreases-loop-k l = l.n - l.k

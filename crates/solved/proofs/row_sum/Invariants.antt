@@ -12,7 +12,7 @@ use Rattle.solved.proofs.Sizes.{row-sum-none, row-sum_suc, product_fits, next_fi
 use Rattle.solved.proofs.row_sum.Given as goal
 
 abbrev pub invariant-loop-k : goal.invariant-loop-k
-invariant-loop-k l = (l.i < l.k) × (l.k ≤ suc l.j) × (to_z w64 l.s ≡ row_sum l.t l.x l.i l.k)
+invariant-loop-k l = (l.i < l.k) × (l.k ≤ suc l.j) × (l.s ≡ row_sum l.t l.x l.i l.k)
 
 abbrev pub decreases-loop-k : goal.decreases-loop-k
 decreases-loop-k l = suc l.j - l.k

@@ -12,7 +12,7 @@ use Rattle.solved.proofs.Solving.{cleared_end}
 use Rattle.solved.proofs.start.Given as goal
 
 abbrev pub invariant-loop-k : goal.invariant-loop-k
-invariant-loop-k l = (l.k ≤ l.n) × Filled greatest_order l.k (λ i. pos 0) l.x
+invariant-loop-k at = (at.k ≤ at.n) × Filled greatest_order at.k (λ i. pos 0) at.x
 
 abbrev pub decreases-loop-k : goal.decreases-loop-k
 decreases-loop-k l = l.n - l.k

@@ -12,7 +12,7 @@ use Rattle.bus.proofs.acts.tick.Reads as reads
 use Rattle.bus.proofs.acts.tick.Goals as goal
 
 abbrev Else1 : Type 0
-Else1 = lts.Else1 tie.the-claims reads.Pre reads.Post
+Else1 = lts.Else1 tie.the-claims reads.Pre reads.Post tie.handed_clauses
 
 sized : (c : Else1) → let a = c.args in bus_sized a.block.now a.run.now ≡ true
 sized c = call_true c.bus_sized.ensures c.if-not-bus_sized.false-raw

@@ -17,13 +17,13 @@ use Rattle.bus.proofs.acts.write.Reads as reads
 use Rattle.bus.proofs.acts.write.Goals as goal
 
 abbrev Else1 : Type 0
-Else1 = lts.Else1 tie.the-claims reads.Pre reads.Post
+Else1 = lts.Else1 tie.the-claims reads.Pre reads.Post tie.handed_clauses
 
 abbrev Else2 : Type 0
-Else2 = lts.Else2 tie.the-claims reads.Pre reads.Post
+Else2 = lts.Else2 tie.the-claims reads.Pre reads.Post tie.handed_clauses
 
 abbrev Then3 : Type 0
-Then3 = lts.Then3 tie.the-claims reads.Pre reads.Post
+Then3 = lts.Then3 tie.the-claims reads.Pre reads.Post tie.handed_clauses
 
 sized : (c : Else1) → let a = c.args in bus_sized a.block.now a.run.now ≡ true
 sized c = call_true c.bus_sized.ensures c.if-not-bus_sized.false-raw

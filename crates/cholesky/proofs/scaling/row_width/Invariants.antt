@@ -13,7 +13,7 @@ use Rattle.cholesky.proofs.Filling.{Placed, placed, gap_fits, width_fits}
 use Rattle.cholesky.proofs.scaling.row_width.Given as goal
 
 abbrev pub invariant-loop-k : goal.invariant-loop-k
-invariant-loop-k l = (l.k ≤ l.n) × (to_z w64 l.w ≡ row_width l.k (at l.n l.low) (at l.n l.high) l.i)
+invariant-loop-k l = (l.k ≤ l.n) × (l.w ≡ row_width l.k (at l.n l.low) (at l.n l.high) l.i)
 
 abbrev pub decreases-loop-k : goal.decreases-loop-k
 decreases-loop-k l = l.n - l.k

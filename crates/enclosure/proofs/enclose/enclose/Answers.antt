@@ -24,25 +24,25 @@ use Rattle.enclosure.proofs.enclose.enclose.Reads as reads
 use Rattle.enclosure.proofs.enclose.enclose.Goals as goal
 
 abbrev After-box_sized : Type 0
-After-box_sized = lts.After-box_sized tie.the-claims reads.Pre reads.Post
+After-box_sized = lts.After-box_sized tie.the-claims reads.Pre reads.Post tie.handed_clauses
 
 abbrev After-check_ends : Type 0
-After-check_ends = lts.After-check_ends tie.the-claims reads.Pre reads.Post
+After-check_ends = lts.After-check_ends tie.the-claims reads.Pre reads.Post tie.handed_clauses
 
 abbrev After-enter : Type 0
-After-enter = lts.After-enter tie.the-claims reads.Pre reads.Post
+After-enter = lts.After-enter tie.the-claims reads.Pre reads.Post tie.handed_clauses
 
 abbrev After-enum_told : Type 0
-After-enum_told = lts.After-enum_told tie.the-claims reads.Pre reads.Post
+After-enum_told = lts.After-enum_told tie.the-claims reads.Pre reads.Post tie.handed_clauses
 
 abbrev After-order_of : Type 0
-After-order_of = lts.After-order_of tie.the-claims reads.Pre reads.Post
+After-order_of = lts.After-order_of tie.the-claims reads.Pre reads.Post tie.handed_clauses
 
 abbrev After-sized_within : Type 0
-After-sized_within = lts.After-sized_within tie.the-claims reads.Pre reads.Post
+After-sized_within = lts.After-sized_within tie.the-claims reads.Pre reads.Post tie.handed_clauses
 
 abbrev Start : Type 0
-Start = lts.Start tie.the-claims reads.Pre reads.Post
+Start = lts.Start tie.the-claims reads.Pre reads.Post tie.handed_clauses
 
 order : (c : After-order_of) → c.order_of-m.result ≡ order_of c.args.n
 order c = rw (clean c.ranges.n) at c.order_of-m.ensures

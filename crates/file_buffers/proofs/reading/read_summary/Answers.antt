@@ -88,7 +88,7 @@ returns-then-passed c =
     let o = c.store_others.ensures in
     let l = c.store_linear.ensures in
     let b = c.store_bounds.ensures in
-    handing_written _ (lent c.before.before.before.before.before.before.before.before.before.before.before.before.before.before.before.before.before.before.before.before.before.before.before.before.before.before.before.before.before.before.before.before.before.before.before.before.before.before.before.before.before) (passed c.before.before.before.before.before.before.before.before.before.before.before.before.before.before.before.before.before.before.before.before.before.before.before.before.before.before.before.before.before) c.read-reading.ensures.0 (accepted c.before.before.before.before.before.before.before.before.before.before.before.before.before.before.before.before.before.before.before.before.before.before.before.before.before.before.before.before c.if-passed.taken) (parts_by o.0 b.0 b.1 l.0 l.1 o.1 o.2)
+    handing_written _ (lent c.before.before.before.before.before.before.before.before.before.before.before.before.before.before.before.before.before.before.before.before.before.before.before.before.before.before.before.before.before.before.before.before.before.before.before.before.before.before.before.before.before) (passed c.before.before.before.before.before.before.before.before.before.before.before.before.before.before.before.before.before.before.before.before.before.before.before.before.before.before.before.before.before) c.read-reading.ensures.0 (accepted c.before.before.before.before.before.before.before.before.before.before.before.before.before.before.before.before.before.before.before.before.before.before.before.before.before.before.before.before c.if-passed.true) (parts_by o.0 b.0 b.1 l.0 l.1 o.1 o.2)
 
 pub returns-else-passed : goal.returns-else-passed
 returns-else-passed c = keeps c.before c.if-passed.false

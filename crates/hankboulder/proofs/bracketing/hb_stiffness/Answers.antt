@@ -13,7 +13,7 @@ use Rattle.hankboulder.proofs.bracketing.hb_stiffness.Reads as reads
 use Rattle.hankboulder.proofs.bracketing.hb_stiffness.Goals as goal
 
 abbrev Start : Type 0
-Start = lts.Start tie.the-claims reads.Pre reads.Post
+Start = lts.Start tie.the-claims reads.Pre reads.Post tie.handed_clauses
 
 abbrev means : Start → StiffnessResult → Type 0
 means s j = let a = s.args in StiffnessMeaning a.n a.low.now a.high.now j.number j.step j.bound j.vector

@@ -10,13 +10,13 @@ use Rattle.hankboulder.proofs.file_reading.hb_read_summary.Reads as reads
 use Rattle.hankboulder.proofs.file_reading.hb_read_summary.Goals as goal
 
 abbrev After-read_summary : Type 0
-After-read_summary = lts.After-read_summary tie.the-claims reads.Pre reads.Post
+After-read_summary = lts.After-read_summary tie.the-claims reads.Pre reads.Post tie.handed_clauses
 
 abbrev After-shared_slice_known : Type 0
-After-shared_slice_known = lts.After-shared_slice_known tie.the-claims reads.Pre reads.Post
+After-shared_slice_known = lts.After-shared_slice_known tie.the-claims reads.Pre reads.Post tie.handed_clauses
 
 abbrev Start : Type 0
-Start = lts.Start tie.the-claims reads.Pre reads.Post
+Start = lts.Start tie.the-claims reads.Pre reads.Post tie.handed_clauses
 
 abbrev lent : Start → Parts
 lent s =

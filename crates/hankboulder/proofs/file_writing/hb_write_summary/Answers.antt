@@ -9,10 +9,10 @@ use Rattle.hankboulder.proofs.file_writing.hb_write_summary.Reads as reads
 use Rattle.hankboulder.proofs.file_writing.hb_write_summary.Goals as goal
 
 abbrev After-shared_slice_known5 : Type 0
-After-shared_slice_known5 = lts.After-shared_slice_known5 tie.the-claims reads.Pre reads.Post
+After-shared_slice_known5 = lts.After-shared_slice_known5 tie.the-claims reads.Pre reads.Post tie.handed_clauses
 
 abbrev After-write_summary : Type 0
-After-write_summary = lts.After-write_summary tie.the-claims reads.Pre reads.Post
+After-write_summary = lts.After-write_summary tie.the-claims reads.Pre reads.Post tie.handed_clauses
 
 -- the answer, and the buffer as it is left
 abbrev left : After-write_summary → Written

@@ -15,7 +15,7 @@ use Rattle.hankboulder.proofs.gathering.hb_gather.Reads as reads
 use Rattle.hankboulder.proofs.gathering.hb_gather.Goals as goal
 
 abbrev Start : Type 0
-Start = lts.Start tie.the-claims reads.Pre reads.Post
+Start = lts.Start tie.the-claims reads.Pre reads.Post tie.handed_clauses
 
 -- the numbers of the sample are of 32 bits
 narrow : (s : Start) → Narrow s.args.sample

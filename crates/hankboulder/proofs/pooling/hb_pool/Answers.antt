@@ -15,7 +15,7 @@ use Rattle.hankboulder.proofs.pooling.hb_pool.Reads as reads
 use Rattle.hankboulder.proofs.pooling.hb_pool.Goals as goal
 
 abbrev Start : Type 0
-Start = lts.Start tie.the-claims reads.Pre reads.Post
+Start = lts.Start tie.the-claims reads.Pre reads.Post tie.handed_clauses
 
 abbrev lent : Start → Lent (List ℕ)
 lent s = let a = s.args in record { low = a.low.now; high = a.high.now; from = a.linear_low.now; to = a.linear_high.now; limit = a.running-limit.now }

@@ -13,7 +13,7 @@ use Rattle.hankboulder.proofs.reading.hb_read_sums.Reads as reads
 use Rattle.hankboulder.proofs.reading.hb_read_sums.Goals as goal
 
 abbrev Start : Type 0
-Start = lts.Start tie.the-claims reads.Pre reads.Post
+Start = lts.Start tie.the-claims reads.Pre reads.Post tie.handed_clauses
 
 abbrev means : Start → ReadResult → Type 0
 means s j =

@@ -2,7 +2,7 @@
 use mathlib.Core.Path.{◌≡◌}
 use native.Mathlib.Numerals.{add-one}
 use native.Mathlib.Omega.{arith}
-use Rattle.integers.proofs.Machine.{clean, clean_result}
+use Rattle.integers.proofs.Machine.{clean, clean_result, clean_element}
 use Rattle.lookahead.specs.LeastSums.{least_shares}
 use Rattle.lookahead.proofs.LeastSums.{first_small, shares_least, open_last, raise_small}
 use Rattle.lookahead.proofs.ahead.fewer_left.Goals as goal
@@ -25,7 +25,7 @@ pub returns-then-left-eq1 : goal.returns-then-left-eq1
 unfolding least_shares
 returns-then-left-eq1 c =
     let e : c.args.left ≡ 1 = omega arith in
-    rw (clean_result c.least_one, c.least_one.ensures, c.raised.ensures, clean c.ranges.sum, c.share_at-a.ensures, e)
+    rw (clean_element c.least_one.result c.least_one.type_inv, c.least_one.ensures, c.raised.ensures, clean c.ranges.sum, c.share_at-a.ensures, e)
     (shares_least _ _ _ 0 _ _ _)
 
 pub overflow_add-i : goal.overflow_add-i
@@ -47,10 +47,9 @@ least_two-requires c =
     rw (c.raised-then-left-eq2.ensures, clean c.ranges.sum, c.share_at-a.ensures, c.share_at-b.ensures, add-one) (open_last c.requires.0 c.requires.1 1 (omega arith))
 
 pub returns-then-left-eq2 : goal.returns-then-left-eq2
-unfolding least_shares
 returns-then-left-eq2 c =
     let e : c.args.left ≡ 2 = omega arith in
-    rw (clean_result c.least_two, c.least_two.ensures, c.raised-then-left-eq2.ensures, clean c.ranges.sum, c.share_at-a.ensures, c.share_at-b.ensures, e, add-one)
+    rw (clean_element c.least_two.result c.least_two.type_inv, c.least_two.ensures, c.raised-then-left-eq2.ensures, clean c.ranges.sum, c.share_at-a.ensures, c.share_at-b.ensures, e, add-one)
     (shares_least _ _ _ 1 _ _ _)
 
 pub overflow_add-j : goal.overflow_add-j
@@ -72,8 +71,7 @@ least_three-requires c =
     rw (c.raised-2.ensures, clean c.ranges.sum, c.share_at-a.ensures, c.share_at-b.ensures, c.share_at-c.ensures, add-one c.args.d, add-one) (open_last c.requires.0 c.requires.1 2 (omega arith))
 
 pub returns : goal.returns
-unfolding least_shares
 returns c =
     let e : c.args.left ≡ 3 = omega arith in
-    rw (clean_result c.least_three, c.least_three.ensures, c.raised-2.ensures, clean c.ranges.sum, c.share_at-a.ensures, c.share_at-b.ensures, c.share_at-c.ensures, e, add-one c.args.d, add-one)
+    rw (clean_element c.least_three.result c.least_three.type_inv, c.least_three.ensures, c.raised-2.ensures, clean c.ranges.sum, c.share_at-a.ensures, c.share_at-b.ensures, c.share_at-c.ensures, e, add-one c.args.d, add-one)
     (shares_least _ _ _ 2 _ _ _)

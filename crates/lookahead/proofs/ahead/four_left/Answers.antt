@@ -1,7 +1,7 @@
 -- The shares of the entries give the least sum.
 use native.Mathlib.Numerals.{add-one}
 use native.Mathlib.Omega.{arith}
-use Rattle.integers.proofs.Machine.{clean, clean_result}
+use Rattle.integers.proofs.Machine.{clean, clean_result, clean_element}
 use Rattle.lookahead.proofs.LeastSums.{shares_least, open_last, raise_small}
 use Rattle.lookahead.proofs.ahead.four_left.Goals as goal
 
@@ -36,5 +36,5 @@ least_four-requires c =
 
 pub returns : goal.returns
 returns c =
-    rw (clean_result c.least_four, c.least_four.ensures, c.raised.ensures, clean c.ranges.sum, c.share_at-a.ensures, c.share_at-b.ensures, c.share_at-c.ensures, c.share_at-e.ensures, add-one c.args.d, add-one, add-one)
+    rw (clean_element c.least_four.result c.least_four.type_inv, c.least_four.ensures, c.raised.ensures, clean c.ranges.sum, c.share_at-a.ensures, c.share_at-b.ensures, c.share_at-c.ensures, c.share_at-e.ensures, add-one c.args.d, add-one, add-one)
     (shares_least _ _ _ 3 _ _ _)

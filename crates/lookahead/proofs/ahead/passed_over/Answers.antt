@@ -1,7 +1,7 @@
 -- By the least sum, where few entries are left.
 use mathlib.Core.Path.{◌≡◌}
 use native.Mathlib.Omega.{arith}
-use Rattle.integers.proofs.Machine.{clean, clean_result}
+use Rattle.integers.proofs.Machine.{clean, clean_result, clean_element}
 use Rattle.lookahead.specs.LeastSums.{look_ahead}
 use Rattle.lookahead.proofs.Sizes.{sum-within}
 use Rattle.lookahead.proofs.LeastSums.{many-left, few_left}
@@ -21,7 +21,7 @@ four_left-requires c =
 pub returns-then-left-eq-LOOK_AHEAD : goal.returns-then-left-eq-LOOK_AHEAD
 returns-then-left-eq-LOOK_AHEAD c =
     let e : c.args.left ≡ look_ahead = c.if-left-eq-LOOK_AHEAD.true in
-    rw (clean_result c.four_left, c.four_left.ensures, clean c.ranges.sum, ← e) (few_left _ _ _ _ _ _ _ (omega arith))
+    rw (clean_element c.four_left.result c.four_left.type_inv, c.four_left.ensures, clean c.ranges.sum, ← e) (few_left _ _ _ _ _ _ _ (omega arith))
 
 pub fewer_left-requires : goal.fewer_left-requires
 fewer_left-requires c =
@@ -30,4 +30,4 @@ fewer_left-requires c =
 
 pub returns : goal.returns
 returns c =
-    rw (clean_result c.fewer_left, c.fewer_left.ensures, clean c.ranges.sum) (few_left _ _ _ _ _ _ _ (omega arith))
+    rw (clean_element c.fewer_left.result c.fewer_left.type_inv, c.fewer_left.ensures, clean c.ranges.sum) (few_left _ _ _ _ _ _ _ (omega arith))

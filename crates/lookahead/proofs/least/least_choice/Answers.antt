@@ -1,6 +1,6 @@
 -- The sums of the entry and of those after it.
 use borrow.Author.Rules.{rules}
-use Rattle.integers.proofs.Machine.{clean, clean_result}
+use Rattle.integers.proofs.Machine.{clean, clean_result, clean_element}
 use Rattle.lookahead.specs.LeastSums.{least_choice}
 use Rattle.lookahead.proofs.LeastSums.{sum_fits, sum_is}
 use Rattle.lookahead.proofs.least.least_choice.Goals as goal
@@ -17,4 +17,4 @@ pub returns : goal.returns
 unfolding least_choice
 returns c =
     let p = c.requires in
-    rw (clean_result c.least_of, c.least_of.ensures, clean c.ranges.zero, sum_is p.0.plus p.1, sum_is p.0.minus p.2)
+    rw (clean_element c.least_of.result c.least_of.type_inv, c.least_of.ensures, clean c.ranges.zero, sum_is p.0.plus p.1, sum_is p.0.minus p.2)

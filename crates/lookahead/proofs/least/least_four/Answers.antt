@@ -3,7 +3,7 @@ use mathlib.Core.Path.{◌∙◌}
 use native.Mathlib.Numerals.{add-one}
 use native.Mathlib.Omega.{arith}
 use borrow.Author.Rules.{rules}
-use Rattle.integers.proofs.Machine.{clean, clean_result}
+use Rattle.integers.proofs.Machine.{clean, clean_result, clean_element}
 use Rattle.lookahead.specs.LeastSums.{shares_after}
 use Rattle.lookahead.proofs.LeastSums.{last_zero, last_one, last-minus-one, first_small, choice_small, choice_is}
 use Rattle.lookahead.proofs.least.least_four.Goals as goal
@@ -48,16 +48,16 @@ pub least_choice-requires : goal.least_choice-requires
 unfolding shares_after
 least_choice-requires c =
     choice_small 2 c.requires
-    (rw (clean_result c.least_three-one, c.least_three-one.ensures, clean c.ranges.sum, c.share_after-b1.ensures, c.share_after-c1.ensures, c.share_after-e1.ensures, add-one c.args.d, add-one, add-one))
-    (rw (clean_result c.least_three-opposite, c.least_three-opposite.ensures, clean c.ranges.sum, c.share_after-b2.ensures, c.share_after-c2.ensures, c.share_after-e2.ensures, add-one c.args.d, add-one, add-one))
+    (rw (clean_element c.least_three-one.result c.least_three-one.type_inv, c.least_three-one.ensures, clean c.ranges.sum, c.share_after-b1.ensures, c.share_after-c1.ensures, c.share_after-e1.ensures, add-one c.args.d, add-one, add-one))
+    (rw (clean_element c.least_three-opposite.result c.least_three-opposite.type_inv, c.least_three-opposite.ensures, clean c.ranges.sum, c.share_after-b2.ensures, c.share_after-c2.ensures, c.share_after-e2.ensures, add-one c.args.d, add-one, add-one))
     (omega arith)
 
 pub returns : goal.returns
 unfolding shares_after
 returns c =
-    clean_result c.least_choice
+    clean_element c.least_choice.result c.least_choice.type_inv
     ∙ c.least_choice.ensures
     ∙ choice_is 2 c.requires
-    (rw (clean_result c.least_three-one, c.least_three-one.ensures, clean c.ranges.sum, c.share_after-b1.ensures, c.share_after-c1.ensures, c.share_after-e1.ensures, add-one c.args.d, add-one, add-one))
-    (rw (clean_result c.least_three-opposite, c.least_three-opposite.ensures, clean c.ranges.sum, c.share_after-b2.ensures, c.share_after-c2.ensures, c.share_after-e2.ensures, add-one c.args.d, add-one, add-one))
-    (rw (clean_result c.least_three-zero, c.least_three-zero.ensures, clean c.ranges.sum, add-one))
+    (rw (clean_element c.least_three-one.result c.least_three-one.type_inv, c.least_three-one.ensures, clean c.ranges.sum, c.share_after-b1.ensures, c.share_after-c1.ensures, c.share_after-e1.ensures, add-one c.args.d, add-one, add-one))
+    (rw (clean_element c.least_three-opposite.result c.least_three-opposite.type_inv, c.least_three-opposite.ensures, clean c.ranges.sum, c.share_after-b2.ensures, c.share_after-c2.ensures, c.share_after-e2.ensures, add-one c.args.d, add-one, add-one))
+    (rw (clean_element c.least_three-zero.result c.least_three-zero.type_inv, c.least_three-zero.ensures, clean c.ranges.sum, add-one))

@@ -1,7 +1,7 @@
 -- The least of three.
 use native.Mathlib.Omega.{arith}
 use borrow.Author.Rules.{rules}
-use Rattle.integers.proofs.Machine.{clean, clean_result, fits_within}
+use Rattle.integers.proofs.Machine.{clean, clean_result, fits_within, clean_element}
 use Rattle.lookahead.specs.LeastSums.{least_one}
 use Rattle.lookahead.proofs.least.least_one.Goals as goal
 
@@ -9,4 +9,4 @@ pub returns : goal.returns
 unfolding least_one
 returns c =
     let p = c.requires in
-    rw (clean_result c.least_of, c.least_of.ensures, clean c.ranges.sum, clean (fits_within p.plus (omega arith)), clean (fits_within p.minus (omega arith)))
+    rw (clean_element c.least_of.result c.least_of.type_inv, c.least_of.ensures, clean c.ranges.sum, clean (fits_within p.plus (omega arith)), clean (fits_within p.minus (omega arith)))

@@ -3,7 +3,7 @@ use mathlib.Core.Path.{◌∙◌}
 use native.Mathlib.Numerals.{add-one}
 use native.Mathlib.Omega.{arith}
 use borrow.Author.Rules.{rules}
-use Rattle.integers.proofs.Machine.{clean, clean_result}
+use Rattle.integers.proofs.Machine.{clean, clean_result, clean_element}
 use Rattle.lookahead.specs.LeastSums.{shares_after}
 use Rattle.lookahead.proofs.LeastSums.{last_zero, last_one, last-minus-one, first_small, choice_small, choice_is}
 use Rattle.lookahead.proofs.least.least_three.Goals as goal
@@ -40,16 +40,16 @@ pub least_choice-requires : goal.least_choice-requires
 unfolding shares_after
 least_choice-requires c =
     choice_small 1 c.requires
-    (rw (clean_result c.least_two-one, c.least_two-one.ensures, clean c.ranges.sum, c.share_after-b1.ensures, c.share_after-c1.ensures, add-one c.args.d, add-one))
-    (rw (clean_result c.least_two-opposite, c.least_two-opposite.ensures, clean c.ranges.sum, c.share_after-b2.ensures, c.share_after-c2.ensures, add-one c.args.d, add-one))
+    (rw (clean_element c.least_two-one.result c.least_two-one.type_inv, c.least_two-one.ensures, clean c.ranges.sum, c.share_after-b1.ensures, c.share_after-c1.ensures, add-one c.args.d, add-one))
+    (rw (clean_element c.least_two-opposite.result c.least_two-opposite.type_inv, c.least_two-opposite.ensures, clean c.ranges.sum, c.share_after-b2.ensures, c.share_after-c2.ensures, add-one c.args.d, add-one))
     (omega arith)
 
 pub returns : goal.returns
 unfolding shares_after
 returns c =
-    clean_result c.least_choice
+    clean_element c.least_choice.result c.least_choice.type_inv
     ∙ c.least_choice.ensures
     ∙ choice_is 1 c.requires
-    (rw (clean_result c.least_two-one, c.least_two-one.ensures, clean c.ranges.sum, c.share_after-b1.ensures, c.share_after-c1.ensures, add-one c.args.d, add-one))
-    (rw (clean_result c.least_two-opposite, c.least_two-opposite.ensures, clean c.ranges.sum, c.share_after-b2.ensures, c.share_after-c2.ensures, add-one c.args.d, add-one))
-    (rw (clean_result c.least_two-zero, c.least_two-zero.ensures, clean c.ranges.sum, add-one))
+    (rw (clean_element c.least_two-one.result c.least_two-one.type_inv, c.least_two-one.ensures, clean c.ranges.sum, c.share_after-b1.ensures, c.share_after-c1.ensures, add-one c.args.d, add-one))
+    (rw (clean_element c.least_two-opposite.result c.least_two-opposite.type_inv, c.least_two-opposite.ensures, clean c.ranges.sum, c.share_after-b2.ensures, c.share_after-c2.ensures, add-one c.args.d, add-one))
+    (rw (clean_element c.least_two-zero.result c.least_two-zero.type_inv, c.least_two-zero.ensures, clean c.ranges.sum, add-one))

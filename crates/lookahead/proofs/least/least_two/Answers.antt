@@ -3,7 +3,7 @@ use mathlib.Core.Path.{◌∙◌}
 use native.Mathlib.Numerals.{add-one}
 use native.Mathlib.Omega.{arith}
 use borrow.Author.Rules.{rules}
-use Rattle.integers.proofs.Machine.{clean, clean_result}
+use Rattle.integers.proofs.Machine.{clean, clean_result, clean_element}
 use Rattle.lookahead.specs.LeastSums.{least_shares, shares_after}
 use Rattle.lookahead.proofs.LeastSums.{last_zero, last_one, last-minus-one, first_small, choice_small, choice_is}
 use Rattle.lookahead.proofs.least.least_two.Goals as goal
@@ -32,16 +32,16 @@ pub least_choice-requires : goal.least_choice-requires
 unfolding shares_after least_shares
 least_choice-requires c =
     choice_small 0 c.requires
-    (rw (clean_result c.least_one-one, c.least_one-one.ensures, clean c.ranges.sum, c.share_after.ensures, add-one))
-    (rw (clean_result c.least_one-opposite, c.least_one-opposite.ensures, clean c.ranges.sum, c.share_after-2.ensures, add-one))
+    (rw (clean_element c.least_one-one.result c.least_one-one.type_inv, c.least_one-one.ensures, clean c.ranges.sum, c.share_after.ensures, add-one))
+    (rw (clean_element c.least_one-opposite.result c.least_one-opposite.type_inv, c.least_one-opposite.ensures, clean c.ranges.sum, c.share_after-2.ensures, add-one))
     (omega arith)
 
 pub returns : goal.returns
 unfolding shares_after least_shares
 returns c =
-    clean_result c.least_choice
+    clean_element c.least_choice.result c.least_choice.type_inv
     ∙ c.least_choice.ensures
     ∙ choice_is 0 c.requires
-    (rw (clean_result c.least_one-one, c.least_one-one.ensures, clean c.ranges.sum, c.share_after.ensures, add-one))
-    (rw (clean_result c.least_one-opposite, c.least_one-opposite.ensures, clean c.ranges.sum, c.share_after-2.ensures, add-one))
-    (rw (clean_result c.least_one-zero, c.least_one-zero.ensures, clean c.ranges.sum))
+    (rw (clean_element c.least_one-one.result c.least_one-one.type_inv, c.least_one-one.ensures, clean c.ranges.sum, c.share_after.ensures, add-one))
+    (rw (clean_element c.least_one-opposite.result c.least_one-opposite.type_inv, c.least_one-opposite.ensures, clean c.ranges.sum, c.share_after-2.ensures, add-one))
+    (rw (clean_element c.least_one-zero.result c.least_one-zero.type_inv, c.least_one-zero.ensures, clean c.ranges.sum))

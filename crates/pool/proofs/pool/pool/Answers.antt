@@ -24,16 +24,16 @@ use Rattle.pool.proofs.pool.pool.Reads as reads
 use Rattle.pool.proofs.pool.pool.Goals as goal
 
 abbrev After-check_entry : Type 0
-After-check_entry = lts.After-check_entry tie.the-claims reads.Pre reads.Post
+After-check_entry = lts.After-check_entry tie.the-claims reads.Pre reads.Post tie.handed_clauses
 
 abbrev After-enum_told : Type 0
-After-enum_told = lts.After-enum_told tie.the-claims reads.Pre reads.Post
+After-enum_told = lts.After-enum_told tie.the-claims reads.Pre reads.Post tie.handed_clauses
 
 abbrev After-order_of : Type 0
-After-order_of = lts.After-order_of tie.the-claims reads.Pre reads.Post
+After-order_of = lts.After-order_of tie.the-claims reads.Pre reads.Post tie.handed_clauses
 
 abbrev Start : Type 0
-Start = lts.Start tie.the-claims reads.Pre reads.Post
+Start = lts.Start tie.the-claims reads.Pre reads.Post tie.handed_clauses
 
 -- the sums that are lent, and the problems in their lists
 abbrev lent : Start → Lent (List ℤ)

@@ -13,7 +13,7 @@ use Rattle.tables.proofs.Buffers.{filled_none, filled_more}
 use Rattle.pool_buffers.proofs.pooling.load_part.Given as goal
 
 abbrev pub invariant-loop-i : goal.invariant-loop-i
-invariant-loop-i l = (l.i ≤ l.count) × Filled (length l.initial.out) l.i (λ k. signed_at w64 l.x ((l.first + k) * bytes w64)) l.out
+invariant-loop-i at = (at.i ≤ at.count) × Filled (length at.initial.out) at.i (λ k. signed_at w64 at.x ((at.first + k) * bytes w64)) at.out
 
 abbrev pub decreases-loop-i : goal.decreases-loop-i
 decreases-loop-i l = l.count - l.i

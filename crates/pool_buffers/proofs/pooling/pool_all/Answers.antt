@@ -75,13 +75,13 @@ add_problem-done-requires c =
     (c.requires.0, c.load_problem-limit.ensures.rooms, going_rooms c.loop-k.invariant.2 f, going_ready c.loop-k.invariant.2 f)
 
 pub overflow_add-k : goal.overflow_add-k
-overflow_add-k c = omega (arith, c.loop-k-test.taken, c.requires.1)
+overflow_add-k c = omega (arith, c.loop-k-test.true, c.requires.1)
 
 pub loop-k-preserved : goal.loop-k-preserved
 loop-k-preserved c =
     let m = c.add_problem-done.kept.1.1 in
     let w = scratch c.before.before.before.before.before.before.before.before.before.before.before.before.before.before.before.before.before.before.before in (
-      omega (arith, c.loop-k-test.taken),
+      omega (arith, c.loop-k-test.true),
       record { low = m.0 ∙ w.low; high = m.1.0 ∙ w.high; from = w.from; to = w.to },
       going_next c.loop-k.invariant.2 c.load_problem-limit.ensures.sums
           (record { low = m.1.1.1.1.1.0; high = m.1.1.1.1.1.1.0; from = m.1.1.1.1.1.1.1.0; to = m.1.1.1.1.1.1.1.1.0 })

@@ -11,7 +11,7 @@ use Rattle.report.proofs.report.report.Reads as reads
 use Rattle.report.proofs.report.report.Goals as goal
 
 abbrev After-enum_told : Type 0
-After-enum_told = lts.After-enum_told tie.the-claims reads.Pre reads.Post
+After-enum_told = lts.After-enum_told tie.the-claims reads.Pre reads.Post tie.handed_clauses
 
 -- a problem was read, and let through
 passed : (c : After-enum_told) → LetThrough c.read-reading.result.problem

@@ -15,7 +15,7 @@ use Rattle.residual.proofs.Sizes.{product_fits, products_fit}
 use Rattle.residual.proofs.residual.product.Given as goal
 
 abbrev pub invariant-loop-k : goal.invariant-loop-k
-invariant-loop-k l = (l.k ≤ suc l.i) × (to_z w64 l.s ≡ sum l.k (λ l. at l.n l.factor l l.i *ℤ at l.n l.factor l l.j))
+invariant-loop-k at = (at.k ≤ suc at.i) × (at.s ≡ sum at.k (λ at. at at.n at.factor l at.i *ℤ at at.n at.factor l at.j))
 
 abbrev pub decreases-loop-k : goal.decreases-loop-k
 decreases-loop-k l = suc l.i - l.k

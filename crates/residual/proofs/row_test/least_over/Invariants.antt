@@ -17,7 +17,7 @@ use Rattle.residual.proofs.Rows.{so_far, so_far_first, so_far_more, so_far_all}
 use Rattle.residual.proofs.row_test.least_over.Given as goal
 
 abbrev pub invariant-loop-i : goal.invariant-loop-i
-invariant-loop-i l = (1 ≤ l.i) × (l.i ≤ l.n) × (to_z w64 l.least ≡ so_far l.n (at l.n l.low) (at l.n l.high) l.i)
+invariant-loop-i l = (1 ≤ l.i) × (l.i ≤ l.n) × (l.least ≡ so_far l.n (at l.n l.low) (at l.n l.high) l.i)
 
 abbrev pub decreases-loop-i : goal.decreases-loop-i
 decreases-loop-i l = l.n - l.i

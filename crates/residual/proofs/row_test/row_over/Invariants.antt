@@ -13,7 +13,7 @@ use Rattle.residual.proofs.Rows.{left, left-none, left-more, left-all, first_fit
 use Rattle.residual.proofs.row_test.row_over.Given as goal
 
 abbrev pub invariant-loop-j : goal.invariant-loop-j
-invariant-loop-j l = (l.j ≤ l.n) × (to_z w64 l.over ≡ left (at l.n l.low) (at l.n l.high) l.i l.j)
+invariant-loop-j l = (l.j ≤ l.n) × (l.over ≡ left (at l.n l.low) (at l.n l.high) l.i l.j)
 
 abbrev pub decreases-loop-j : goal.decreases-loop-j
 decreases-loop-j l = l.n - l.j

@@ -24,10 +24,10 @@ use Rattle.rides.proofs.gather.gather.Reads as reads
 use Rattle.rides.proofs.gather.gather.Goals as goal
 
 abbrev After-measured : Type 0
-After-measured = lts.After-measured tie.the-claims reads.Pre reads.Post
+After-measured = lts.After-measured tie.the-claims reads.Pre reads.Post tie.handed_clauses
 
 abbrev Start : Type 0
-Start = lts.Start tie.the-claims reads.Pre reads.Post
+Start = lts.Start tie.the-claims reads.Pre reads.Post tie.handed_clauses
 
 -- the numbers of the sample are of 32 bits
 narrow : (s : Start) → Narrow s.args.sample

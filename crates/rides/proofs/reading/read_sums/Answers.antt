@@ -22,19 +22,19 @@ use Rattle.rides.proofs.reading.read_sums.Reads as reads
 use Rattle.rides.proofs.reading.read_sums.Goals as goal
 
 abbrev After-constraint_sized : Type 0
-After-constraint_sized = lts.After-constraint_sized tie.the-claims reads.Pre reads.Post
+After-constraint_sized = lts.After-constraint_sized tie.the-claims reads.Pre reads.Post tie.handed_clauses
 
 abbrev After-order_of : Type 0
-After-order_of = lts.After-order_of tie.the-claims reads.Pre reads.Post
+After-order_of = lts.After-order_of tie.the-claims reads.Pre reads.Post tie.handed_clauses
 
 abbrev After-read_checked : Type 0
-After-read_checked = lts.After-read_checked tie.the-claims reads.Pre reads.Post
+After-read_checked = lts.After-read_checked tie.the-claims reads.Pre reads.Post tie.handed_clauses
 
 abbrev Else2 : Type 0
-Else2 = lts.Else2 tie.the-claims reads.Pre reads.Post
+Else2 = lts.Else2 tie.the-claims reads.Pre reads.Post tie.handed_clauses
 
 abbrev Start : Type 0
-Start = lts.Start tie.the-claims reads.Pre reads.Post
+Start = lts.Start tie.the-claims reads.Pre reads.Post tie.handed_clauses
 
 order : (c : After-order_of) → c.order_of-m.result ≡ order_of c.args.n
 order c = rw (clean c.ranges.n) at c.order_of-m.ensures

@@ -86,7 +86,7 @@ within-requires c = pos_nonneg _
 pub returns-then-not-within : goal.returns-then-not-within
 returns-then-not-within c =
     record {
-      answered = sym (all_false _ _ c.loop-j.j c.loop-j-test.taken (rw (← result c.before.before) (call_false (rw (clean_result c.scaled_entry-scaled) at c.within.ensures) c.if-not-within.true-raw)));
+      answered = sym (all_false _ _ c.loop-j.j c.loop-j-test.true (rw (← result c.before.before) (call_false (rw (clean_result c.scaled_entry-scaled) at c.within.ensures) c.if-not-within.true-raw)));
       size = c.loop-j.invariant.1;
       part = λ e. absurd (false≢true e);
     }
@@ -101,17 +101,17 @@ pub bounds-t-start-in-loop-j : goal.bounds-t-start-in-loop-j
 bounds-t-start-in-loop-j c = place c.before.before.before.before.before
 
 pub overflow_add-j : goal.overflow_add-j
-overflow_add-j c = omega (arith, c.requires.0, c.loop-j-test.taken)
+overflow_add-j c = omega (arith, c.requires.0, c.loop-j-test.true)
 
 pub loop-j-preserved : goal.loop-j-preserved
 loop-j-preserved c =
     let a = c.args in
     let j = c.loop-j.j in
     let e : suc (a.i * a.n + j) ≡ a.i * a.n + (j + 1) = omega arith in (
-      omega (arith, c.loop-j-test.taken),
+      omega (arith, c.loop-j-test.true),
       length-set c.loop-j.t _ _ ∙ c.loop-j.invariant.1,
       rw (clean_result c.scaled_entry-scaled, result c.before.before, ← e)
-          (part-more a.i j c.loop-j-test.taken (omega arith) (omega (arith, place c.before.before.before.before.before, c.loop-j.invariant.1))
+          (part-more a.i j c.loop-j-test.true (omega arith) (omega (arith, place c.before.before.before.before.before, c.loop-j.invariant.1))
           (rw (← result c.before.before) (call_true (rw (clean_result c.scaled_entry-scaled) at c.within.ensures) c.if-not-within.false-raw)) c.loop-j.invariant.2),
     )
 

@@ -18,16 +18,16 @@ use Rattle.stiffness.proofs.bracket.bracket.Reads as reads
 use Rattle.stiffness.proofs.bracket.bracket.Goals as goal
 
 abbrev After-enter : Type 0
-After-enter = lts.After-enter tie.the-claims reads.Pre reads.Post
+After-enter = lts.After-enter tie.the-claims reads.Pre reads.Post tie.handed_clauses
 
 abbrev After-order_of : Type 0
-After-order_of = lts.After-order_of tie.the-claims reads.Pre reads.Post
+After-order_of = lts.After-order_of tie.the-claims reads.Pre reads.Post tie.handed_clauses
 
 abbrev After-sizes_ok : Type 0
-After-sizes_ok = lts.After-sizes_ok tie.the-claims reads.Pre reads.Post
+After-sizes_ok = lts.After-sizes_ok tie.the-claims reads.Pre reads.Post tie.handed_clauses
 
 abbrev Start : Type 0
-Start = lts.Start tie.the-claims reads.Pre reads.Post
+Start = lts.Start tie.the-claims reads.Pre reads.Post tie.handed_clauses
 
 order : (c : After-order_of) → c.order_of-m.result ≡ order_of c.args.n
 order c = rw (clean c.ranges.n) at c.order_of-m.ensures

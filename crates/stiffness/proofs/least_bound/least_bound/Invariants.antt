@@ -21,4 +21,4 @@ abbrev pub invariant-loop-below : goal.invariant-loop-below
 invariant-loop-below l = Narrowed l.n (at l.n l.low) (at l.n l.high) l.below l.v l.x
 
 abbrev pub decreases-loop-below : goal.decreases-loop-below
-decreases-loop-below l = nat_abs (to_z w64 l.v -ℤ to_z w64 l.below)
+decreases-loop-below l = nat_abs (l.v -ℤ l.below)

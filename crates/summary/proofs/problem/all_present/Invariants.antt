@@ -13,7 +13,7 @@ use Rattle.summary.specs.Problems.{all_present}
 use Rattle.summary.proofs.problem.all_present.Given as goal
 
 abbrev pub invariant-loop-place : goal.invariant-loop-place
-invariant-loop-place l = (l.place ≤ kind_count) × (all l.place (λ i. ltb 0 (get_or l.starts i 0)) ≡ true)
+invariant-loop-place at = (at.place ≤ kind_count) × (all at.place (λ i. ltb 0 (get_or at.starts i 0)) ≡ true)
 
 abbrev pub decreases-loop-place : goal.decreases-loop-place
 decreases-loop-place l = kind_count - l.place

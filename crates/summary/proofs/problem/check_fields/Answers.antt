@@ -41,7 +41,7 @@ one_byte c = let r = c.length_of-sized in rw r.ensures at (not-false (eqb r.resu
 found : (c : After-order_ok) → let a = c.args in order_ok (pos (order_in a.file.now a.layout)) ≡ c.order_ok-ordered.result
 found c =
     let n = c.order_in-n in
-    let k = n.type-inv in
+    let k = n.type_inv in
     sym (rw (read_i64 n.result (omega arith), n.ensures) at c.order_ok-ordered.ensures)
 
 ordered : (c : Else3) → let a = c.args in order_ok (pos (order_in a.file.now a.layout)) ≡ true

@@ -13,7 +13,7 @@ use Rattle.summary.proofs.problem.read.Reads as reads
 use Rattle.summary.proofs.problem.read.Goals as goal
 
 abbrev After-shared_slice_known : Type 0
-After-shared_slice_known = lts.After-shared_slice_known tie.the-claims reads.Pre reads.Post
+After-shared_slice_known = lts.After-shared_slice_known tie.the-claims reads.Pre reads.Post tie.handed_clauses
 
 -- what a reading means
 means : (c : After-shared_slice_known) → ReadingMeaning c.args.file.now (reading c.args.file.now)

@@ -14,7 +14,7 @@ use Rattle.sums.proofs.Fronts.{sum_fits}
 use Rattle.sums.proofs.adding.add_numbers.Given as goal
 
 abbrev pub invariant-loop-k : goal.invariant-loop-k
-invariant-loop-k l = (l.k ≤ l.count) × Replaced (length l.initial.x) l.k (λ i. nth l.initial.x i +ℤ nth l.g i) l.initial.x l.x
+invariant-loop-k at = (at.k ≤ at.count) × Replaced (length at.initial.x) at.k (λ i. nth at.initial.x i +ℤ nth at.g i) at.initial.x at.x
 
 abbrev pub decreases-loop-k : goal.decreases-loop-k
 decreases-loop-k l = l.count - l.k

@@ -12,7 +12,7 @@ use Rattle.vectors.proofs.Values.{row_fits}
 use Rattle.vectors.proofs.least.least_row.Given as goal
 
 abbrev pub invariant-loop-k : goal.invariant-loop-k
-invariant-loop-k l = (l.k ≤ l.i) × (to_z w64 l.s ≡ least_row l.n l.low l.high l.x l.i l.k)
+invariant-loop-k l = (l.k ≤ l.i) × (l.s ≡ least_row l.n l.low l.high l.x l.i l.k)
 
 abbrev pub decreases-loop-k : goal.decreases-loop-k
 decreases-loop-k l = l.i - l.k

@@ -13,7 +13,7 @@ use Rattle.vectors.proofs.Values.{sum_fits, shares_add}
 use Rattle.vectors.proofs.least.least_value.Given as goal
 
 abbrev pub invariant-loop-i : goal.invariant-loop-i
-invariant-loop-i l = (l.i ≤ l.n) × (to_z w64 l.s ≡ sum l.i (least_share l.n l.low l.high l.x))
+invariant-loop-i l = (l.i ≤ l.n) × (l.s ≡ sum l.i (least_share l.n l.low l.high l.x))
 
 abbrev pub decreases-loop-i : goal.decreases-loop-i
 decreases-loop-i l = l.n - l.i

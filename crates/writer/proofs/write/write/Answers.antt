@@ -23,19 +23,19 @@ use Rattle.writer.proofs.write.write.Reads as reads
 use Rattle.writer.proofs.write.write.Goals as goal
 
 abbrev After-order_of : Type 0
-After-order_of = lts.After-order_of tie.the-claims reads.Pre reads.Post
+After-order_of = lts.After-order_of tie.the-claims reads.Pre reads.Post tie.handed_clauses
 
 abbrev After-problem_of : Type 0
-After-problem_of = lts.After-problem_of tie.the-claims reads.Pre reads.Post
+After-problem_of = lts.After-problem_of tie.the-claims reads.Pre reads.Post tie.handed_clauses
 
 abbrev After-write_sized : Type 0
-After-write_sized = lts.After-write_sized tie.the-claims reads.Pre reads.Post
+After-write_sized = lts.After-write_sized tie.the-claims reads.Pre reads.Post tie.handed_clauses
 
 abbrev Else2 : Type 0
-Else2 = lts.Else2 tie.the-claims reads.Pre reads.Post
+Else2 = lts.Else2 tie.the-claims reads.Pre reads.Post tie.handed_clauses
 
 abbrev Start : Type 0
-Start = lts.Start tie.the-claims reads.Pre reads.Post
+Start = lts.Start tie.the-claims reads.Pre reads.Post tie.handed_clauses
 
 order : (c : After-order_of) → c.order_of-m.result ≡ order_of c.args.n
 order c = rw (clean c.ranges.n) at c.order_of-m.ensures
