@@ -63,11 +63,8 @@ fn print_verdict(rt: &impl Print, verdict: Verdict) -> io::Result<()> {
 
 // The number of the factor test's answer, and where nothing is refused what the rows of the residual have over.
 fn print_tested(rt: &impl Print, answer: FactorAnswer) -> io::Result<()> {
-    print_number(
-        rt,
-        b"test_factor",
-        residual::factor_test::factor_code(answer),
-    )?;
+    let number = residual::factor_test::factor_code(answer);
+    print_number(rt, b"test_factor", number)?;
     match answer {
         FactorAnswer::Accepted(over) => print_number(rt, b"over", over),
         FactorAnswer::NotAccepted(over) => print_number(rt, b"over", over),
@@ -80,16 +77,12 @@ fn definite(rt: &impl Print) -> io::Result<()> {
     let table = [2i64, 1, 1, 2];
     let mut factor = [5i64; 4];
     let mut vector = [5i64; 2];
-    print_verdict(
-        rt,
-        verdict::judge::judge(2, &table, &table, &mut factor, &mut vector),
-    )?;
+    let verdict = verdict::judge::judge(2, &table, &table, &mut factor, &mut vector);
+    print_verdict(rt, verdict)?;
     print_four(rt, b"factor", &factor)?;
     print_two(rt, b"vector", &vector)?;
-    print_tested(
-        rt,
-        residual::factor_test::test_factor(2, &table, &table, &factor),
-    )
+    let answer = residual::factor_test::test_factor(2, &table, &table, &factor);
+    print_tested(rt, answer)
 }
 
 // [1 3; 3 10], on which the judge is undecided. The factor test accepts its exact factor, with 0 over; not one that is next to it, with
@@ -98,25 +91,17 @@ fn offered(rt: &impl Print) -> io::Result<()> {
     let table = [1i64, 3, 3, 10];
     let mut factor = [5i64; 4];
     let mut vector = [5i64; 2];
-    print_verdict(
-        rt,
-        verdict::judge::judge(2, &table, &table, &mut factor, &mut vector),
-    )?;
+    let verdict = verdict::judge::judge(2, &table, &table, &mut factor, &mut vector);
+    print_verdict(rt, verdict)?;
     let exact = [65536i64, 196608, 0, 65536];
-    print_tested(
-        rt,
-        residual::factor_test::test_factor(2, &table, &table, &exact),
-    )?;
+    let answer = residual::factor_test::test_factor(2, &table, &table, &exact);
+    print_tested(rt, answer)?;
     let near = [65536i64, 196607, 0, 65536];
-    print_tested(
-        rt,
-        residual::factor_test::test_factor(2, &table, &table, &near),
-    )?;
+    let answer = residual::factor_test::test_factor(2, &table, &table, &near);
+    print_tested(rt, answer)?;
     let flat = [65536i64, 196608, 0, 0];
-    print_tested(
-        rt,
-        residual::factor_test::test_factor(2, &table, &table, &flat),
-    )
+    let answer = residual::factor_test::test_factor(2, &table, &table, &flat);
+    print_tested(rt, answer)
 }
 
 // The number of a refusal, or 0 where nothing is refused.
@@ -261,10 +246,8 @@ fn not_definite(rt: &impl Print) -> io::Result<()> {
     let table = [1i64, 2, 2, 1];
     let mut factor = [5i64; 4];
     let mut vector = [5i64; 2];
-    print_verdict(
-        rt,
-        verdict::judge::judge(2, &table, &table, &mut factor, &mut vector),
-    )?;
+    let verdict = verdict::judge::judge(2, &table, &table, &mut factor, &mut vector);
+    print_verdict(rt, verdict)?;
     print_four(rt, b"factor", &factor)?;
     print_two(rt, b"vector", &vector)?;
     let answer = vectors::vector_test::test_vector(2, &table, &table, &vector);
@@ -276,10 +259,8 @@ fn refused(rt: &impl Print) -> io::Result<()> {
     let short = [2i64, 1];
     let mut factor = [5i64; 4];
     let mut vector = [5i64; 2];
-    print_verdict(
-        rt,
-        verdict::judge::judge(2, &short, &short, &mut factor, &mut vector),
-    )?;
+    let verdict = verdict::judge::judge(2, &short, &short, &mut factor, &mut vector);
+    print_verdict(rt, verdict)?;
     print_four(rt, b"factor", &factor)?;
     print_two(rt, b"vector", &vector)
 }
@@ -302,23 +283,17 @@ fn print_stiffness(rt: &impl Print, stiffness: Stiffness) -> io::Result<()> {
 fn bracketed(rt: &impl Print) -> io::Result<()> {
     let stiff = [5i64, 2, 2, 5];
     let mut vector = [5i64; 2];
-    print_stiffness(
-        rt,
-        stiffness::bracket::bracket(2, &stiff, &stiff, &mut vector),
-    )?;
+    let stiffness = stiffness::bracket::bracket(2, &stiff, &stiff, &mut vector);
+    print_stiffness(rt, stiffness)?;
     print_two(rt, b"vector", &vector)?;
     let soft = [1i64, 2, 2, 1];
-    print_stiffness(
-        rt,
-        stiffness::bracket::bracket(2, &soft, &soft, &mut vector),
-    )?;
+    let stiffness = stiffness::bracket::bracket(2, &soft, &soft, &mut vector);
+    print_stiffness(rt, stiffness)?;
     print_two(rt, b"vector", &vector)?;
     let apart = [1i64, 2, 3, 1];
     let mut kept = [5i64; 2];
-    print_stiffness(
-        rt,
-        stiffness::bracket::bracket(2, &apart, &apart, &mut kept),
-    )?;
+    let stiffness = stiffness::bracket::bracket(2, &apart, &apart, &mut kept);
+    print_stiffness(rt, stiffness)?;
     print_two(rt, b"vector", &kept)
 }
 
@@ -430,11 +405,8 @@ fn on_the_bus(rt: &impl Print) -> io::Result<()> {
     let read = bus::acts::read(&block, 3, &mut verdict);
     print_checked(rt, b"bus_read", read)?;
     print_byte(rt, b"verdict", verdict[0])?;
-    print_number(
-        rt,
-        b"bus_line",
-        bus::line::line_code(bus::acts::line(&block)),
-    )
+    let number = bus::line::line_code(bus::acts::line(&block));
+    print_number(rt, b"bus_line", number)
 }
 
 // Whether the judge calls two bounds of order 2 definite. Where it does, every symmetric matrix between them is positive definite: the
