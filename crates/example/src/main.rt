@@ -6,108 +6,116 @@ ghost use Rattle.std.specs.Prelude.{◌≡◌, true, ◌≤◌, length};
 ghost use Rattle.tables.specs.Matrix.{at};
 ghost use Rattle.tables.specs.Members.{PositiveDefinite};
 
-use libc::STDOUT_FILENO;
 use residual::factor_test::FactorAnswer;
 use rides::reading::Reading as SumsReading;
 use samples::sample::Sample;
+use std::io;
 use stiffness::bracket::Stiffness;
 use summary::problem::Reading;
 use tables::Checked;
 use verdict::judge::Verdict;
 
 // The first size bytes of a text, to standard output.
-fn write(text: &[u8], size: usize)
+fn write(rt: &impl Print, text: &[u8], size: usize) -> io::Result<()>
     requires { size ≤ length text.now }
 {
-    io::write_all(STDOUT_FILENO, &text[..size]);
+    rt.write_all(&text[..size])
 }
 
 // A word and the first numbers of x, count of them, as a line.
-fn print(word: &[u8], x: &[i64], count: usize)
+fn print(rt: &impl Print, word: &[u8], x: &[i64], count: usize) -> io::Result<()>
     requires { (length word.now ≤ 16) × (count ≤ 4) × (count ≤ length x.now) }
 {
     let mut out = [0u8; 128];
     let size = text::put_line(&mut out, 0, word, x, 0, count);
-    write(&out, size);
+    write(rt, &out, size)
 }
 
-fn print_number(word: &[u8], v: i64)
+fn print_number(rt: &impl Print, word: &[u8], v: i64) -> io::Result<()>
     requires { length word.now ≤ 16 }
 {
     let row = [v; 1];
-    print(word, &row, 1);
+    print(rt, word, &row, 1)
 }
 
-fn print_two(word: &[u8], x: &[i64; 2])
+fn print_two(rt: &impl Print, word: &[u8], x: &[i64; 2]) -> io::Result<()>
     requires { length word.now ≤ 16 }
 {
     let row = [x[0], x[1]];
-    print(word, &row, 2);
+    print(rt, word, &row, 2)
 }
 
-fn print_four(word: &[u8], x: &[i64; 4])
+fn print_four(rt: &impl Print, word: &[u8], x: &[i64; 4]) -> io::Result<()>
     requires { length word.now ≤ 16 }
 {
     let row = [x[0], x[1], x[2], x[3]];
-    print(word, &row, 4);
+    print(rt, word, &row, 4)
 }
 
 // The number of a verdict, and where it is 'definite' what the rows of the residual have over.
-fn print_verdict(verdict: Verdict) {
-    print_number(b"judge", verdict::judge::verdict_code(verdict));
+fn print_verdict(rt: &impl Print, verdict: Verdict) -> io::Result<()> {
+    print_number(rt, b"judge", verdict::judge::verdict_code(verdict))?;
     if let Verdict::Definite(over) = verdict {
-        print_number(b"over", over);
+        print_number(rt, b"over", over)?;
     }
+    Ok(())
 }
 
 // The number of the factor test's answer, and where nothing is refused what the rows of the residual have over.
-fn print_tested(answer: FactorAnswer) {
-    print_number(b"test_factor", residual::factor_test::factor_code(answer));
+fn print_tested(rt: &impl Print, answer: FactorAnswer) -> io::Result<()> {
+    let number = residual::factor_test::factor_code(answer);
+    print_number(rt, b"test_factor", number)?;
     match answer {
-        FactorAnswer::Accepted(over) => print_number(b"over", over),
-        FactorAnswer::NotAccepted(over) => print_number(b"over", over),
-        FactorAnswer::Refused(_) => (),
+        FactorAnswer::Accepted(over) => print_number(rt, b"over", over),
+        FactorAnswer::NotAccepted(over) => print_number(rt, b"over", over),
+        FactorAnswer::Refused(_) => Ok(()),
     }
 }
 
 // [2 1; 1 2]: definite, with its factor, which the factor test accepts with the same number over.
-fn definite() {
+fn definite(rt: &impl Print) -> io::Result<()> {
     let table = [2i64, 1, 1, 2];
     let mut factor = [5i64; 4];
     let mut vector = [5i64; 2];
-    print_verdict(verdict::judge::judge(2, &table, &table, &mut factor, &mut vector));
-    print_four(b"factor", &factor);
-    print_two(b"vector", &vector);
-    print_tested(residual::factor_test::test_factor(2, &table, &table, &factor));
+    let verdict = verdict::judge::judge(2, &table, &table, &mut factor, &mut vector);
+    print_verdict(rt, verdict)?;
+    print_four(rt, b"factor", &factor)?;
+    print_two(rt, b"vector", &vector)?;
+    let answer = residual::factor_test::test_factor(2, &table, &table, &factor);
+    print_tested(rt, answer)
 }
 
 // [1 3; 3 10], on which the judge is undecided. The factor test accepts its exact factor, with 0 over; not one that is next to it, with
 // -65536 over; and it refuses one with a 0 on the diagonal, by 6.
-fn offered() {
+fn offered(rt: &impl Print) -> io::Result<()> {
     let table = [1i64, 3, 3, 10];
     let mut factor = [5i64; 4];
     let mut vector = [5i64; 2];
-    print_verdict(verdict::judge::judge(2, &table, &table, &mut factor, &mut vector));
+    let verdict = verdict::judge::judge(2, &table, &table, &mut factor, &mut vector);
+    print_verdict(rt, verdict)?;
     let exact = [65536i64, 196608, 0, 65536];
-    print_tested(residual::factor_test::test_factor(2, &table, &table, &exact));
+    let answer = residual::factor_test::test_factor(2, &table, &table, &exact);
+    print_tested(rt, answer)?;
     let near = [65536i64, 196607, 0, 65536];
-    print_tested(residual::factor_test::test_factor(2, &table, &table, &near));
+    let answer = residual::factor_test::test_factor(2, &table, &table, &near);
+    print_tested(rt, answer)?;
     let flat = [65536i64, 196608, 0, 0];
-    print_tested(residual::factor_test::test_factor(2, &table, &table, &flat));
+    let answer = residual::factor_test::test_factor(2, &table, &table, &flat);
+    print_tested(rt, answer)
 }
 
 // The number of a refusal, or 0 where nothing is refused.
-fn print_checked(word: &[u8], checked: Checked)
+fn print_checked(rt: &impl Print, word: &[u8], checked: Checked) -> io::Result<()>
     requires { length word.now ≤ 16 }
 {
     match checked {
-        Checked::Passed => print_number(word, 0),
-        Checked::Refused(r) => print_number(word, tables::refusal_number(r) as i64),
+        Checked::Passed => print_number(rt, word, 0),
+        Checked::Refused(r) => print_number(rt, word, tables::refusal_number(r) as i64),
     }
 }
 
 // The residual of [2 1; 1 2] to [3 1; 1 3] and a factor; and of one that is refused by 6, with both tables kept.
-fn residuals() {
+fn residuals(rt: &impl Print) -> io::Result<()> {
     let low = [2i64, 1, 1, 2];
     let high = [3i64, 1, 1, 3];
     let factor = [89738i64, 47861, 0, 75910];
@@ -122,9 +130,9 @@ fn residuals() {
         &mut from_low,
         &mut from_high,
     );
-    print_checked(b"residual", refused);
-    print_four(b"low", &from_low);
-    print_four(b"high", &from_high);
+    print_checked(rt, b"residual", refused)?;
+    print_four(rt, b"low", &from_low)?;
+    print_four(rt, b"high", &from_high)?;
     let written = residual::residual::residual(
         2,
         &low,
@@ -133,26 +141,26 @@ fn residuals() {
         &mut from_low,
         &mut from_high,
     );
-    print_checked(b"residual", written);
-    print_four(b"low", &from_low);
-    print_four(b"high", &from_high);
+    print_checked(rt, b"residual", written)?;
+    print_four(rt, b"low", &from_low)?;
+    print_four(rt, b"high", &from_high)
 }
 
 // The same residual, with a lent table of another size: refused by 2, with both tables kept.
-fn residual_unfit() {
+fn residual_unfit(rt: &impl Print) -> io::Result<()> {
     let low = [2i64, 1, 1, 2];
     let high = [3i64, 1, 1, 3];
     let factor = [89738i64, 47861, 0, 75910];
     let mut from_low = [5i64; 4];
     let mut short = [7i64; 2];
     let refused = residual::residual::residual(2, &low, &high, &factor, &mut from_low, &mut short);
-    print_checked(b"residual", refused);
-    print_four(b"low", &from_low);
-    print_two(b"high", &short);
+    print_checked(rt, b"residual", refused)?;
+    print_four(rt, b"low", &from_low)?;
+    print_two(rt, b"high", &short)
 }
 
 // The same residual, of tables whose halves are rounded apart: mended they are the same tables.
-fn residual_apart() {
+fn residual_apart(rt: &impl Print) -> io::Result<()> {
     let low = [2i64, 0, 1, 2];
     let high = [3i64, 1, 2, 3];
     let factor = [89738i64, 47861, 0, 75910];
@@ -166,17 +174,17 @@ fn residual_apart() {
         &mut from_low,
         &mut from_high,
     );
-    print_checked(b"residual", written);
-    print_four(b"low", &from_low);
-    print_four(b"high", &from_high);
+    print_checked(rt, b"residual", written)?;
+    print_four(rt, b"low", &from_low)?;
+    print_four(rt, b"high", &from_high)
 }
 
 // The entries (1,1), (1,8), (8,7) and (8,8) of a table of order 8.
-fn print_corners(word: &[u8], x: &[i64; 64])
+fn print_corners(rt: &impl Print, word: &[u8], x: &[i64; 64]) -> io::Result<()>
     requires { length word.now ≤ 16 }
 {
     let row = [x[0], x[7], x[62], x[63]];
-    print(word, &row, 4);
+    print(rt, word, &row, 4)
 }
 
 // A factor of order 8: 2^26 on the diagonal, -2^26 above it in the last column, and 0 elsewhere.
@@ -203,7 +211,7 @@ fn widest_factor() -> [i64; 64] {
 }
 
 // The residual of the widest bounds of order 8 and this factor; and the same with n = 9, refused by 1, with both tables kept.
-fn residual_widest() {
+fn residual_widest(rt: &impl Print) -> io::Result<()> {
     let low = [-1048576i64; 64];
     let high = [1048576i64; 64];
     let factor = widest_factor();
@@ -217,9 +225,9 @@ fn residual_widest() {
         &mut from_low,
         &mut from_high,
     );
-    print_checked(b"residual", refused);
-    print_corners(b"low", &from_low);
-    print_corners(b"high", &from_high);
+    print_checked(rt, b"residual", refused)?;
+    print_corners(rt, b"low", &from_low)?;
+    print_corners(rt, b"high", &from_high)?;
     let written = residual::residual::residual(
         8,
         &low,
@@ -228,64 +236,69 @@ fn residual_widest() {
         &mut from_low,
         &mut from_high,
     );
-    print_checked(b"residual", written);
-    print_corners(b"low", &from_low);
-    print_corners(b"high", &from_high);
+    print_checked(rt, b"residual", written)?;
+    print_corners(rt, b"low", &from_low)?;
+    print_corners(rt, b"high", &from_high)
 }
 
 // [1 2; 2 1]: not definite, with a vector, to which the vector test says yes.
-fn not_definite() {
+fn not_definite(rt: &impl Print) -> io::Result<()> {
     let table = [1i64, 2, 2, 1];
     let mut factor = [5i64; 4];
     let mut vector = [5i64; 2];
-    print_verdict(verdict::judge::judge(2, &table, &table, &mut factor, &mut vector));
-    print_four(b"factor", &factor);
-    print_two(b"vector", &vector);
+    let verdict = verdict::judge::judge(2, &table, &table, &mut factor, &mut vector);
+    print_verdict(rt, verdict)?;
+    print_four(rt, b"factor", &factor)?;
+    print_two(rt, b"vector", &vector)?;
     let answer = vectors::vector_test::test_vector(2, &table, &table, &vector);
-    print_number(b"test_vector", tables::answer_code(answer));
+    print_number(rt, b"test_vector", tables::answer_code(answer))
 }
 
 // A table that is too short: refused by 2, with both buffers kept.
-fn refused() {
+fn refused(rt: &impl Print) -> io::Result<()> {
     let short = [2i64, 1];
     let mut factor = [5i64; 4];
     let mut vector = [5i64; 2];
-    print_verdict(verdict::judge::judge(2, &short, &short, &mut factor, &mut vector));
-    print_four(b"factor", &factor);
-    print_two(b"vector", &vector);
+    let verdict = verdict::judge::judge(2, &short, &short, &mut factor, &mut vector);
+    print_verdict(rt, verdict)?;
+    print_four(rt, b"factor", &factor)?;
+    print_two(rt, b"vector", &vector)
 }
 
 // The number of the bracket's answer, with the step and the bound that it gives.
-fn print_stiffness(stiffness: Stiffness) {
-    print_number(b"bracket", stiffness::bracket::bracket_code(stiffness));
+fn print_stiffness(rt: &impl Print, stiffness: Stiffness) -> io::Result<()> {
+    print_number(rt, b"bracket", stiffness::bracket::bracket_code(stiffness))?;
     match stiffness {
         Stiffness::Between(step, bound) => {
             let both = [step, bound];
-            print_two(b"between", &both);
+            print_two(rt, b"between", &both)
         }
-        Stiffness::AtMost(bound) => print_number(b"at most", bound),
-        Stiffness::Refused(_) => (),
+        Stiffness::AtMost(bound) => print_number(rt, b"at most", bound),
+        Stiffness::Refused(_) => Ok(()),
     }
 }
 
 // How stiff: of [5 2; 2 5] more than 2 and at most 3; of [1 2; 2 1] at most -1, with nothing given from below. Of [1 2; 3 1] the halves
 // leave no number: 5, and the vector is kept.
-fn bracketed() {
+fn bracketed(rt: &impl Print) -> io::Result<()> {
     let stiff = [5i64, 2, 2, 5];
     let mut vector = [5i64; 2];
-    print_stiffness(stiffness::bracket::bracket(2, &stiff, &stiff, &mut vector));
-    print_two(b"vector", &vector);
+    let stiffness = stiffness::bracket::bracket(2, &stiff, &stiff, &mut vector);
+    print_stiffness(rt, stiffness)?;
+    print_two(rt, b"vector", &vector)?;
     let soft = [1i64, 2, 2, 1];
-    print_stiffness(stiffness::bracket::bracket(2, &soft, &soft, &mut vector));
-    print_two(b"vector", &vector);
+    let stiffness = stiffness::bracket::bracket(2, &soft, &soft, &mut vector);
+    print_stiffness(rt, stiffness)?;
+    print_two(rt, b"vector", &vector)?;
     let apart = [1i64, 2, 3, 1];
     let mut kept = [5i64; 2];
-    print_stiffness(stiffness::bracket::bracket(2, &apart, &apart, &mut kept));
-    print_two(b"vector", &kept);
+    let stiffness = stiffness::bracket::bracket(2, &apart, &apart, &mut kept);
+    print_stiffness(rt, stiffness)?;
+    print_two(rt, b"vector", &kept)
 }
 
 // 4x² + 2ax ≤ 0 for some a from -8 to -6, around 2.
-fn boxed() {
+fn boxed(rt: &impl Print) -> io::Result<()> {
     let matrix = [4i64; 1];
     let from = [-8i64; 1];
     let to = [-6i64; 1];
@@ -294,13 +307,13 @@ fn boxed() {
     let answer = enclosure::enclose::enclose(
         1, &matrix, &matrix, &from, &to, 0, &centre, &mut sides,
     );
-    print_number(b"enclose", enclosure::enclose::box_code(answer));
-    print_two(b"sides", &sides);
+    print_number(rt, b"enclose", enclosure::enclose::box_code(answer))?;
+    print_two(rt, b"sides", &sides)
 }
 
 // A sample gathered into sums of zeros, and these read with an allowance of 2000; and a sample with a draw beyond 8, which is refused by 17
 // with every sum kept.
-fn gathered() {
+fn gathered(rt: &impl Print) -> io::Result<()> {
     let mut low = [0i64; 16];
     let mut high = [0i64; 16];
     let mut from = [0i64; 4];
@@ -316,7 +329,7 @@ fn gathered() {
     let taken = rides::gather::gather(
         sample, 4, &mut low, &mut high, &mut from, &mut to, &mut limit,
     );
-    print_number(b"gather", sums::gathered_code(taken));
+    print_number(rt, b"gather", sums::gathered_code(taken))?;
     let beyond = Sample {
         rolling: 1.0,
         climb: 0.03125,
@@ -327,20 +340,20 @@ fn gathered() {
     let refused = rides::gather::gather(
         beyond, 4, &mut low, &mut high, &mut from, &mut to, &mut limit,
     );
-    print_number(b"gather", sums::gathered_code(refused));
-    print_four(b"from", &from);
-    print_four(b"to", &to);
-    print_number(b"running", limit[0]);
+    print_number(rt, b"gather", sums::gathered_code(refused))?;
+    print_four(rt, b"from", &from)?;
+    print_four(rt, b"to", &to)?;
+    print_number(rt, b"running", limit[0])?;
     let reading = rides::reading::read_sums(4, &low, &high, &from, &to, limit[0], 2000);
     match reading {
-        SumsReading::Limit(alpha) => print_number(b"read_sums", alpha),
-        SumsReading::Refused(r) => print_number(b"refused", tables::refusal_number(r) as i64),
+        SumsReading::Limit(alpha) => print_number(rt, b"read_sums", alpha),
+        SumsReading::Refused(r) => print_number(rt, b"refused", tables::refusal_number(r) as i64),
     }
 }
 
 // Two problems, [4] with linear term -8 and limit 1 each, pooled into sums of zeros; then one of another order, which is refused by 2 with
 // every sum kept; and the pool read with no allowance.
-fn pooled() {
+fn pooled(rt: &impl Print) -> io::Result<()> {
     let mut low = [0i64; 1];
     let mut high = [0i64; 1];
     let mut from = [0i64; 1];
@@ -354,45 +367,46 @@ fn pooled() {
         1, &mut low, &mut high, &mut from, &mut to, &mut limit, &orders, &matrices, &matrices,
         &linear, &linear, &limits,
     );
-    print_number(b"pool", sums::gathered_code(taken));
+    print_number(rt, b"pool", sums::gathered_code(taken))?;
     let others = [1i64, 2];
     let refused = pool::pool::pool(
         1, &mut low, &mut high, &mut from, &mut to, &mut limit, &others, &matrices, &matrices,
         &linear, &linear, &limits,
     );
-    print_number(b"pool", sums::gathered_code(refused));
-    print_number(b"from", from[0]);
+    print_number(rt, b"pool", sums::gathered_code(refused))?;
+    print_number(rt, b"from", from[0])?;
     let reading = rides::reading::read_sums(1, &low, &high, &from, &to, limit[0], 0);
     match reading {
-        SumsReading::Limit(alpha) => print_number(b"read_sums", alpha),
-        SumsReading::Refused(r) => print_number(b"refused", tables::refusal_number(r) as i64),
+        SumsReading::Limit(alpha) => print_number(rt, b"read_sums", alpha),
+        SumsReading::Refused(r) => print_number(rt, b"refused", tables::refusal_number(r) as i64),
     }
 }
 
-fn print_byte(word: &[u8], x: u8)
+fn print_byte(rt: &impl Print, word: &[u8], x: u8) -> io::Result<()>
     requires { length word.now ≤ 16 }
 {
-    print_number(word, x as i64);
+    print_number(rt, word, x as i64)
 }
 
 // [1] on the display bus, begun at zeros: its order, a start, a start while busy, which is refused by 20, and the tick that settles it.
-fn on_the_bus() {
+fn on_the_bus(rt: &impl Print) -> io::Result<()> {
     let mut block = [0u8; bus::registers::BLOCK_BYTES];
     let mut run = [0u8; bus::area::RUN_BYTES];
     let one = [1u8, 0, 0, 0, 0, 0, 0, 0];
     let order = bus::acts::write(&mut block, &mut run, 6, 1, &one, &one);
-    print_checked(b"bus_write", order);
+    print_checked(rt, b"bus_write", order)?;
     let start = bus::acts::write(&mut block, &mut run, 0, 1, &one, &one);
-    print_checked(b"bus_write", start);
+    print_checked(rt, b"bus_write", start)?;
     let again = bus::acts::write(&mut block, &mut run, 0, 1, &one, &one);
-    print_checked(b"bus_write", again);
+    print_checked(rt, b"bus_write", again)?;
     let tick = bus::acts::tick(&mut block, &mut run);
-    print_checked(b"bus_tick", tick);
+    print_checked(rt, b"bus_tick", tick)?;
     let mut verdict = [0u8; 1];
     let read = bus::acts::read(&block, 3, &mut verdict);
-    print_checked(b"bus_read", read);
-    print_byte(b"verdict", verdict[0]);
-    print_number(b"bus_line", bus::line::line_code(bus::acts::line(&block)));
+    print_checked(rt, b"bus_read", read)?;
+    print_byte(rt, b"verdict", verdict[0])?;
+    let number = bus::line::line_code(bus::acts::line(&block));
+    print_number(rt, b"bus_line", number)
 }
 
 // Whether the judge calls two bounds of order 2 definite. Where it does, every symmetric matrix between them is positive definite: the
@@ -412,17 +426,17 @@ fn surely_definite(low: [i64; 4], high: [i64; 4]) -> bool
 }
 
 // It is so of [2 1; 1 2] and of [2 1; 1 2] to [3 1; 1 3], and is not shown of [1 2; 2 1].
-fn promised() {
+fn promised(rt: &impl Print) -> io::Result<()> {
     let low = [2i64, 1, 1, 2];
     let high = [3i64, 1, 1, 3];
     let saddle = [1i64, 2, 2, 1];
-    print_number(b"promised", surely_definite(low, low) as i64);
-    print_number(b"promised", surely_definite(low, high) as i64);
-    print_number(b"promised", surely_definite(saddle, saddle) as i64);
+    print_number(rt, b"promised", surely_definite(low, low) as i64)?;
+    print_number(rt, b"promised", surely_definite(low, high) as i64)?;
+    print_number(rt, b"promised", surely_definite(saddle, saddle) as i64)
 }
 
 // The summary file of 4x² - 16x ≤ 0 around 2, and its problem; and the same file cut short, which is refused.
-fn read_summary() {
+fn read_summary(rt: &impl Print) -> io::Result<()> {
     let file = *b"\x01\x01\x00\x01\
         \x02\x04\x00\x04\x00\x00\x00\
         \x03\x04\x00\x04\x00\x00\x00\
@@ -430,13 +444,13 @@ fn read_summary() {
         \x05\x08\x00\x00\x00\x00\x00\x00\x00\x00\x00\
         \x06\x08\x00\x02\x00\x00\x00\x00\x00\x00\x00\
         \x07\x08\x00\xf8\xff\xff\xff\xff\xff\xff\xff";
-    print_reading(summary::problem::read(&file));
-    print_reading(summary::problem::read(&file[..61]));
+    print_reading(rt, summary::problem::read(&file))?;
+    print_reading(rt, summary::problem::read(&file[..61]))
 }
 
 // The summary file of 4x² - 16x ≤ 0 around 2, written from its numbers. The same around 2^12 + 1 is refused by 3, with the file kept.
 // Then it is read.
-fn write_summary() {
+fn write_summary(rt: &impl Print) -> io::Result<()> {
     let matrix = [4i64; 1];
     let linear = [-8i64; 1];
     let centre = [2i64; 1];
@@ -445,14 +459,14 @@ fn write_summary() {
     let written = writer::write::write(
         1, &matrix, &matrix, &linear, &linear, 0, &centre, &mut file,
     );
-    print_checked(b"write", written);
+    print_checked(rt, b"write", written)?;
     let refused = writer::write::write(1, &matrix, &matrix, &linear, &linear, 0, &far, &mut file);
-    print_checked(b"write", refused);
-    print_reading(summary::problem::read(&file));
+    print_checked(rt, b"write", refused)?;
+    print_reading(rt, summary::problem::read(&file))
 }
 
 // The limit and the ends of the first linear term of a problem that was read, or the number by which its file is refused.
-fn print_reading(reading: Reading) {
+fn print_reading(rt: &impl Print, reading: Reading) -> io::Result<()> {
     let checked = reading.checked;
     match checked {
         Checked::Passed => {
@@ -461,41 +475,41 @@ fn print_reading(reading: Reading) {
             let linear = constraint.linear;
             let from = linear.low;
             let to = linear.high;
-            print_number(b"limit", constraint.limit);
-            print_number(b"from", from[0]);
-            print_number(b"to", to[0]);
+            print_number(rt, b"limit", constraint.limit)?;
+            print_number(rt, b"from", from[0])?;
+            print_number(rt, b"to", to[0])
         }
-        Checked::Refused(r) => print_number(b"refused", tables::refusal_number(r) as i64),
+        Checked::Refused(r) => print_number(rt, b"refused", tables::refusal_number(r) as i64),
     }
 }
 
 // The fields of a file of two: tag 01 with the byte 7, and tag 05 with three bytes.
-fn read_fields() {
+fn read_fields(rt: &impl Print) -> io::Result<()> {
     let file = [1u8, 1, 0, 7, 5, 3, 0, 9, 8, 7];
     let first = fields::reader::content_from(&file, 0);
-    print_number(b"field", first.len() as i64);
+    print_number(rt, b"field", first.len() as i64)?;
     let second = fields::reader::content_from(&file, 4);
-    print_number(b"field", second.len() as i64);
+    print_number(rt, b"field", second.len() as i64)?;
     let end = fields::reader::content_from(&file, 10);
-    print_number(b"field", end.len() as i64);
+    print_number(rt, b"field", end.len() as i64)
 }
 
-fn main() {
-    definite();
-    offered();
-    residuals();
-    residual_unfit();
-    residual_apart();
-    residual_widest();
-    not_definite();
-    refused();
-    bracketed();
-    boxed();
-    gathered();
-    pooled();
-    on_the_bus();
-    promised();
-    read_summary();
-    write_summary();
-    read_fields();
+fn main(rt: HostRuntime) -> io::Result<()> {
+    definite(&rt)?;
+    offered(&rt)?;
+    residuals(&rt)?;
+    residual_unfit(&rt)?;
+    residual_apart(&rt)?;
+    residual_widest(&rt)?;
+    not_definite(&rt)?;
+    refused(&rt)?;
+    bracketed(&rt)?;
+    boxed(&rt)?;
+    gathered(&rt)?;
+    pooled(&rt)?;
+    on_the_bus(&rt)?;
+    promised(&rt)?;
+    read_summary(&rt)?;
+    write_summary(&rt)?;
+    read_fields(&rt)
 }

@@ -17,8 +17,8 @@ pub extern "C" fn hb_bus_write(
 ) -> i64
     ensures exact { ◌≡◌ {A = BusResult} (record {
       number = result;
-      bus = record { block = block.exit.now; run = run.new };
-    }) (bus_write_entry block.entry.now run.old address value low.now high.now) }
+      bus = record { block = block.new; run = run.new };
+    }) (bus_write_entry block.old run.old address value low.now high.now) }
 {
     checked_code(bus::acts::write(block, run, address, value, low, high))
 }
@@ -28,8 +28,8 @@ pub extern "C" fn hb_bus_write(
 pub extern "C" fn hb_bus_tick(block: &mut [u8], run: &mut [u8]) -> i64
     ensures exact { ◌≡◌ {A = BusResult} (record {
       number = result;
-      bus = record { block = block.exit.now; run = run.new };
-    }) (bus_tick_entry block.entry.now run.old) }
+      bus = record { block = block.new; run = run.new };
+    }) (bus_tick_entry block.old run.old) }
 {
     checked_code(bus::acts::tick(block, run))
 }

@@ -20,7 +20,7 @@ pub extern "C" fn hb_gather(
     ensures exact { ◌≡◌ {A = GatherResult} (record {
       number = result;
       sums = record {
-        low = low.exit.now;
+        low = low.new;
         high = high.new;
         from = linear_low.new;
         to = linear_high.new;
@@ -28,20 +28,20 @@ pub extern "C" fn hb_gather(
       };
     })
         (gather_entry sample n (record {
-          low = low.entry.now;
+          low = low.old;
           high = high.old;
           from = linear_low.old;
           to = linear_high.old;
           limit = running_limit.old;
         })) }
     ensures meaning { GatherMeaning sample n (record {
-      low = low.entry.now;
+      low = low.old;
       high = high.old;
       from = linear_low.old;
       to = linear_high.old;
       limit = running_limit.old;
     }) (record {
-      low = low.exit.now;
+      low = low.new;
       high = high.new;
       from = linear_low.new;
       to = linear_high.new;

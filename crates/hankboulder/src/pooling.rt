@@ -24,7 +24,7 @@ pub extern "C" fn hb_pool(
     ensures exact { ◌≡◌ {A = GatherResult} (record {
       number = result;
       sums = record {
-        low = low.exit.now;
+        low = low.new;
         high = high.new;
         from = linear_low.new;
         to = linear_high.new;
@@ -32,32 +32,32 @@ pub extern "C" fn hb_pool(
       };
     })
         (pool_entry n orders.now (record {
-          lows = lows.entry.now;
+          lows = lows.now;
           highs = highs.now;
           froms = linear_lows.now;
           tos = linear_highs.now;
           limits = limits.now;
         }) (record {
-          low = low.entry.now;
+          low = low.old;
           high = high.old;
           from = linear_low.old;
           to = linear_high.old;
           limit = running_limit.old;
         })) }
     ensures meaning { PoolMeaning n orders.now (record {
-      lows = lows.entry.now;
+      lows = lows.now;
       highs = highs.now;
       froms = linear_lows.now;
       tos = linear_highs.now;
       limits = limits.now;
     }) (record {
-      low = low.entry.now;
+      low = low.old;
       high = high.old;
       from = linear_low.old;
       to = linear_high.old;
       limit = running_limit.old;
     }) (record {
-      low = low.exit.now;
+      low = low.new;
       high = high.new;
       from = linear_low.new;
       to = linear_high.new;
