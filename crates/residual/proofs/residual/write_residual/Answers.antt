@@ -40,12 +40,12 @@ none c h = ⊎_elim (λ w. absurd (false≢true (sym h ∙ w.0.taken))) (λ w. w
 low_full : (c : Joined1) → c.factor_shape-shaped.result ≡ true → let a = c.args in
     take c.if-shaped.written c.if-shaped.low ++ drop c.if-shaped.written a.low-residual.now ≡ table a.n (residual a.n (at a.n a.factor.now) (at a.n a.low.now))
 low_full c h =
-    ⊎_elim (λ w. rw (w.4, w.6, w.3.ensures.0) (low-table (offer c.before h) c.args.low-residual.now c.requires.3)) (λ w. absurd (false≢true (sym w.0.left ∙ h))) c.if-shaped.branch
+    ⊎_elim (λ w. rw (w.4, w.6, w.3.ensures.0) (low-table (offer c.before h) c.args.low_residual.now c.requires.3)) (λ w. absurd (false≢true (sym w.0.left ∙ h))) c.if-shaped.branch
 
 high_full : (c : Joined1) → c.factor_shape-shaped.result ≡ true → let a = c.args in
     take c.if-shaped.written c.if-shaped.high ++ drop c.if-shaped.written a.high-residual.now ≡ table a.n (residual a.n (at a.n a.factor.now) (at a.n a.high.now))
 high_full c h =
-    ⊎_elim (λ w. rw (w.5, w.6, w.3.ensures.1) (high-table (offer c.before h) c.args.high-residual.now c.requires.4)) (λ w. absurd (false≢true (sym w.0.left ∙ h))) c.if-shaped.branch
+    ⊎_elim (λ w. rw (w.5, w.6, w.3.ensures.1) (high-table (offer c.before h) c.args.high_residual.now c.requires.4)) (λ w. absurd (false≢true (sym w.0.left ∙ h))) c.if-shaped.branch
 
 -- no more is written than there is, and the scratch tables have it
 few : (c : Joined1) → let n = c.args.n in c.if-shaped.written ≤ n * n
