@@ -8,7 +8,7 @@ use Rattle.tables.specs.Checks.{all, within}
 use Rattle.sums.proofs.adding.added_within.Given as goal
 
 abbrev pub invariant-loop-k : goal.invariant-loop-k
-invariant-loop-k at = (at.k ≤ at.count) × (all at.k (λ i. within (nat_abs at.bound) (nth at.x i +ℤ nth at.g i)) ≡ true)
+invariant-loop-k live = (live.k ≤ live.count) × (all live.k (λ i. within (nat_abs live.bound) (nth live.x i +ℤ nth live.g i)) ≡ true)
 
 abbrev pub decreases-loop-k : goal.decreases-loop-k
 decreases-loop-k l = l.count - l.k

@@ -7,7 +7,7 @@ use Rattle.sums.proofs.InPlace.{Replaced}
 use Rattle.sums.proofs.halving.halve_down.Given as goal
 
 abbrev pub invariant-loop-k : goal.invariant-loop-k
-invariant-loop-k at = (at.k ≤ at.count) × Replaced (length at.initial.x) at.k (λ i. half_down (nth at.initial.x i)) at.initial.x at.x
+invariant-loop-k live = (live.k ≤ live.count) × Replaced (length live.initial.x) live.k (λ i. half_down (nth live.initial.x i)) live.initial.x live.x
 
 abbrev pub decreases-loop-k : goal.decreases-loop-k
 decreases-loop-k l = l.count - l.k
