@@ -36,9 +36,10 @@ smaller : (c : Joined1) → to_z w64 c.if-over-least.least-bits ≡ min_ℤ (lea
 smaller c =
     let e = c.loop-i.invariant.2 in
     let f = c.row_over-over.ensures in
-    ⊎_elim
-    (λ w. rw (w.1, clean_element c.row_over-over.result c.row_over-over.type_inv, f) (min_second (least c.before) (over c.before) (le_z_false {x = least c.before} {y = over c.before} (lt_holds (rw (clean_element c.row_over-over.result c.row_over-over.type_inv, f, e) at w.0.taken)))))
-    (λ w. rw (w.1, e) (min_first (least c.before) (over c.before) (le_z_true {x = least c.before} {y = over c.before} (lt_fails (rw (clean_element c.row_over-over.result c.row_over-over.type_inv, f, e) at w.0.left))))) c.if-over-least.branch
+    elim c.if-over-least.branch [
+      | goal.then-over-least w ↦ rw (w.least-is, clean_element c.row_over-over.result c.row_over-over.type_inv, f) (min_second (least c.before) (over c.before) (le_z_false {x = least c.before} {y = over c.before} (lt_holds (rw (clean_element c.row_over-over.result c.row_over-over.type_inv, f, e) at w.if-over-least.true))))
+      | goal.else-over-least w ↦ rw (w.least-is, e) (min_first (least c.before) (over c.before) (le_z_true {x = least c.before} {y = over c.before} (lt_fails (rw (clean_element c.row_over-over.result c.row_over-over.type_inv, f, e) at w.if-over-least.false))))
+    ]
 
 pub row_over-least-requires : goal.row_over-least-requires
 row_over-least-requires c = c.requires

@@ -1,16 +1,9 @@
 -- The loop's invariant: the first k numbers of x have those of g added, and the others are as they were.
-use mathlib.Core.Path.{◌≡◌, refl, ap₂, ◌∙◌}
 use Prim.Native.Nat.{◌-◌, ◌≤◌}
-use native.Mathlib.Omega.{arith}
-use native.Mathlib.Numerals.{add-one}
 use lib.IntN.{◌+ℤ◌}
 use lib.ListN.{length}
-use mir.Syntax.{w64}
-use mir.Val.{to_z, of_z}
-use Rattle.integers.proofs.Machine.{clean, clean_element}
 use Rattle.tables.specs.Matrix.{nth}
-use Rattle.sums.proofs.InPlace.{Replaced, replaced_none, replaced_more, read_next}
-use Rattle.sums.proofs.Fronts.{sum_fits}
+use Rattle.sums.proofs.InPlace.{Replaced}
 use Rattle.sums.proofs.adding.add_numbers.Given as goal
 
 abbrev pub invariant-loop-k : goal.invariant-loop-k
