@@ -13,7 +13,6 @@ use Rattle.tables.specs.Answers.{after}
 use Rattle.tables.specs.Entering.{Mended}
 use Rattle.tables.specs.Problem.{mended_constraint, constraint_ends}
 use Rattle.tables.specs.declared.Checked.{Checked}
-use Rattle.tables.specs.declared.Checked.TheVariants as Checked
 use Rattle.tables.specs.declared.problem.Constraint.{Constraint}
 use Rattle.tables.proofs.Checks.{and_left, and_right, and_of, all-at, within_of, linear_of, first-passed, more-checks, no-more-checks}
 use Rattle.tables.proofs.Answers.{prefix_passed}

@@ -9,7 +9,6 @@ use lib.ListN.{length, set}
 use Rattle.tables.specs.Matrix.{tabulate}
 use Rattle.tables.specs.declared.Refusal.{Refusal}
 use Rattle.sums.specs.declared.Summed.{Summed}
-use Rattle.sums.specs.declared.Summed.TheVariants as Summed
 use Rattle.sums.specs.declared.Gathered.TheVariants as Gathered
 use Rattle.sums.specs.Sums.{Outcome, taken, refused}
 use Rattle.sums.specs.Lent.{Lent, Left, laid_sums}

@@ -9,7 +9,6 @@ use Rattle.tables.specs.declared.Refusal.{Refusal}
 use Rattle.tables.specs.declared.Refusal.TheVariants.{Full}
 use Rattle.tables.specs.declared.problem.Constraint.{Constraint}
 use Rattle.sums.specs.declared.Summed.{Summed}
-use Rattle.sums.specs.declared.Summed.TheVariants as Summed
 use Rattle.sums.specs.Sums.{taken, refused, plus, sums_within}
 use Rattle.sums.specs.Halving.{halved, added_in, fitted}
 use Rattle.sums.specs.Required.{sums_at, Rooms, Ranged, Sums, stated, Stated, Tried}

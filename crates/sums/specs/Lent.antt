@@ -5,7 +5,6 @@ use Rattle.tables.specs.Matrix.{nth}
 use Rattle.tables.specs.Problem.{constraint_of}
 use Rattle.tables.specs.declared.problem.Constraint.{Constraint}
 use Rattle.sums.specs.declared.Gathered.{Gathered}
-use Rattle.sums.specs.declared.Gathered.TheVariants as Gathered
 use Rattle.sums.specs.Sums.{Outcome, taken, refused}
 
 -- the five lent buffers: lists of numbers, or of their bytes

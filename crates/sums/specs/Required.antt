@@ -6,7 +6,6 @@ use Rattle.tables.specs.Problem.{constraint_of}
 use Rattle.tables.specs.declared.Refusal.{Refusal}
 use Rattle.tables.specs.declared.problem.Constraint.{Constraint}
 use Rattle.sums.specs.declared.Summed.{Summed}
-use Rattle.sums.specs.declared.Summed.TheVariants as Summed
 use Rattle.sums.specs.Sums.{Outcome, taken, refused, sums_within}
 use Rattle.sums.specs.Halving.{added_in}
 

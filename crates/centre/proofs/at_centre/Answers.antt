@@ -1,6 +1,6 @@
 use mathlib.Core.Path.{◌∙◌}
 use native.Mathlib.Omega.{arith}
-use Rattle.integers.proofs.Machine.{clean, clean_result, fits_within}
+use Rattle.integers.proofs.Machine.{clean, clean_result, fits_within, clean_element}
 use Rattle.centre.specs.Centre.{at_centre}
 use Rattle.centre.proofs.Magnitudes.{asked, twice_fits, limit_fits, centre-within}
 use Rattle.centre.proofs.at_centre.Goals as goal
@@ -17,7 +17,7 @@ pub overflow_sub-result-2 : goal.overflow_sub-result-2
 unfolding at_centre
 overflow_sub-result-2 c =
     let l = c.least_terms-linear in
-    rw (clean (overflow_sub-result c), clean c.ranges.limit, clean (overflow_mul-result c), clean_result l, l.ensures, clean_result c.least_value-least, c.least_value-least.ensures)
+    rw (clean (overflow_sub-result c), clean c.ranges.limit, clean (overflow_mul-result c), clean_result l, l.ensures, clean_element c.least_value-least.result c.least_value-least.type_inv, c.least_value-least.ensures)
     (fits_within (centre-within c.requires.0 c.requires.1) (omega arith))
 
 pub least_terms-linear-requires : goal.least_terms-linear-requires
@@ -33,4 +33,4 @@ unfolding at_centre
 returns c =
     let l = c.least_terms-linear in
     clean (overflow_sub-result-2 c)
-    ∙ rw (clean (overflow_sub-result c), clean c.ranges.limit, clean (overflow_mul-result c), clean_result l, l.ensures, clean_result c.least_value-least, c.least_value-least.ensures)
+    ∙ rw (clean (overflow_sub-result c), clean c.ranges.limit, clean (overflow_mul-result c), clean_result l, l.ensures, clean_element c.least_value-least.result c.least_value-least.type_inv, c.least_value-least.ensures)

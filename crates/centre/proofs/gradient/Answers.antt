@@ -34,7 +34,7 @@ next-least : (c : After-smaller) →
 next-least c =
     let p = c.product-l in
     let r = c.product-u in
-    clean_result c.smaller-least ∙ c.smaller-least.ensures ∙ rw (clean_result p, clean_result r, p.ensures, r.ensures)
+    clean_element c.smaller-least.result c.smaller-least.type_inv ∙ c.smaller-least.ensures ∙ rw (clean_result p, clean_result r, p.ensures, r.ensures)
 
 next-greatest : (c : After-greater) →
     let s = c.args in
@@ -42,7 +42,7 @@ next-greatest : (c : After-greater) →
 next-greatest c =
     let p = c.product-l in
     let r = c.product-u in
-    clean_result c.greater-greatest ∙ c.greater-greatest.ensures ∙ rw (clean_result p, clean_result r, p.ensures, r.ensures)
+    clean_element c.greater-greatest.result c.greater-greatest.type_inv ∙ c.greater-greatest.ensures ∙ rw (clean_result p, clean_result r, p.ensures, r.ensures)
 
 pub overflow_add-least : goal.overflow_add-least
 overflow_add-least c =
@@ -66,8 +66,8 @@ loop-j-preserved c =
 passed : (c : After-loop) →
     let l = c.loop-j in
     let s = c.args in
-    (to_z w64 l.least ≡ sum s.n (picked min_ℤ s.n s.low.now s.high.now s.c.now s.k))
-    × (to_z w64 l.greatest ≡ sum s.n (picked max_ℤ s.n s.low.now s.high.now s.c.now s.k))
+    (to_z w64 l.least-bits ≡ sum s.n (picked min_ℤ s.n s.low.now s.high.now s.c.now s.k))
+    × (to_z w64 l.greatest-bits ≡ sum s.n (picked max_ℤ s.n s.low.now s.high.now s.c.now s.k))
 passed c =
     let l = c.loop-j in
     let e : l.j ≡ c.args.n = omega arith in
@@ -132,5 +132,5 @@ pub returns : goal.returns
 unfolding gradient low_gradient high_gradient
 returns c =
     let a = c.args in
-    clean_result c.greater ∙ c.greater.ensures
-    ∙ rw (clean_result c.absolute-x, c.absolute-x.ensures, clean_result c.absolute-y, c.absolute-y.ensures, clean (overflow_add-least-2 c.before.before.before), clean (overflow_add-greatest-2 c.before.before), (passed c.before.before.before.before.before).0, (passed c.before.before.before.before.before).1, clean_element (nth a.a.now a.k) c.from-1.given, clean_element (nth a.b.now a.k) c.to-1.given)
+    clean_element c.greater.result c.greater.type_inv ∙ c.greater.ensures
+    ∙ rw (clean_element c.absolute-x.result c.absolute-x.type_inv, c.absolute-x.ensures, clean_element c.absolute-y.result c.absolute-y.type_inv, c.absolute-y.ensures, clean (overflow_add-least-2 c.before.before.before), clean (overflow_add-greatest-2 c.before.before), (passed c.before.before.before.before.before).0, (passed c.before.before.before.before.before).1, clean_element (nth a.a.now a.k) c.from-1.given, clean_element (nth a.b.now a.k) c.to-1.given)

@@ -2,7 +2,7 @@ use mathlib.Core.Path.{◌≡◌}
 use Prim.Native.Nat.{◌-◌, ◌≤◌}
 use native.Mathlib.Omega.{arith}
 use native.Mathlib.Numerals.{add-one}
-use Rattle.integers.proofs.Machine.{clean_result}
+use Rattle.integers.proofs.Machine.{clean_result, clean_element}
 use Rattle.tables.specs.Ranges.{greatest_order}
 use Rattle.tables.specs.Matrix.{at, nth}
 use Rattle.tables.specs.Problem.{ends_of}
@@ -14,7 +14,7 @@ use Rattle.centre.proofs.gradients.Goals as goal
 pub loop-k-preserved : goal.loop-k-preserved
 loop-k-preserved c =
     let order = c.requires.0.tables.order in
-    (omega arith, rw (clean_result c.gradient, add-one) (filled_more (omega arith) c.gradient.ensures c.loop-k.invariant.1))
+    (omega arith, rw (clean_element c.gradient.result c.gradient.type_inv, add-one) (filled_more (omega arith) c.gradient.ensures c.loop-k.invariant.1))
 
 pub loop-k-init : goal.loop-k-init
 loop-k-init c = (omega arith, filled_none c.requires.1)

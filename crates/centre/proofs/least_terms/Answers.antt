@@ -7,7 +7,7 @@ use lib.IntN.{◌*ℤ◌}
 use mir.Syntax.{w64}
 use mir.Val.{to_z, of_z}
 use Rattle.integers.specs.Numbers.{min_ℤ}
-use Rattle.integers.proofs.Machine.{clean, clean_result}
+use Rattle.integers.proofs.Machine.{clean, clean_result, clean_element}
 use Rattle.integers.proofs.Sums.{sum_zero, sum_suc}
 use Rattle.tables.specs.Matrix.{nth}
 use Rattle.centre.specs.Centre.{least_sum}
@@ -28,7 +28,7 @@ next : (c : After-smaller) →
 next c =
     let x = c.term in
     let y = c.term-in-loop-k in
-    clean_result c.smaller-least ∙ c.smaller-least.ensures ∙ rw (clean_result x, clean_result y, x.ensures, y.ensures)
+    clean_element c.smaller-least.result c.smaller-least.type_inv ∙ c.smaller-least.ensures ∙ rw (clean_result x, clean_result y, x.ensures, y.ensures)
 
 pub overflow_add-least : goal.overflow_add-least
 overflow_add-least c =

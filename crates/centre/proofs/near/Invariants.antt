@@ -14,7 +14,7 @@ use Rattle.tables.proofs.Checks.{all_none, all_more, all_false}
 use Rattle.centre.proofs.near.Given as goal
 
 abbrev pub invariant-loop-k : goal.invariant-loop-k
-invariant-loop-k at = (at.k ≤ at.n) × (all at.k (λ i. le_z (nth at.g i) (pos gradient_range)) ≡ true)
+invariant-loop-k live = (live.k ≤ live.n) × (all live.k (λ i. le_z (nth live.g i) (pos gradient_range)) ≡ true)
 
 abbrev pub decreases-loop-k : goal.decreases-loop-k
 decreases-loop-k l = l.n - l.k

@@ -2,7 +2,7 @@ use mathlib.Core.Path.{ap}
 use mathlib.Core.List.{List}
 use Prim.Native.Nat.{ℕ}
 use borrow.Author.Rules.{rules}
-use Rattle.integers.proofs.Machine.{clean, clean_result}
+use Rattle.integers.proofs.Machine.{clean, clean_result, clean_element}
 use Rattle.tables.proofs.Answers.{exactly}
 use Rattle.enclosure.specs.Act.{Enclosed, box_code}
 use Rattle.hankboulder.specs.Entries.{BoxResult, box_stored, box_entry}
@@ -27,6 +27,6 @@ pub returns : goal.returns
 unfolding box_entry box_stored
 returns c =
     let a = c.args in
-    rw (clean_result c.box_code, c.box_code.ensures)
+    rw (clean_element c.box_code.result c.box_code.type_inv, c.box_code.ensures)
     (exactly (means c.before.before.before.before.before.before.before.before.before.before.before) (box_means a.n a.low.now a.high.now a.linear_low.now a.linear_high.now a.limit a.centre.now a.sides.now) _
     (ap numbered (rw (clean c.ranges.n, clean c.ranges.limit) at c.enclose.ensures)))

@@ -1,6 +1,6 @@
 use mathlib.Core.Path.{ap}
 use borrow.Author.Rules.{rules}
-use Rattle.integers.proofs.Machine.{clean, clean_result}
+use Rattle.integers.proofs.Machine.{clean, clean_result, clean_element}
 use Rattle.tables.proofs.Answers.{exactly}
 use Rattle.verdict.specs.Judge.{verdict_code}
 use Rattle.buffers.specs.Buffers.{StoredVerdict}
@@ -26,6 +26,6 @@ pub returns : goal.returns
 unfolding judge_entry judge_stored
 returns c =
     let a = c.args in
-    rw (clean_result c.verdict_code, c.verdict_code.ensures)
+    rw (clean_element c.verdict_code.result c.verdict_code.type_inv, c.verdict_code.ensures)
     (exactly (means c.before.before.before.before.before.before.before.before.before.before.before.before.before.before.before.before) (judge-means a.n a.low.now a.high.now a.factor.now a.vector.now a.over.now) _
     (ap numbered (rw (clean c.ranges.n) at c.judge.ensures)))

@@ -1,6 +1,6 @@
 use mathlib.Core.Path.{ap}
 use borrow.Author.Rules.{rules}
-use Rattle.integers.proofs.Machine.{clean, clean_result}
+use Rattle.integers.proofs.Machine.{clean, clean_result, clean_element}
 use Rattle.tables.proofs.Answers.{exactly}
 use Rattle.residual.specs.FactorTest.{factor_code}
 use Rattle.buffers.specs.Buffers.{StoredAnswer}
@@ -26,6 +26,6 @@ pub returns : goal.returns
 unfolding test_factor_entry test_stored
 returns c =
     let a = c.args in
-    rw (clean_result c.factor_code, c.factor_code.ensures)
+    rw (clean_element c.factor_code.result c.factor_code.type_inv, c.factor_code.ensures)
     (exactly (means c.before.before.before.before.before.before.before.before.before) (factor-means a.n a.low.now a.high.now a.factor.now a.over.now) _
     (ap numbered (rw (clean c.ranges.n) at c.test_factor.ensures)))

@@ -1,7 +1,7 @@
 use mathlib.Core.Path.{ap, ◌∙◌}
 use borrow.Author.Rules.{rules}
 use lib.IntN.{ℤ}
-use Rattle.integers.proofs.Machine.{clean, clean_result}
+use Rattle.integers.proofs.Machine.{clean, clean_result, clean_element}
 use Rattle.tables.specs.Answers.{answer_code}
 use Rattle.tables.proofs.Answers.{exactly}
 use Rattle.hankboulder.specs.Entries.{test_vector_entry}
@@ -22,5 +22,5 @@ pub returns : goal.returns
 unfolding test_vector_entry
 returns c =
     let a = c.args in
-    rw (clean_result c.answer_code)
+    rw (clean_element c.answer_code.result c.answer_code.type_inv)
     (exactly (means c.before.before.before.before.before) (vector-means a.n a.low.now a.high.now a.vector.now) _ (c.answer_code.ensures ∙ ap answer_code (rw (clean c.ranges.n) at c.test_vector.ensures)))

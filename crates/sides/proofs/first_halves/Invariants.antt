@@ -17,7 +17,7 @@ use Rattle.sides.proofs.HalfSides.{gradient_numerator, half_fits}
 use Rattle.sides.proofs.first_halves.Given as goal
 
 abbrev pub invariant-loop-k : goal.invariant-loop-k
-invariant-loop-k at = (at.k ≤ at.n) × Filled greatest_order at.k (λ i. ceil_div (nth at.g i) at.t +ℤ least_root at.t at.b) at.y
+invariant-loop-k live = (live.k ≤ live.n) × Filled greatest_order live.k (λ i. ceil_div (nth live.g i) live.t +ℤ least_root live.t live.b) live.y
 
 abbrev pub decreases-loop-k : goal.decreases-loop-k
 decreases-loop-k l = l.n - l.k

@@ -19,7 +19,7 @@ use Rattle.sides.proofs.HalfSides.{smaller_within, sides_none, sides_more}
 use Rattle.sides.proofs.write_sides.Given as goal
 
 abbrev pub invariant-loop-k : goal.invariant-loop-k
-invariant-loop-k at = (at.k ≤ at.n) × SidesIn at.k (nth at.c) (λ i. smaller_half (nth at.y i) (nth at.tk i) at.b) at.out
+invariant-loop-k live = (live.k ≤ live.n) × SidesIn live.k (nth live.c) (λ i. smaller_half (nth live.y i) (nth live.tk i) live.b) live.out
 
 abbrev pub decreases-loop-k : goal.decreases-loop-k
 decreases-loop-k l = l.n - l.k

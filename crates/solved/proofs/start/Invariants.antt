@@ -12,7 +12,7 @@ use Rattle.solved.proofs.Solving.{cleared_end}
 use Rattle.solved.proofs.start.Given as goal
 
 abbrev pub invariant-loop-k : goal.invariant-loop-k
-invariant-loop-k at = (at.k ≤ at.n) × Filled greatest_order at.k (λ i. pos 0) at.x
+invariant-loop-k live = (live.k ≤ live.n) × Filled greatest_order live.k (λ i. pos 0) live.x
 
 abbrev pub decreases-loop-k : goal.decreases-loop-k
 decreases-loop-k l = l.n - l.k

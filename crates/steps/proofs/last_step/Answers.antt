@@ -5,7 +5,7 @@ use lib.Signed.{◌≤ℤ◌}
 use mir.Syntax.{w64}
 use mir.Val.{SFits}
 use Rattle.integers.specs.Division.{floor_div}
-use Rattle.integers.proofs.Machine.{clean, clean_result, lt_holds, lt_fails, lt_yes, lt_no, fits_literal}
+use Rattle.integers.proofs.Machine.{clean, clean_result, lt_holds, lt_fails, lt_yes, lt_no, fits_literal, clean_element}
 use Rattle.cholesky.specs.Scale.{scale}
 use Rattle.cholesky.specs.Store.{upper}
 use Rattle.steps.proofs.Searches.{less_fits, last_none, last-most, last-all}
@@ -53,10 +53,10 @@ returns-then-rest-lt1 c = last_none _ _ (lt_yes (fits_rest c.before) (fits_liter
 pub returns-then-most-lt-MOST_STEP : goal.returns-then-most-lt-MOST_STEP
 unfolding upper
 returns-then-most-lt-MOST_STEP c =
-    let e = clean_result c.floor_div-most ∙ most_is c.before in
+    let e = clean_element c.floor_div-most.result c.floor_div-most.type_inv ∙ most_is c.before in
     e ∙ last-most _ _ (one c.before.before) (lt_holds (rw e at c.if-most-lt-MOST_STEP.true))
 
 pub returns-else-most-lt-MOST_STEP : goal.returns-else-most-lt-MOST_STEP
 unfolding upper
 returns-else-most-lt-MOST_STEP c =
-    last-all _ _ (one c.before.before) (lt_fails (rw (clean_result c.floor_div-most ∙ most_is c.before) at c.if-most-lt-MOST_STEP.false))
+    last-all _ _ (one c.before.before) (lt_fails (rw (clean_element c.floor_div-most.result c.floor_div-most.type_inv ∙ most_is c.before) at c.if-most-lt-MOST_STEP.false))

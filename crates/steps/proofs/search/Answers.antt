@@ -5,7 +5,7 @@ use native.Mathlib.Numerals.{add-one}
 use mir.Syntax.{w64}
 use mir.Val.{to_z}
 use lib.IntN.{pos}
-use Rattle.integers.proofs.Machine.{clean, clean_result, fits, fits_within}
+use Rattle.integers.proofs.Machine.{clean, clean_result, fits, fits_within, clean_element}
 use Rattle.cholesky.specs.Store.{upper}
 use Rattle.steps.proofs.Searches.{Searching, shifted, tried-within, scaled-nonneg, scaled-within, search_bit, search_start, search_tried, search_more, search_left, search_end, triable_last}
 use Rattle.steps.proofs.search.Lts as lts
@@ -39,7 +39,7 @@ last_step-requires c = let t = c.requires in omega (arith, t.left.order, c.if-fi
 
 pub returns-then-first-n : goal.returns-then-first-n
 returns-then-first-n c =
-    clean_result c.last_step ∙ c.last_step.ensures ∙ triable_last c.requires (sym (add-one c.args.first) ∙ c.if-first-n.true)
+    clean_element c.last_step.result c.last_step.type_inv ∙ c.last_step.ensures ∙ triable_last c.requires (sym (add-one c.args.first) ∙ c.if-first-n.true)
 
 pub loop-b-init : goal.loop-b-init
 loop-b-init c = search_start

@@ -1,5 +1,5 @@
 use mathlib.Core.Path.{refl, ◌∙◌}
-use Rattle.integers.proofs.Machine.{clean_result}
+use Rattle.integers.proofs.Machine.{clean_result, clean_element}
 use Rattle.cholesky.proofs.Filling.{checked_lent}
 use Rattle.steps.proofs.Walked.{scaled_triable, step_is}
 use Rattle.steps.proofs.step.Goals as goal
@@ -13,4 +13,4 @@ search-requires c = let p = c.requires in scaled_triable p.bounds p.order c.scal
 pub returns : goal.returns
 returns c =
     let p = c.requires in
-    clean_result c.search ∙ c.search.ensures ∙ step_is p.bounds p.order c.scale.ensures
+    clean_element c.search.result c.search.type_inv ∙ c.search.ensures ∙ step_is p.bounds p.order c.scale.ensures

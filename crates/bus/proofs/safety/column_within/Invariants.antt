@@ -15,7 +15,7 @@ use Rattle.cholesky.specs.Store.{stride, upper}
 use Rattle.bus.proofs.safety.column_within.Given as goal
 
 abbrev pub invariant-loop-k : goal.invariant-loop-k
-invariant-loop-k at = (at.k ≤ at.count) × (all at.k (λ k. within (nat_abs at.bound) (upper at.t k at.j)) ≡ true)
+invariant-loop-k live = (live.k ≤ live.count) × (all live.k (λ k. within (nat_abs live.bound) (upper live.t k live.j)) ≡ true)
 
 abbrev pub decreases-loop-k : goal.decreases-loop-k
 decreases-loop-k l = l.count - l.k

@@ -11,7 +11,7 @@ use Rattle.cholesky.specs.Store.{upper}
 use Rattle.cholesky.proofs.factoring.start.Given as goal
 
 abbrev pub invariant-loop-j : goal.invariant-loop-j
-invariant-loop-j at = (at.j ≤ at.n) × ((l : ℕ) → l < at.j → pos 1 ≤ℤ upper at.s l l)
+invariant-loop-j live = (live.j ≤ live.n) × ((l : ℕ) → l < live.j → pos 1 ≤ℤ upper live.s l l)
 
 abbrev pub decreases-loop-j : goal.decreases-loop-j
 decreases-loop-j l = l.n - l.j

@@ -1,6 +1,6 @@
 use mathlib.Core.Path.{ap}
 use borrow.Author.Rules.{rules}
-use Rattle.integers.proofs.Machine.{clean, clean_result}
+use Rattle.integers.proofs.Machine.{clean, clean_result, clean_element}
 use Rattle.tables.proofs.Answers.{exactly}
 use Rattle.stiffness.specs.Bracket.{bracket_code}
 use Rattle.stiffness_buffers.specs.StiffnessBuffers.{StoredStiffness}
@@ -26,6 +26,6 @@ pub returns : goal.returns
 unfolding stiffness_entry stiffness_stored
 returns c =
     let a = c.args in
-    rw (clean_result c.bracket_code, c.bracket_code.ensures)
+    rw (clean_element c.bracket_code.result c.bracket_code.type_inv, c.bracket_code.ensures)
     (exactly (means c.before.before.before.before.before.before.before.before.before.before.before.before.before.before.before.before) (stiffness_means a.n a.low.now a.high.now a.step.now a.bound.now a.vector.now) _
     (ap numbered (rw (clean c.ranges.n) at c.bracket.ensures)))

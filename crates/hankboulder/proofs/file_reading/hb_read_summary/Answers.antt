@@ -1,6 +1,6 @@
 use native.Mathlib.Omega.{arith}
 use borrow.Author.Rules.{rules}
-use Rattle.integers.proofs.Machine.{clean_result}
+use Rattle.integers.proofs.Machine.{clean_result, clean_element}
 use Rattle.words.proofs.Laws.{AllBytes}
 use Rattle.file_buffers.specs.Parts.{Parts, parts, Handed}
 use Rattle.hankboulder.proofs.SummaryRead.{read_summary_exactly}
@@ -38,5 +38,5 @@ file_bytes c = record { each = λ i. omega (arith, c.shared_slice_known-1.given 
 
 pub returns : goal.returns
 returns c =
-    rw (clean_result c.checked_code, c.checked_code.ensures)
+    rw (clean_element c.checked_code.result c.checked_code.type_inv, c.checked_code.ensures)
     (read_summary_exactly c.args.file.now (lent c.before.before.before.before.before.before.before.before.before.before.before.before.before.before.before.before.before.before.before.before.before.before.before.before.before.before.before.before.before.before.before) (file_bytes c.before.before.before.before.before.before.before.before.before.before.before.before.before.before.before.before.before.before.before.before.before.before.before.before.before.before.before.before.before.before) {h = left c.before.before.before.before.before.before.before.before.before.before.before.before.before.before.before} c.read_summary.ensures)

@@ -1,6 +1,6 @@
 use native.Mathlib.Omega.{arith}
 use borrow.Author.Rules.{rules}
-use Rattle.integers.proofs.Machine.{clean, clean_result}
+use Rattle.integers.proofs.Machine.{clean, clean_result, clean_element}
 use Rattle.writer.specs.Writing.{Written}
 use Rattle.hankboulder.proofs.SummaryWritten.{Bytes, write_summary_exactly}
 use Rattle.hankboulder.proofs.file_writing.hb_write_summary.Lts as lts
@@ -30,6 +30,6 @@ lent c =
 pub returns : goal.returns
 returns c =
     let a = c.args in
-    rw (clean_result c.checked_code, c.checked_code.ensures)
+    rw (clean_element c.checked_code.result c.checked_code.type_inv, c.checked_code.ensures)
     (write_summary_exactly a.n a.low.now a.high.now a.linear_low.now a.linear_high.now a.limit a.centre.now a.file.now (lent c.before.before.before.before.before.before) {h = left c.before.before.before}
     (rw (clean c.ranges.n, clean c.ranges.limit) at c.write_summary.ensures))

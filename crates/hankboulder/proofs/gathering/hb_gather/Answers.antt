@@ -2,7 +2,7 @@ use mathlib.Core.Path.{ap}
 use mathlib.Core.List.{List}
 use Prim.Native.Nat.{ℕ}
 use borrow.Author.Rules.{rules}
-use Rattle.integers.proofs.Machine.{clean, clean_result}
+use Rattle.integers.proofs.Machine.{clean, clean_result, clean_element}
 use Rattle.tables.proofs.Answers.{exactly}
 use Rattle.sums.specs.Lent.{Lent, Left, gathered_code}
 use Rattle.samples.proofs.Measuring.{Narrow}
@@ -36,6 +36,6 @@ numbered j = record { number = gathered_code j.answer; sums = j.sums }
 pub returns : goal.returns
 unfolding gather_entry gather_stored
 returns c =
-    rw (clean_result c.gathered_code, c.gathered_code.ensures)
+    rw (clean_element c.gathered_code.result c.gathered_code.type_inv, c.gathered_code.ensures)
     (exactly (means c.before.before.before.before.before.before.before.before.before.before.before.before.before.before.before.before.before.before.before.before.before.before) (gathered-means c.args.sample (narrow c.before.before.before.before.before.before.before.before.before.before.before.before.before.before.before.before.before.before.before.before.before.before) c.args.n (lent c.before.before.before.before.before.before.before.before.before.before.before.before.before.before.before.before.before.before.before.before.before.before)) _
     (ap numbered (rw (clean c.ranges.n) at c.gather.ensures)))

@@ -1,6 +1,6 @@
 use mathlib.Core.Path.{ap}
 use borrow.Author.Rules.{rules}
-use Rattle.integers.proofs.Machine.{clean, clean_result}
+use Rattle.integers.proofs.Machine.{clean, clean_result, clean_element}
 use Rattle.tables.proofs.Answers.{exactly}
 use Rattle.rides.specs.Reading.{reading_code}
 use Rattle.sums_buffers.specs.SumsBuffers.{ReadOut}
@@ -28,6 +28,6 @@ pub returns : goal.returns
 unfolding read_entry read_stored
 returns c =
     let a = c.args in
-    rw (clean_result c.reading_code, c.reading_code.ensures)
+    rw (clean_element c.reading_code.result c.reading_code.type_inv, c.reading_code.ensures)
     (exactly (means c.before.before.before.before.before.before.before.before.before.before) (read-means a.n a.low.now a.high.now a.linear_low.now a.linear_high.now a.running-limit a.allowance a.limit.now) _
     (ap numbered (rw (clean c.ranges.n, clean c.ranges.running-limit, clean c.ranges.allowance) at c.read_sums.ensures)))

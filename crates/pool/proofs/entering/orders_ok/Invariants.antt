@@ -13,7 +13,7 @@ use Rattle.pool.specs.Pool.{orders_ok}
 use Rattle.pool.proofs.entering.orders_ok.Given as goal
 
 abbrev pub invariant-loop-k : goal.invariant-loop-k
-invariant-loop-k at = (at.k ≤ at.count) × (all at.k (λ i. order_ok (nth at.orders i)) ≡ true)
+invariant-loop-k live = (live.k ≤ live.count) × (all live.k (λ i. order_ok (nth live.orders i)) ≡ true)
 
 abbrev pub decreases-loop-k : goal.decreases-loop-k
 decreases-loop-k l = l.count - l.k

@@ -14,7 +14,7 @@ use Rattle.pool.specs.Pool.{orders_same}
 use Rattle.pool.proofs.entering.orders_same.Given as goal
 
 abbrev pub invariant-loop-k : goal.invariant-loop-k
-invariant-loop-k at = (at.k ≤ at.count) × (all at.k (λ i. same (nth at.orders i) at.n) ≡ true)
+invariant-loop-k live = (live.k ≤ live.count) × (all live.k (λ i. same (nth live.orders i) live.n) ≡ true)
 
 abbrev pub decreases-loop-k : goal.decreases-loop-k
 decreases-loop-k l = l.count - l.k

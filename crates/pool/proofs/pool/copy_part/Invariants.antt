@@ -11,7 +11,7 @@ use Rattle.tables.proofs.Buffers.{filled_none, filled_more}
 use Rattle.pool.proofs.pool.copy_part.Given as goal
 
 abbrev pub invariant-loop-i : goal.invariant-loop-i
-invariant-loop-i at = (at.i ≤ at.count) × Filled (length at.initial.out) at.i (λ k. nth at.x (at.first + k)) at.out
+invariant-loop-i live = (live.i ≤ live.count) × Filled (length live.initial.out) live.i (λ k. nth live.x (live.first + k)) live.out
 
 abbrev pub decreases-loop-i : goal.decreases-loop-i
 decreases-loop-i l = l.count - l.i

@@ -13,7 +13,7 @@ use Rattle.tables.proofs.Buffers.{filled_none, filled_more}
 use Rattle.pool_buffers.proofs.pooling.load_part.Given as goal
 
 abbrev pub invariant-loop-i : goal.invariant-loop-i
-invariant-loop-i at = (at.i ≤ at.count) × Filled (length at.initial.out) at.i (λ k. signed_at w64 at.x ((at.first + k) * bytes w64)) at.out
+invariant-loop-i live = (live.i ≤ live.count) × Filled (length live.initial.out) live.i (λ k. signed_at w64 live.x ((live.first + k) * bytes w64)) live.out
 
 abbrev pub decreases-loop-i : goal.decreases-loop-i
 decreases-loop-i l = l.count - l.i

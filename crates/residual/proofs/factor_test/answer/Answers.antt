@@ -5,7 +5,7 @@ use lib.Signed.{le_z}
 use mir.Syntax.{w64}
 use mir.Val.{to_z, of_z}
 use Rattle.integers.proofs.Parts.{le_z_true, le_z_false}
-use Rattle.integers.proofs.Machine.{clean_result, lt_holds, lt_fails}
+use Rattle.integers.proofs.Machine.{clean_result, lt_holds, lt_fails, clean_element}
 use Rattle.tables.specs.Matrix.{at}
 use Rattle.tables.proofs.Checks.{call_false, call_true, first_passes, first-refuses, first-none}
 use Rattle.tables.proofs.Answers.{after-refused, after-passed}
@@ -47,7 +47,7 @@ abbrev v : After-over → ℤ
 v c = let a = c.args in over a.n (at a.n a.factor.now) (at a.n a.low.now) (at a.n a.high.now)
 
 found : (c : After-over) → to_z w64 (of_z w64 c.over-v.result) ≡ v c
-found c = clean_result c.over-v ∙ c.over-v.ensures
+found c = clean_element c.over-v.result c.over-v.type_inv ∙ c.over-v.ensures
 
 -- and the answer, by its sign
 answered : (c : After-over) (b : Bool) → le_z (pos 0) (v c) ≡ b → let a = c.args in

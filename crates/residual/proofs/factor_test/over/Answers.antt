@@ -1,7 +1,7 @@
 use mathlib.Core.Path.{◌∙◌}
 use native.Mathlib.Omega.{arith}
 use borrow.Author.Rules.{rules}
-use Rattle.integers.proofs.Machine.{clean_result}
+use Rattle.integers.proofs.Machine.{clean_result, clean_element}
 use Rattle.residual.proofs.Worked.{residue, least-over}
 use Rattle.residual.proofs.factor_test.over.Goals as goal
 
@@ -16,4 +16,4 @@ least_over-requires c =
 pub returns : goal.returns
 returns c =
     let p = c.requires in
-    clean_result c.least_over ∙ rw (← least-over p.0, ← c.turn.ensures.0, ← c.turn.ensures.1) c.least_over.ensures
+    clean_element c.least_over.result c.least_over.type_inv ∙ rw (← least-over p.0, ← c.turn.ensures.0, ← c.turn.ensures.1) c.least_over.ensures

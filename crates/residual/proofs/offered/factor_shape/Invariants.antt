@@ -10,7 +10,7 @@ use Rattle.residual.specs.FactorTest.{factor_entry, factor_shape}
 use Rattle.residual.proofs.offered.factor_shape.Given as goal
 
 abbrev pub invariant-loop-i : goal.invariant-loop-i
-invariant-loop-i at = (at.i ≤ at.n) × (all at.i (λ k. all at.n (λ j. factor_entry k j (at at.n at.factor k j))) ≡ true)
+invariant-loop-i live = (live.i ≤ live.n) × (all live.i (λ k. all live.n (λ j. factor_entry k j (at live.n live.factor k j))) ≡ true)
 
 abbrev pub decreases-loop-i : goal.decreases-loop-i
 decreases-loop-i l = l.n - l.i

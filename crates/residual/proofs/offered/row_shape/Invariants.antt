@@ -14,7 +14,7 @@ use Rattle.residual.specs.FactorTest.{factor_entry}
 use Rattle.residual.proofs.offered.row_shape.Given as goal
 
 abbrev pub invariant-loop-j : goal.invariant-loop-j
-invariant-loop-j at = (at.j ≤ at.n) × (all at.j (λ k. factor_entry at.i k (at at.n at.factor at.i k)) ≡ true)
+invariant-loop-j live = (live.j ≤ live.n) × (all live.j (λ k. factor_entry live.i k (at live.n live.factor live.i k)) ≡ true)
 
 abbrev pub decreases-loop-j : goal.decreases-loop-j
 decreases-loop-j l = l.n - l.j

@@ -6,7 +6,7 @@ use lib.IntN.{◌*ℤ◌}
 use mir.Syntax.{w64}
 use mir.Val.{to_z}
 use Rattle.integers.specs.Sum.{sum}
-use Rattle.integers.proofs.Machine.{clean, clean_result}
+use Rattle.integers.proofs.Machine.{clean, clean_result, clean_element}
 use Rattle.integers.proofs.Sums.{sum_zero, sum_suc}
 use Rattle.tables.specs.Matrix.{at}
 use Rattle.residual.specs.Scratch.{gram_at}
@@ -16,12 +16,12 @@ use Rattle.residual.proofs.residual.product.Goals as goal
 pub overflow_mul-s : goal.overflow_mul-s
 overflow_mul-s c =
     let p = c.requires in
-    rw (clean_result c.entry, c.entry.ensures, clean_result c.entry-in-loop-k, c.entry-in-loop-k.ensures) (product_fits p.0 _ p.1 p.2 (omega arith))
+    rw (clean_element c.entry.result c.entry.type_inv, c.entry.ensures, clean_element c.entry-in-loop-k.result c.entry-in-loop-k.type_inv, c.entry-in-loop-k.ensures) (product_fits p.0 _ p.1 p.2 (omega arith))
 
 pub overflow_add-s : goal.overflow_add-s
 overflow_add-s c =
     let p = c.requires in
-    rw (clean (overflow_mul-s c), clean_result c.entry, c.entry.ensures, clean_result c.entry-in-loop-k, c.entry-in-loop-k.ensures, c.loop-k.invariant.1) (products_fit p.0 _ p.1 p.2 (omega arith))
+    rw (clean (overflow_mul-s c), clean_element c.entry.result c.entry.type_inv, c.entry.ensures, clean_element c.entry-in-loop-k.result c.entry-in-loop-k.type_inv, c.entry-in-loop-k.ensures, c.loop-k.invariant.1) (products_fit p.0 _ p.1 p.2 (omega arith))
 
 pub loop-k-init : goal.loop-k-init
 unfolding gram_at
@@ -39,7 +39,7 @@ pub loop-k-preserved : goal.loop-k-preserved
 unfolding gram_at
 loop-k-preserved c =
     let l = c.loop-k in
-    (omega arith, clean (overflow_add-s c) ∙ rw (clean (overflow_mul-s c), clean_result c.entry, c.entry.ensures, clean_result c.entry-in-loop-k, c.entry-in-loop-k.ensures, l.invariant.1, add-one) (sym (sum_suc l.k _)))
+    (omega arith, clean (overflow_add-s c) ∙ rw (clean (overflow_mul-s c), clean_element c.entry.result c.entry.type_inv, c.entry.ensures, clean_element c.entry-in-loop-k.result c.entry-in-loop-k.type_inv, c.entry-in-loop-k.ensures, l.invariant.1, add-one) (sym (sum_suc l.k _)))
 
 pub returns : goal.returns
 unfolding gram_at

@@ -15,7 +15,7 @@ use Rattle.residual.proofs.Sizes.{product_fits, products_fit}
 use Rattle.residual.proofs.residual.product.Given as goal
 
 abbrev pub invariant-loop-k : goal.invariant-loop-k
-invariant-loop-k at = (at.k ≤ suc at.i) × (at.s ≡ sum at.k (λ at. at at.n at.factor l at.i *ℤ at at.n at.factor l at.j))
+invariant-loop-k live = (live.k ≤ suc live.i) × (live.s ≡ sum live.k (λ l. at live.n live.factor l live.i *ℤ at live.n live.factor l live.j))
 
 abbrev pub decreases-loop-k : goal.decreases-loop-k
 decreases-loop-k l = suc l.i - l.k

@@ -36,7 +36,7 @@ abbrev sizes : Start → Bool
 sizes s =
     let a = s.args in
     let k = order_of a.n in
-    residual_sizes (k * k) (length a.low.now) (length a.high.now) (length a.factor.now) (length a.low-residual.now) (length a.high-residual.now)
+    residual_sizes (k * k) (length a.low.now) (length a.high.now) (length a.factor.now) (length a.low_residual.now) (length a.high_residual.now)
 
 sized : (c : After-sizes_ok) → c.sizes_ok-sized.result ≡ sizes c.before.before.before
 sized c = rw (order c.before.before) at c.sizes_ok-sized.ensures
@@ -51,11 +51,11 @@ abbrev behind : Start → Tabled
 behind s =
     let a = s.args in
     let k = order_of a.n in
-    tabled k (low_bounds k a.low.now) (high_bounds k a.high.now) (at k a.factor.now) a.low-residual.now a.high-residual.now
+    tabled k (low_bounds k a.low.now) (high_bounds k a.high.now) (at k a.factor.now) a.low_residual.now a.high_residual.now
 
 pub returns-then-m-eq0 : goal.returns-then-m-eq0
 unfolding residual_act tabling
-returns-then-m-eq0 c = no-order _ _ _ _ _ (kept _ _) _ (sym (order c.before) ∙ c.if-m-eq0.true)
+returns-then-m-eq0 c = record { exact = no-order _ _ _ _ _ (kept _ _) _ (sym (order c.before) ∙ c.if-m-eq0.true) }
 
 pub overflow_mul-m : goal.overflow_mul-m
 unfolding residual_act tabling
@@ -68,7 +68,7 @@ enter-checked-requires c =
 
 pub returns-in-Refused : goal.returns-in-Refused
 unfolding residual_act tabling
-returns-in-Refused c = entered-refused _ _ _ _ _ (kept _ _) _ (came c.before) c.in-Refused.is
+returns-in-Refused c = record { exact = entered-refused _ _ _ _ _ (kept _ _) _ (came c.before) c.in-Refused.is }
 
 pub write_residual-requires : goal.write_residual-requires
 unfolding residual_act tabling
@@ -82,5 +82,7 @@ unfolding residual_act tabling
 returns c =
     let q = c.in_default.is in
     let h = (came c.before.before.before.before.before.before.before.before).held q in
-    ◌∙◌ {b = behind c.before.before.before.before.before.before.before.before.before.before.before.before.before.before} (rw (order c.before.before.before.before.before.before.before.before.before.before.before.before.before, h.low, h.high) at c.write_residual.ensures)
-    (entered-passed _ _ _ _ _ (kept _ _) (behind c.before.before.before.before.before.before.before.before.before.before.before.before.before.before) (came c.before.before.before.before.before.before.before.before) q)
+    record {
+      exact = ◌∙◌ {b = behind c.before.before.before.before.before.before.before.before.before.before.before.before.before.before} (rw (order c.before.before.before.before.before.before.before.before.before.before.before.before.before, h.low, h.high) at c.write_residual.ensures)
+          (entered-passed _ _ _ _ _ (kept _ _) (behind c.before.before.before.before.before.before.before.before.before.before.before.before.before.before) (came c.before.before.before.before.before.before.before.before) q);
+    }

@@ -34,34 +34,44 @@ offer c h =
 
 -- a refusal writes no entry
 none : (c : Joined1) → c.factor_shape-shaped.result ≡ false → c.if-shaped.written ≡ 0
-none c h = ⊎_elim (λ w. absurd (false≢true (sym h ∙ w.0.taken))) (λ w. w.3) c.if-shaped.branch
+none c h = elim c.if-shaped.branch [ goal.then-shaped w ↦ absurd (false≢true (sym h ∙ w.if-shaped.true)) | goal.else-shaped w ↦ w.written-is ]
 
 -- else all are those of the residual
 low_full : (c : Joined1) → c.factor_shape-shaped.result ≡ true → let a = c.args in
-    take c.if-shaped.written c.if-shaped.low ++ drop c.if-shaped.written a.low-residual.now ≡ table a.n (residual a.n (at a.n a.factor.now) (at a.n a.low.now))
+    take c.if-shaped.written c.if-shaped.low ++ drop c.if-shaped.written a.low_residual.now ≡ table a.n (residual a.n (at a.n a.factor.now) (at a.n a.low.now))
 low_full c h =
-    ⊎_elim (λ w. rw (w.4, w.6, w.3.ensures.0) (low-table (offer c.before h) c.args.low-residual.now c.requires.3)) (λ w. absurd (false≢true (sym w.0.left ∙ h))) c.if-shaped.branch
+    elim c.if-shaped.branch [
+      | goal.then-shaped w ↦ rw (w.low-is, w.written-is, w.turn.ensures.0) (low-table (offer c.before h) c.args.low_residual.now c.requires.3)
+      | goal.else-shaped w ↦ absurd (false≢true (sym w.if-shaped.false ∙ h))
+    ]
 
 high_full : (c : Joined1) → c.factor_shape-shaped.result ≡ true → let a = c.args in
-    take c.if-shaped.written c.if-shaped.high ++ drop c.if-shaped.written a.high-residual.now ≡ table a.n (residual a.n (at a.n a.factor.now) (at a.n a.high.now))
+    take c.if-shaped.written c.if-shaped.high ++ drop c.if-shaped.written a.high_residual.now ≡ table a.n (residual a.n (at a.n a.factor.now) (at a.n a.high.now))
 high_full c h =
-    ⊎_elim (λ w. rw (w.5, w.6, w.3.ensures.1) (high-table (offer c.before h) c.args.high-residual.now c.requires.4)) (λ w. absurd (false≢true (sym w.0.left ∙ h))) c.if-shaped.branch
+    elim c.if-shaped.branch [
+      | goal.then-shaped w ↦ rw (w.high-is, w.written-is, w.turn.ensures.1) (high-table (offer c.before h) c.args.high_residual.now c.requires.4)
+      | goal.else-shaped w ↦ absurd (false≢true (sym w.if-shaped.false ∙ h))
+    ]
 
 -- no more is written than there is, and the scratch tables have it
 few : (c : Joined1) → let n = c.args.n in c.if-shaped.written ≤ n * n
-few c = ⊎_elim (λ w. omega (arith, w.6)) (λ w. omega (arith, w.3)) c.if-shaped.branch
+few c = elim c.if-shaped.branch [ goal.then-shaped w ↦ omega (arith, w.written-is) | goal.else-shaped w ↦ omega (arith, w.written-is) ]
 
 low_room : (c : Joined1) → let n = c.args.n in n * n ≤ length c.if-shaped.low
 low_room c =
     let p = c.requires in
-    ⊎_elim (λ w. rw (w.4, w.3.ensures.0) (omega (arith, low-size (offer c.before w.0.taken), table_fits p.0.order)))
-    (λ w. omega (arith, ap length w.1, p.1.low-size, table_fits p.0.order)) c.if-shaped.branch
+    elim c.if-shaped.branch [
+      | goal.then-shaped w ↦ rw (w.low-is, w.turn.ensures.0) (omega (arith, low-size (offer c.before w.if-shaped.true), table_fits p.0.order))
+      | goal.else-shaped w ↦ omega (arith, ap length w.low-is, p.1.low-size, table_fits p.0.order)
+    ]
 
 high_room : (c : Joined1) → let n = c.args.n in n * n ≤ length c.if-shaped.high
 high_room c =
     let p = c.requires in
-    ⊎_elim (λ w. rw (w.5, w.3.ensures.1) (omega (arith, high-size (offer c.before w.0.taken), table_fits p.0.order)))
-    (λ w. omega (arith, ap length w.2, p.1.high-size, table_fits p.0.order)) c.if-shaped.branch
+    elim c.if-shaped.branch [
+      | goal.then-shaped w ↦ rw (w.high-is, w.turn.ensures.1) (omega (arith, high-size (offer c.before w.if-shaped.true), table_fits p.0.order))
+      | goal.else-shaped w ↦ omega (arith, ap length w.high-is, p.1.high-size, table_fits p.0.order)
+    ]
 
 pub turn-requires : goal.turn-requires
 unfolding tabled

@@ -8,7 +8,7 @@ use mir.Syntax.{w64}
 use mir.Val.{to_z}
 use Rattle.integers.specs.Numbers.{min_ℤ}
 use Rattle.integers.proofs.Parts.{le_z_true, le_z_false}
-use Rattle.integers.proofs.Machine.{clean_result, lt_holds, lt_fails}
+use Rattle.integers.proofs.Machine.{clean_result, lt_holds, lt_fails, clean_element}
 use Rattle.integers.proofs.Extremes.{min_first, min_second}
 use Rattle.tables.specs.Matrix.{at}
 use Rattle.residual.specs.Residual.{row_over}
@@ -36,15 +36,16 @@ smaller : (c : Joined1) → to_z w64 c.if-over-least.least-bits ≡ min_ℤ (lea
 smaller c =
     let e = c.loop-i.invariant.2 in
     let f = c.row_over-over.ensures in
-    ⊎_elim
-    (λ w. rw (w.1, clean_result c.row_over-over, f) (min_second (least c.before) (over c.before) (le_z_false {x = least c.before} {y = over c.before} (lt_holds (rw (clean_result c.row_over-over, f, e) at w.0.taken)))))
-    (λ w. rw (w.1, e) (min_first (least c.before) (over c.before) (le_z_true {x = least c.before} {y = over c.before} (lt_fails (rw (clean_result c.row_over-over, f, e) at w.0.left))))) c.if-over-least.branch
+    elim c.if-over-least.branch [
+      | goal.then-over-least w ↦ rw (w.least-is, clean_element c.row_over-over.result c.row_over-over.type_inv, f) (min_second (least c.before) (over c.before) (le_z_false {x = least c.before} {y = over c.before} (lt_holds (rw (clean_element c.row_over-over.result c.row_over-over.type_inv, f, e) at w.if-over-least.true))))
+      | goal.else-over-least w ↦ rw (w.least-is, e) (min_first (least c.before) (over c.before) (le_z_true {x = least c.before} {y = over c.before} (lt_fails (rw (clean_element c.row_over-over.result c.row_over-over.type_inv, f, e) at w.if-over-least.false))))
+    ]
 
 pub row_over-least-requires : goal.row_over-least-requires
 row_over-least-requires c = c.requires
 
 pub loop-i-init : goal.loop-i-init
-loop-i-init c = (omega arith, omega (arith, c.requires.1), clean_result c.row_over-least ∙ c.row_over-least.ensures ∙ so_far_first _ _ _)
+loop-i-init c = (omega arith, omega (arith, c.requires.1), clean_element c.row_over-least.result c.row_over-least.type_inv ∙ c.row_over-least.ensures ∙ so_far_first _ _ _)
 
 pub row_over-over-requires : goal.row_over-over-requires
 row_over-over-requires c = (c.requires.0, c.loop-i-test.true)

@@ -60,4 +60,4 @@ radius-requires c =
 pub returns : goal.returns
 unfolding at radius
 returns c =
-    clean_result c.radius ∙ c.radius.ensures ∙ rw (clean_element (low-at c.before.before.before) c.radius-arg-1.given, clean_element (high-at c.before.before.before) c.radius-arg-2-1.given)
+    clean_element c.radius.result c.radius.type_inv ∙ c.radius.ensures ∙ rw (clean_element (low-at c.before.before.before) c.radius-arg-1.given, clean_element (high-at c.before.before.before) c.radius-arg-2-1.given)

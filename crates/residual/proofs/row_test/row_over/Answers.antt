@@ -25,12 +25,12 @@ pub overflow_add-over-2 : goal.overflow_add-over-2
 unfolding at
 overflow_add-over-2 c =
     let p = c.requires in
-    rw (clean_result c.radius_at, c.radius_at.ensures, clean_element _ c.over-1.given) (first_fits p.0.ranged p.1)
+    rw (clean_element c.radius_at.result c.radius_at.type_inv, c.radius_at.ensures, clean_element _ c.over-1.given) (first_fits p.0.ranged p.1)
 
 pub overflow_sub-over : goal.overflow_sub-over
 overflow_sub-over c =
     let p = c.requires in
-    rw (c.loop-j.invariant.1, clean_result c.radius_at-over, c.radius_at-over.ensures) (left_fits p.0.ranged p.1 c.loop-j-test.true)
+    rw (c.loop-j.invariant.1, clean_element c.radius_at-over.result c.radius_at-over.type_inv, c.radius_at-over.ensures) (left_fits p.0.ranged p.1 c.loop-j-test.true)
 
 pub overflow_mul-over : goal.overflow_mul-over
 unfolding at
@@ -56,7 +56,7 @@ pub loop-j-init : goal.loop-j-init
 unfolding at
 loop-j-init c =
     let a = c.args in
-    (omega arith, clean (overflow_add-over-2 c) ∙ rw (clean_result c.radius_at, c.radius_at.ensures, clean_element _ c.over-1.given) (left-none (at a.n a.low.now) (at a.n a.high.now) a.i))
+    (omega arith, clean (overflow_add-over-2 c) ∙ rw (clean_element c.radius_at.result c.radius_at.type_inv, c.radius_at.ensures, clean_element _ c.over-1.given) (left-none (at a.n a.low.now) (at a.n a.high.now) a.i))
 
 pub radius_at-over-requires : goal.radius_at-over-requires
 unfolding at
@@ -67,7 +67,7 @@ unfolding at
 loop-j-preserved c =
     let l = c.loop-j in
     let a = c.args in
-    (omega arith, clean (overflow_sub-over c) ∙ rw (l.invariant.1, clean_result c.radius_at-over, c.radius_at-over.ensures, add-one) (left-more (at a.n a.low.now) (at a.n a.high.now) a.i l.j))
+    (omega arith, clean (overflow_sub-over c) ∙ rw (l.invariant.1, clean_element c.radius_at-over.result c.radius_at-over.type_inv, c.radius_at-over.ensures, add-one) (left-more (at a.n a.low.now) (at a.n a.high.now) a.i l.j))
 
 pub returns : goal.returns
 unfolding at

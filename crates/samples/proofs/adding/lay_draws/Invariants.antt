@@ -23,8 +23,8 @@ abbrev pub least : List ℤ → List ℤ → ℕ → ℤ
 least low high i = least_product (between low high i) (between low high factor_count)
 
 abbrev pub invariant-loop-i : goal.invariant-loop-i
-invariant-loop-i at =
-    (at.i ≤ factor_count) × Filled factor_count at.i (λ k. pos 0 -ℤ greatest at.low at.high k) at.a × Filled factor_count at.i (λ k. pos 0 -ℤ least at.low at.high k) at.b
+invariant-loop-i live =
+    (live.i ≤ factor_count) × Filled factor_count live.i (λ k. pos 0 -ℤ greatest live.low live.high k) live.a × Filled factor_count live.i (λ k. pos 0 -ℤ least live.low live.high k) live.b
 
 abbrev pub decreases-loop-i : goal.decreases-loop-i
 decreases-loop-i l = factor_count - l.i

@@ -1,7 +1,7 @@
 -- One search, and the quotient of what it finds.
 use mathlib.Core.Path.{◌≡◌, refl}
 use mathlib.Core.Bool.{true, false}
-use Rattle.integers.proofs.Machine.{clean, clean_result}
+use Rattle.integers.proofs.Machine.{clean, clean_result, clean_element}
 use Rattle.tables.proofs.Checks.{call_true, call_false}
 use Rattle.stiffness.specs.Bracket.{first_under}
 use Rattle.stiffness.proofs.Descending.{found-entries, found-nonzero, was_missed, was_hit}
@@ -28,4 +28,4 @@ pub returns : goal.returns
 unfolding first_under
 returns c =
     let e : c.first_under.result ≡ true = call_true refl c.if-not-first_under.false-raw in
-    was_hit _ _ _ _ _ (rw (clean c.ranges.w, e) at c.first_under.ensures) (rw (clean_result c.quotient) c.quotient.ensures)
+    was_hit _ _ _ _ _ (rw (clean c.ranges.w, e) at c.first_under.ensures) (rw (clean_element c.quotient.result c.quotient.type_inv) c.quotient.ensures)

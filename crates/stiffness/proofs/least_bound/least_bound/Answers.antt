@@ -7,7 +7,7 @@ use lib.Signed.{◌<ℤ◌}
 use mir.Syntax.{w64}
 use mir.Val.{to_z, of_z}
 use Rattle.integers.proofs.Solver.{none, order, solver}
-use Rattle.integers.proofs.Machine.{clean, clean_result, fits_within, fits_literal, within_more, within_in, within_low, within-high, lt_holds, lt_fails}
+use Rattle.integers.proofs.Machine.{clean, clean_result, fits_within, fits_literal, within_more, within_in, within_low, within-high, lt_holds, lt_fails, clean_element}
 use Rattle.tables.specs.Ranges.{entry_range}
 use Rattle.tables.specs.Matrix.{at}
 use Rattle.tables.proofs.CheckedTables.{low-within}
@@ -34,13 +34,13 @@ overflow_add-v c =
     let p = c.requires in
     let a = c.args in
     let w = low-within p.0 p.1 p.1 in
-    rw (clean_result c.entry-v, c.entry-v.ensures)
+    rw (clean_element c.entry-v.result c.entry-v.type_inv, c.entry-v.ensures)
     (fits_within {m = entry_range + 1} (within_in (order (at a.n a.low.now 0 0 ∷ []) (within_low w) (search solver depth 40 fits 20000) (omega arith))
     (order (at a.n a.low.now 0 0 ∷ []) (within-high w) (search solver depth 40 fits 20000) (omega arith))) (omega arith))
 
 begun : (c : After-entry) → let a = c.args in
     to_z w64 (of_z w64 (to_z w64 (of_z w64 c.entry-v.result) +ℤ pos 1)) ≡ at a.n a.low.now 0 0 +ℤ pos 1
-begun c = clean (overflow_add-v c) ∙ rw (clean_result c.entry-v, c.entry-v.ensures)
+begun c = clean (overflow_add-v c) ∙ rw (clean_element c.entry-v.result c.entry-v.type_inv, c.entry-v.ensures)
 
 -- the number that is asked for after `below`
 pub overflow_add-below : goal.overflow_add-below
@@ -60,7 +60,7 @@ went : (c : After-ask) → let a = c.args in
     Further a.n (at a.n a.low.now) (at a.n a.high.now) (to_z w64 c.loop-below.below-bits) (to_z w64 c.loop-below.v-bits)
     (raised (to_z w64 c.loop-below.below-bits) c.next-w.result (to_z w64 c.loop-below.v-bits) c.ask-found.result) c.ask-found.result c.ask-found.new.x
 went c =
-    further _ _ _ c.loop-below.invariant c.next-w.ensures (rw (clean_result c.next-w) at c.ask-found.ensures)
+    further _ _ _ c.loop-below.invariant c.next-w.ensures (rw (clean_element c.next-w.result c.next-w.type_inv) at c.ask-found.ensures)
 
 pub overflow_sub-below : goal.overflow_sub-below
 overflow_sub-below c = fits_literal tt
@@ -84,15 +84,15 @@ pub ask-found-requires : goal.ask-found-requires
 ask-found-requires c =
     let p = c.requires in
     let s = c.loop-below.invariant in
-    (p.0, rw (clean_result c.next-w) (inside_within s.low (upper-most _ _ _ p.0.bounds p.1 s) c.next-w.ensures), s.size)
+    (p.0, rw (clean_element c.next-w.result c.next-w.type_inv) (inside_within s.low (upper-most _ _ _ p.0.bounds p.1 s) c.next-w.ensures), s.size)
 
 pub loop-below-smaller : goal.loop-below-smaller
 loop-below-smaller c =
-    rw (clean_result c.raised-below, c.raised-below.ensures, clean_result c.next-w, clean_result c.ask-found) (went c.before.before).less
+    rw (clean_element c.raised-below.result c.raised-below.type_inv, c.raised-below.ensures, clean_element c.next-w.result c.next-w.type_inv, clean_element c.ask-found.result c.ask-found.type_inv) (went c.before.before).less
 
 pub loop-below-preserved : goal.loop-below-preserved
 loop-below-preserved c =
-    rw (clean_result c.raised-below, c.raised-below.ensures, clean_result c.next-w, clean_result c.ask-found) (went c.before.before).narrowed
+    rw (clean_element c.raised-below.result c.raised-below.type_inv, c.raised-below.ensures, clean_element c.next-w.result c.next-w.type_inv, clean_element c.ask-found.result c.ask-found.type_inv) (went c.before.before).narrowed
 
 pub returns : goal.returns
 returns c =

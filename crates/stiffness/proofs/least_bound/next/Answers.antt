@@ -8,7 +8,7 @@ use lib.Signed.{◌<ℤ◌}
 use Rattle.integers.specs.Division.{floor_div}
 use Rattle.integers.proofs.Division.{floor_law}
 use Rattle.integers.proofs.Solver.{◌&◌, none, order, solver}
-use Rattle.integers.proofs.Machine.{clean, clean_result, fits_within, within-+, within_in, within_low, within-high}
+use Rattle.integers.proofs.Machine.{clean, clean_result, fits_within, within-+, within_in, within_low, within-high, clean_element}
 use Rattle.lookahead.specs.Pairs.{under_range}
 use Rattle.stiffness.specs.Descent.{Inside}
 use Rattle.stiffness.proofs.least_bound.next.Goals as goal
@@ -42,4 +42,4 @@ returns-then-left-gt0 c =
 
 pub returns : goal.returns
 returns c =
-    rw (clean_result c.floor_div, c.floor_div.ensures, clean (overflow_add-below c.before), clean c.ranges.below, clean c.ranges.v) (middle c.requires.2.high)
+    rw (clean_element c.floor_div.result c.floor_div.type_inv, c.floor_div.ensures, clean (overflow_add-below c.before), clean c.ranges.below, clean c.ranges.v) (middle c.requires.2.high)

@@ -1,6 +1,6 @@
 use mathlib.Core.Path.{◌∙◌}
 use native.Mathlib.Omega.{arith}
-use Rattle.integers.proofs.Machine.{clean_result, within_more, within-*}
+use Rattle.integers.proofs.Machine.{clean_result, within_more, within-*, clean_element}
 use Rattle.tables.proofs.Forms.{norm_positive}
 use Rattle.tables.specs.Matrix.{norm_squared}
 use Rattle.stiffness.specs.Bracket.{quotient}
@@ -35,4 +35,4 @@ unfolding quotient norm_squared
 returns c =
     let v = c.least_value in
     let s = c.product_sum in
-    clean_result c.ceil_div ∙ rw (clean_result v, v.ensures, clean_result s, s.ensures) at c.ceil_div.ensures
+    clean_element c.ceil_div.result c.ceil_div.type_inv ∙ rw (clean_result v, v.ensures, clean_result s, s.ensures) at c.ceil_div.ensures

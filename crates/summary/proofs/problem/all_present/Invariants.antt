@@ -9,7 +9,7 @@ use Rattle.fields.specs.Fields.{kind_count}
 use Rattle.summary.proofs.problem.all_present.Given as goal
 
 abbrev pub invariant-loop-place : goal.invariant-loop-place
-invariant-loop-place at = (at.place ≤ kind_count) × (all at.place (λ i. ltb 0 (get_or at.starts i 0)) ≡ true)
+invariant-loop-place live = (live.place ≤ kind_count) × (all live.place (λ i. ltb 0 (get_or live.starts i 0)) ≡ true)
 
 abbrev pub decreases-loop-place : goal.decreases-loop-place
 decreases-loop-place l = kind_count - l.place

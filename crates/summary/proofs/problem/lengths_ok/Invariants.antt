@@ -9,7 +9,7 @@ use Rattle.fields.specs.Fields.{kind_count}
 use Rattle.summary.proofs.problem.lengths_ok.Given as goal
 
 abbrev pub invariant-loop-k : goal.invariant-loop-k
-invariant-loop-k at = (at.k ≤ kind_count) × (all at.k (λ i. eqb (get_or at.lengths i 0) (get_or at.called i 0)) ≡ true)
+invariant-loop-k live = (live.k ≤ kind_count) × (all live.k (λ i. eqb (get_or live.lengths i 0) (get_or live.called i 0)) ≡ true)
 
 abbrev pub decreases-loop-k : goal.decreases-loop-k
 decreases-loop-k l = kind_count - l.k

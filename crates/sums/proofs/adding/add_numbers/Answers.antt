@@ -1,17 +1,14 @@
 use mathlib.Core.Path.{◌≡◌, refl, ap₂, ◌∙◌}
-use Prim.Native.Nat.{◌-◌, ◌≤◌}
 use native.Mathlib.Omega.{arith}
 use native.Mathlib.Numerals.{add-one}
 use lib.IntN.{◌+ℤ◌}
-use lib.ListN.{length}
 use mir.Syntax.{w64}
 use mir.Val.{to_z, of_z}
 use Rattle.integers.proofs.Machine.{clean, clean_element}
 use Rattle.tables.specs.Matrix.{nth}
-use Rattle.sums.proofs.InPlace.{Replaced, replaced_none, replaced_more, read_next}
+use Rattle.sums.proofs.InPlace.{replaced_none, replaced_more, read_next}
 use Rattle.sums.proofs.Fronts.{sum_fits}
 use Rattle.sums.proofs.adding.add_numbers.Lts as lts
-use Rattle.sums.proofs.adding.add_numbers.Tie as tie
 use Rattle.sums.proofs.adding.add_numbers.Reads as reads
 use Rattle.sums.proofs.adding.add_numbers.Goals as goal
 

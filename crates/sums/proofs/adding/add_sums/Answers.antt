@@ -1,5 +1,4 @@
 use mathlib.Core.Path.{◌∙◌}
-use borrow.Author.Rules.{rules}
 use Rattle.integers.proofs.Machine.{clean}
 use Rattle.sums.proofs.Fronts.{sums-filled, plus-front, ranged-low, ranged-high, ranged-from, ranged-to, ranged-limit, sum_fits}
 use Rattle.sums.proofs.adding.add_sums.Goals as goal

@@ -1,13 +1,11 @@
 use mathlib.Core.Path.{◌≡◌, sym, ap, ◌∙◌}
-use mathlib.Core.Bool.{true}
-use Prim.Native.Nat.{◌-◌, ◌≤◌}
 use native.Mathlib.Omega.{arith}
 use lib.IntN.{nat_abs, ◌+ℤ◌}
 use mir.Syntax.{w64}
 use mir.Val.{to_z, of_z}
 use Rattle.integers.proofs.Machine.{clean, clean_element}
 use Rattle.tables.specs.Matrix.{nth}
-use Rattle.tables.specs.Checks.{all, within}
+use Rattle.tables.specs.Checks.{within}
 use Rattle.tables.proofs.Checks.{call_true, call_false, all_none, all_more, all_false}
 use Rattle.sums.proofs.Fronts.{sum_fits, all-added}
 use Rattle.sums.proofs.adding.added_within.Lts as lts

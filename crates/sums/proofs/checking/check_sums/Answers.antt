@@ -1,4 +1,3 @@
-use borrow.Author.Rules.{rules}
 use Rattle.sums.proofs.Checked.{both_checks}
 use Rattle.sums.proofs.checking.check_sums.Goals as goal
 

@@ -1,5 +1,4 @@
 use mathlib.Core.Path.{◌∙◌}
-use borrow.Author.Rules.{rules}
 use Rattle.tables.specs.declared.Checked.TheVariants as Checked
 use Rattle.tables.proofs.Answers.{after-refused, after-passed}
 use Rattle.sums.proofs.checking.ends_after.Goals as goal

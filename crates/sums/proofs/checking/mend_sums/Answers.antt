@@ -1,4 +1,3 @@
-use borrow.Author.Rules.{rules}
 use Rattle.sums.proofs.Checked.{mended_both}
 use Rattle.sums.proofs.checking.mend_sums.Goals as goal
 

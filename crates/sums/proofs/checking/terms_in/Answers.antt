@@ -1,4 +1,3 @@
-use borrow.Author.Rules.{rules}
 use Rattle.sums.proofs.checking.terms_in.Goals as goal
 
 pub returns-then-linear_within : goal.returns-then-linear_within

@@ -1,6 +1,5 @@
 use mathlib.Core.Path.{ap, ◌∙◌}
 use native.Mathlib.Omega.{arith}
-use borrow.Author.Rules.{rules}
 use Rattle.integers.proofs.Machine.{clean, clean_result, within_more}
 use Rattle.integers.proofs.Parts.{≤_in}
 use Rattle.sums.specs.Halving.{half_up}

@@ -1,13 +1,10 @@
 use mathlib.Core.Path.{◌≡◌, refl, ap, ◌∙◌}
-use Prim.Native.Nat.{◌-◌, ◌≤◌}
 use native.Mathlib.Omega.{arith}
 use native.Mathlib.Numerals.{add-one}
-use lib.ListN.{length}
 use Rattle.integers.proofs.Machine.{clean_result}
 use Rattle.integers.proofs.Parts.{≤_in}
-use Rattle.tables.specs.Matrix.{nth}
 use Rattle.sums.specs.Halving.{half_down}
-use Rattle.sums.proofs.InPlace.{Replaced, replaced_none, replaced_more, read_next}
+use Rattle.sums.proofs.InPlace.{replaced_none, replaced_more, read_next}
 use Rattle.sums.proofs.halving.halve_down.Goals as goal
 
 pub loop-k-init : goal.loop-k-init

@@ -11,7 +11,7 @@ use Rattle.vectors.specs.Least.{nonzero}
 use Rattle.vectors.proofs.vector_test.nonzero.Given as goal
 
 abbrev pub invariant-loop-i : goal.invariant-loop-i
-invariant-loop-i at = (at.i ≤ at.n) × (all at.i (λ k. same (nth at.x k) (pos 0)) ≡ true)
+invariant-loop-i live = (live.i ≤ live.n) × (all live.i (λ k. same (nth live.x k) (pos 0)) ≡ true)
 
 abbrev pub decreases-loop-i : goal.decreases-loop-i
 decreases-loop-i l = l.n - l.i

@@ -2,7 +2,7 @@ use mathlib.Core.Path.{◌≡◌, refl, ◌∙◌}
 use Prim.Native.Nat.{suc, ◌+◌, ◌*◌, ◌-◌, ◌≤◌}
 use native.Mathlib.Omega.{arith}
 use lib.ListN.{length, length-set}
-use Rattle.integers.proofs.Machine.{clean_result}
+use Rattle.integers.proofs.Machine.{clean_result, clean_element}
 use Rattle.tables.proofs.Matrix.{inside, table_fits}
 use Rattle.cholesky.specs.Store.{triangle}
 use Rattle.verdict.specs.FactorTable.{Written}
@@ -37,7 +37,7 @@ loop-j-preserved c =
     let e : suc (c.args.i * c.args.n + l.j) ≡ c.args.i * c.args.n + (l.j + 1) = omega arith in (
       omega arith,
       length-set l.factor _ _ ∙ l.invariant.1,
-      rw (clean_result c.factor_entry, c.factor_entry.ensures, ← e)
+      rw (clean_element c.factor_entry.result c.factor_entry.type_inv, c.factor_entry.ensures, ← e)
           (written-more c.args.i l.j h (omega (arith, inside c.requires.1 h, c.requires.2, l.invariant.1)) l.invariant.2),
     )
 

@@ -1,5 +1,5 @@
 use native.Mathlib.Omega.{arith}
-use Rattle.integers.proofs.Machine.{clean_result}
+use Rattle.integers.proofs.Machine.{clean_result, clean_element}
 use Rattle.verdict.proofs.Decisions.{factor_shaped, certified}
 use Rattle.verdict.proofs.judge.certify.Goals as goal
 
@@ -25,4 +25,4 @@ pub returns : goal.returns
 returns c =
     let w = c.write_factor in
     let p = c.requires in
-    rw (clean_result c.over, c.over.ensures) (certified _ _ _ _ _ p.3 w.ensures)
+    rw (clean_element c.over.result c.over.type_inv, c.over.ensures) (certified _ _ _ _ _ p.3 w.ensures)

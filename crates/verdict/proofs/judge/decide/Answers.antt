@@ -4,7 +4,7 @@ use mathlib.Core.Bool.{Bool, true, false}
 use mathlib.Core.List.{List}
 use borrow.Author.Rules.{rules}
 use lib.IntN.{ℤ}
-use Rattle.integers.proofs.Machine.{clean_result}
+use Rattle.integers.proofs.Machine.{clean_result, clean_element}
 use Rattle.solved.proofs.Stops.{stopped_ready}
 use Rattle.verdict.specs.Deciding.{stated, shown_verdict, left_by}
 use Rattle.verdict.specs.declared.judge.Verdict.{Verdict}
@@ -33,7 +33,7 @@ pub returns-in-Ends : goal.returns-in-Ends
 unfolding stated left_by
 returns-in-Ends c =
     record {
-      verdict = rw (clean_result c.certify) c.certify.ensures;
+      verdict = rw (clean_element c.certify.result c.certify.type_inv) c.certify.ensures;
       left = refl;
       room = c.certify.auto.1.1.1.1.0;
       size = c.requires.4;

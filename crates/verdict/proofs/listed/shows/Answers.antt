@@ -1,6 +1,6 @@
 -- By the two tests of the definition.
 use borrow.Author.Rules.{rules}
-use Rattle.integers.proofs.Machine.{clean_result}
+use Rattle.integers.proofs.Machine.{clean_result, clean_element}
 use Rattle.tables.proofs.Checks.{call_true, call_false}
 use Rattle.verdict.proofs.Listing.{shows_zero, shows_value}
 use Rattle.verdict.proofs.listed.shows.Goals as goal
@@ -10,5 +10,5 @@ returns-then-not-nonzero c = shows_zero _ _ _ _ (call_false c.nonzero.ensures c.
 
 pub returns : goal.returns
 returns c =
-    rw (clean_result c.least_value, c.least_value.ensures)
+    rw (clean_element c.least_value.result c.least_value.type_inv, c.least_value.ensures)
     (shows_value _ _ _ _ (call_true c.nonzero.ensures c.if-not-nonzero.false-raw))
