@@ -1,10 +1,12 @@
 # hankboulder for C.
 #
-#   make                              prove the library and write its archive: six minutes on two cores, and needs the Rattle kit
+#   make                              prove the library and write its archive, target/staticlib/libhankboulder.a: needs the Rattle kit, and
+#                                     takes an hour or more the first time
+#   make judge                        prove the program and write it, target/bin/judge
 #   make install PREFIX=/usr/local    install the archive, the header and a file for pkg-config (DESTDIR is respected)
 #   make uninstall PREFIX=/usr/local  remove them
 #   make test-install                 install into a temporary folder, and build and run examples/firmware.c from there
-#   make test                         everything executed, two to three minutes after the proofs: tests/run
+#   make test                         everything executed, some minutes after the proofs: tests/run
 #   make clean                        remove all that was made, the proved crates too
 #   make help                         print this
 #
@@ -19,6 +21,7 @@ INSTALL ?= install
 header = include/hankboulder.h
 version := $(shell sed -n 's/^\#define HB_VERSION_[MP][A-Z]* \([0-9]*\)$$/\1/p' $(header) | paste -s -d .)
 made = target/staticlib/libhankboulder.a
+sources := crates.txt $(shell find crates -name out -prune -o \( -name '*.rt' -o -name '*.antt' \) -print)
 
 # An archive that is named has to be there. It is no prerequisite, for its folder may have a space in its name.
 ifdef HANKBOULDER_LIB_DIR
@@ -31,12 +34,17 @@ endif
 all: $(needed)
 	@test -f "$$hb_archive" || { echo "make: the archive $$hb_archive is missing: $$hb_hint" >&2; exit 1; }
 
-$(made): crates.txt $(shell find crates -name '*.rt' -o -name '*.antt')
+$(made): $(sources)
 	@command -v rt >/dev/null || { echo "make: the archive $@ is missing, or older than the crates: $$hb_hint" >&2; exit 1; }
-	@bash -c '. tests/script.sh && prove staticlib hankboulder' make
+	@bash -c '. tests/script.sh && prove hankboulder' make
+
+judge: target/bin/judge
+
+target/bin/judge: $(sources)
+	@bash -c '. tests/script.sh && prove judge' make
 
 # Names are handed to the shell by its environment, so that they may have spaces and quotes in them.
-all install $(made): export hb_hint = rt of the Rattle kit makes it (rt staticlib hankboulder), \
+all install $(made): export hb_hint = make writes it with rt of the Rattle kit (rt lib in crates/hankboulder), \
     and HANKBOULDER_LIB_DIR=FOLDER names one made before
 all install: export hb_archive = $(archive)
 install: export hb_prefix = $(PREFIX)
@@ -74,9 +82,9 @@ test:
 	bash tests/run
 
 clean:
-	rm -rf target reference/target tests/compare/target tests/program/target
+	rm -rf target reference/target tests/compare/target tests/program/target crates/*/out
 
 help:
 	@sed -n -e '/^#/!q' -e 's/^# \{0,1\}//p' Makefile
 
-.PHONY: all install uninstall test-install test clean help
+.PHONY: all judge install uninstall test-install test clean help

@@ -45,19 +45,38 @@ fail() {
     exit 1
 }
 
-# prove WORD..: run rt with these words. Each crate gets a line on standard error as it is proved. The log is target/scripts/rt.log.
+# prove CRATE: prove a crate and those that it stands on, lowest first, and build them: a static library as target/staticlib/libCRATE.a, a
+# program as target/bin/CRATE. Each crate gets a line on standard error as it is done. What rt says of one is target/log/CRATE.say, which stays
+# as it was where rt has nothing to check, or target/log/CRATE.failed where it fails.
 prove() {
-    local log=target/scripts/rt.log
-    command -v rt >/dev/null || fail "rt of the Rattle kit is not on the path, and 'rt $*' is needed"
-    mkdir -p "${log%/*}"
-    echo "$self: rt $*, a line for each crate as it is proved; the log is $log" >&2
-    if ! (set -o pipefail && rt "$@" 2>&1 | tee "$log" | sed -un 's/^rt: /  /p' >&2); then
-        grep -A 3 ': error: ' "$log" | head -n 20 >&2
-        fail "'rt $*' failed, and $log says why"
-    fi
+    local crate verb log failed start made
+    command -v rt >/dev/null || fail "rt of the Rattle kit is not on the path, and it has to prove $1"
+    mkdir -p target/log target/bin target/staticlib
+    echo "$self: a line for each crate as it is proved; what rt says of it is target/log/CRATE.say" >&2
+    for crate in $(crates_of "$1"); do
+        verb=lib
+        [ ! -f "crates/$crate/src/main.rt" ] || verb=run
+        log=target/log/$crate.say
+        failed=target/log/$crate.failed
+        start=$SECONDS
+        if ! (cd "crates/$crate" && rt "$verb" </dev/null) >"$failed" 2>&1; then
+            grep -A 3 ': error: ' "$failed" | head -n 20 >&2
+            fail "'rt $verb' in crates/$crate failed, and $failed says why"
+        fi
+        if [ ! -f "$log" ] || grep -q '^logic=' "$failed"; then
+            echo "rt: $crate proved ($((SECONDS - start)) s)" >>"$failed"
+            mv "$failed" "$log"
+        else
+            rm "$failed"
+        fi
+        echo "  $crate proved ($((SECONDS - start)) s)" >&2
+    done
+    for made in "bin/$1" "staticlib/lib$1.a"; do
+        [ ! -f "crates/$1/out/${made#*/}" ] || cp "crates/$1/out/${made#*/}" "target/$made"
+    done
 }
 
-# crates_of CRATE: print the crates of this repository that a crate depends on, and itself, a line each
+# crates_of CRATE: print the crates of this repository that a crate depends on, and itself, a line each, in the order of crates.txt
 crates_of() {
     awk -v asked="$1" '
         function take(crate, other) {
@@ -66,32 +85,32 @@ crates_of() {
             for (other in named) if ((crate, other) in uses) take(other)
         }
         { sub(/#.*/, ""); sub(/:/, " ") }
-        NF { named[$1]; for (k = 2; k <= NF; k++) uses[$1, $k] }
-        END { take(asked); for (crate in taken) print crate }' crates.txt | sort
+        NF { named[$1]; line[++lines] = $1; for (k = 2; k <= NF; k++) uses[$1, $k] }
+        END { take(asked); for (k = 1; k <= lines; k++) if (line[k] in taken) print line[k] }' crates.txt
 }
 
 # need_archive CRATE: the archive of a crate has to be there. Leaves its path in library.
 need_archive() {
     library=${HANKBOULDER_LIB_DIR:-target/staticlib}/lib$1.a
     [ -f "$library" ] ||
-        fail "the archive $library is missing: 'rt staticlib $1' writes target/staticlib/lib$1.a; HANKBOULDER_LIB_DIR names another folder"
+        fail "the archive $library is missing: 'make' writes target/staticlib/libhankboulder.a; HANKBOULDER_LIB_DIR names another folder"
 }
 
 # make_archive CRATE: the same, but where HANKBOULDER_LIB_DIR names no folder the archive is made here
 make_archive() {
-    [ -n "${HANKBOULDER_LIB_DIR:-}" ] || prove staticlib "$1"
+    [ -n "${HANKBOULDER_LIB_DIR:-}" ] || prove "$1"
     need_archive "$1"
 }
 
 # need_judge: the program has to be there: the one that HANKBOULDER_JUDGE names, or else target/bin/judge. Leaves its path in judge.
 need_judge() {
     judge=${HANKBOULDER_JUDGE:-target/bin/judge}
-    [ -x "$judge" ] || fail "the program $judge is missing: 'rt check judge' writes target/bin/judge; HANKBOULDER_JUDGE names another"
+    [ -x "$judge" ] || fail "the program $judge is missing: 'make judge' writes target/bin/judge; HANKBOULDER_JUDGE names another"
 }
 
 # make_judge: the same, but where HANKBOULDER_JUDGE names no program it is made here
 make_judge() {
-    [ -n "${HANKBOULDER_JUDGE:-}" ] || prove check judge
+    [ -n "${HANKBOULDER_JUDGE:-}" ] || prove judge
     need_judge
 }
 

@@ -1,6 +1,6 @@
 //! Links libhankboulder.a, from the folder that HANKBOULDER_LIB_DIR names or
-//! else from where `rt staticlib hankboulder` writes it. A relative folder
-//! counts from this package.
+//! else from where `make` writes it. A relative folder counts from this
+//! package.
 
 use std::env;
 use std::path::PathBuf;

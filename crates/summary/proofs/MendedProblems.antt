@@ -2,21 +2,20 @@
 -- and a problem in arrays that passes the checks is, mended, let through.
 use mathlib.Core.Path.{◌≡◌, refl, sym, ap, ap₂, ◌∙◌}
 use mathlib.Core.Bool.{true}
-use mathlib.Core.List.{List, ◌++◌}
+use mathlib.Core.List.{List}
 use Prim.Native.Nat.{ℕ, ◌+◌, ◌*◌, ◌-◌, ◌≤◌, ◌<◌}
 use native.Mathlib.Omega.{arith}
 use lib.IntN.{ℤ, pos}
 use lib.ListN.{length, take, drop, replicate, length-append}
 use lib.Seq.{drop_at, get_or-take, length-take-le}
 use Rattle.integers.specs.Numbers.{min_ℤ, max_ℤ}
-use Rattle.tables.specs.Ranges.{greatest_order, table_room}
+use Rattle.tables.specs.Ranges.{table_room}
 use Rattle.tables.specs.Matrix.{nth, at}
 use Rattle.tables.specs.Mending.{mended_by}
 use Rattle.tables.specs.Checks.{order_ok, first_refusal}
 use Rattle.tables.specs.Entering.{Mended}
 use Rattle.tables.specs.Problem.{problem_of, problem_checks, mended_problem}
 use Rattle.tables.specs.declared.Checked.{Checked}
-use Rattle.tables.specs.declared.Checked.TheVariants as Checked
 use Rattle.tables.specs.declared.problem.Problem.{Problem}
 use Rattle.tables.proofs.Matrix.{inside, nth-padded, table_fits}
 use Rattle.tables.proofs.MendedTables.{Pairing, greater_pairing, smaller_pairing, at-mended, mended-length, mended_as}

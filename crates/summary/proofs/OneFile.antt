@@ -21,11 +21,9 @@ use Rattle.tables.specs.Checks.{order_ok, first_refusal}
 use Rattle.tables.specs.Problem.{problem_checks, mended_problem}
 use Rattle.tables.specs.declared.problem.Problem.{Problem}
 use Rattle.tables.specs.declared.Checked.{Checked}
-use Rattle.tables.specs.declared.Checked.TheVariants as Checked
 use Rattle.tables.proofs.Matrix.{table_fits}
 use Rattle.tables.proofs.Checks.{all_of, all-at, first-none, first_passes, first-passed, order-of}
 use Rattle.fields.specs.declared.field.Kind.{Kind}
-use Rattle.fields.specs.declared.field.Kind.TheVariants as Kind
 use Rattle.fields.specs.declared.layout.Layout.{Layout}
 use Rattle.fields.specs.Fields.{kind_count, place_of}
 use Rattle.fields.specs.Layouts.{start_of, length_of, seen, walked, content}

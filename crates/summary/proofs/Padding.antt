@@ -22,7 +22,6 @@ use Rattle.tables.proofs.Matrix.{table_fits}
 use Rattle.tables.proofs.Checks.{order-of}
 use Rattle.tables.proofs.Admission.{Padded, padded-nth, range_same, crossed_same, checks-padded}
 use Rattle.fields.specs.declared.field.Kind.{Kind}
-use Rattle.fields.specs.declared.field.Kind.TheVariants as Kind
 use Rattle.fields.proofs.Whole.{whole_ext}
 use Rattle.summary.specs.Problems.{contents_of, file_of, padded_to, padded, reading, ProblemRooms, LetThrough}
 use Rattle.summary.specs.declared.problem.Reading.{Reading}

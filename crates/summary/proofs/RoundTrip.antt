@@ -23,13 +23,11 @@ use Rattle.tables.specs.Problem.{problem_within, problem_checks}
 use Rattle.tables.specs.declared.problem.Problem.{Problem}
 use Rattle.tables.specs.declared.Refusal.TheVariants.{Range}
 use Rattle.tables.specs.declared.Checked.{Checked}
-use Rattle.tables.specs.declared.Checked.TheVariants as Checked
 use Rattle.tables.proofs.Matrix.{table_fits}
 use Rattle.tables.proofs.Checks.{all-at, within_of, and_left, and_right, first-passed, first-refuses}
 use Rattle.tables.proofs.Answers.{prefix_passed}
 use Rattle.tables.proofs.Problems.{symmetric_problem, mended-problem_symmetric}
 use Rattle.fields.specs.declared.field.Kind.{Kind}
-use Rattle.fields.specs.declared.field.Kind.TheVariants as Kind
 use Rattle.fields.specs.Fields.{kinds}
 use Rattle.fields.specs.Entries.{head_bytes, entry_bytes, bytes_of_entries, entry_with, whole_file}
 use Rattle.fields.proofs.Finding.{place-below}

@@ -20,11 +20,9 @@ use Rattle.tables.specs.Problem.{problem_of, problem_checks, mended_problem}
 use Rattle.tables.specs.declared.Refusal.{Refusal}
 use Rattle.tables.specs.declared.Refusal.TheVariants.{Long}
 use Rattle.tables.specs.declared.Checked.{Checked}
-use Rattle.tables.specs.declared.Checked.TheVariants as Checked
 use Rattle.tables.proofs.Matrix.{table_fits}
 use Rattle.tables.proofs.Checks.{all-at, first-passed, rest-passed, order-of}
 use Rattle.fields.specs.declared.field.Kind.{Kind}
-use Rattle.fields.specs.declared.field.Kind.TheVariants as Kind
 use Rattle.fields.specs.declared.layout.Layout.{Layout}
 use Rattle.fields.specs.Fields.{kind_count, place_of}
 use Rattle.fields.specs.Layouts.{length_of, content, Inside, walked}

@@ -10,9 +10,7 @@ use Rattle.tables.specs.Mending.{Symmetric}
 use Rattle.tables.specs.Problem.{problem_of, problem_checks, mended_problem}
 use Rattle.tables.specs.declared.Refusal.TheVariants.{Order, Absent, Size, Long}
 use Rattle.tables.specs.declared.Checked.{Checked}
-use Rattle.tables.specs.declared.Checked.TheVariants as Checked
 use Rattle.fields.specs.declared.field.Kind.{Kind}
-use Rattle.fields.specs.declared.field.Kind.TheVariants as Kind
 use Rattle.fields.specs.declared.layout.Layout.{Layout}
 use Rattle.fields.specs.declared.layout.Walked.{Walked}
 use Rattle.fields.specs.Fields.{kinds, kind_count}

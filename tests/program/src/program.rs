@@ -13,7 +13,7 @@ use hankboulder_reference::program::output;
 
 /// Names the program's file. A relative path counts from this package.
 const VARIABLE: &str = "HANKBOULDER_JUDGE";
-/// Where `rt check judge` writes the program
+/// Where `make judge` writes the program
 const DEFAULT: &str = "../../target/bin/judge";
 
 /// A run that has not ended after this time has failed.
@@ -32,7 +32,7 @@ impl Program {
     pub fn under_test() -> Program {
         let named = env::var_os(VARIABLE).unwrap_or_else(|| DEFAULT.into());
         let path = Path::new(env!("CARGO_MANIFEST_DIR")).join(named);
-        let help = format!("`rt check judge` makes it, or {VARIABLE} names another");
+        let help = format!("`make judge` makes it, or {VARIABLE} names another");
         assert!(path.is_file(), "no program {}: {help}", path.display());
         Program { path }
     }

@@ -66,8 +66,8 @@ loop-j-preserved c =
 passed : (c : After-loop) →
     let l = c.loop-j in
     let s = c.args in
-    (to_z w64 l.least ≡ sum s.n (picked min_ℤ s.n s.low.now s.high.now s.c.now s.k))
-    × (to_z w64 l.greatest ≡ sum s.n (picked max_ℤ s.n s.low.now s.high.now s.c.now s.k))
+    (to_z w64 l.least-bits ≡ sum s.n (picked min_ℤ s.n s.low.now s.high.now s.c.now s.k))
+    × (to_z w64 l.greatest-bits ≡ sum s.n (picked max_ℤ s.n s.low.now s.high.now s.c.now s.k))
 passed c =
     let l = c.loop-j in
     let e : l.j ≡ c.args.n = omega arith in

@@ -1,10 +1,8 @@
 use mathlib.Core.Path.{◌≡◌}
-use Prim.Native.Nat.{◌-◌, ◌≤◌}
 use native.Mathlib.Omega.{arith}
 use native.Mathlib.Numerals.{add-one}
 use Rattle.integers.proofs.Machine.{clean, clean_result, clean_element}
 use Rattle.tables.specs.Ranges.{greatest_order}
-use Rattle.tried.specs.Search.{Added}
 use Rattle.tried.proofs.Shares.{added-start, added_more, sum_fits}
 use Rattle.tried.proofs.add_row.Goals as goal
 

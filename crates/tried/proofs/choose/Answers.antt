@@ -1,5 +1,4 @@
 -- By the sign of the entry.
-use borrow.Author.Rules.{rules}
 use Rattle.integers.proofs.Machine.{clean}
 use Rattle.tried.proofs.Shares.{chosen-one, chosen-minus-one}
 use Rattle.tried.proofs.choose.Goals as goal

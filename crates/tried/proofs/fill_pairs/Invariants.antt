@@ -1,14 +1,6 @@
 -- The loop's invariant: the entries passed are doubled.
-use mathlib.Core.Path.{◌≡◌}
 use Prim.Native.Nat.{◌*◌, ◌-◌, ◌≤◌}
-use native.Mathlib.Omega.{arith}
-use native.Mathlib.Numerals.{add-one}
-use lib.IntN.{pos, negsuc}
-use Rattle.integers.proofs.Machine.{clean, clean_element}
-use Rattle.tables.specs.Matrix.{nth}
-use Rattle.tables.proofs.Matrix.{table_fits}
 use Rattle.tried.specs.Search.{FilledPairs}
-use Rattle.tried.proofs.Shares.{filled-start, filled_more, twice_fits}
 use Rattle.tried.proofs.fill_pairs.Given as goal
 
 abbrev pub invariant-loop-k : goal.invariant-loop-k

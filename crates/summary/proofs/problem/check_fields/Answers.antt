@@ -1,88 +1,76 @@
-use mathlib.Core.Path.{◌≡◌, sym, ◌∙◌}
-use mathlib.Core.Bool.{true}
-use mathlib.Core.List.{[], ◌∷◌}
-use native.Mathlib.Omega.{arith}
-use borrow.Author.Rules.{rules}
-use borrow.Author.Tests.{not-true, not-false}
-use lib.Dec.{eqb}
-use lib.IntN.{pos}
+use Rattle.std.proofs.Common.{◌≡◌, ℕ, ◌<◌, Bool, true, false, List, sym, ◌∙◌, eqb, pos, arith}
+use mir.Syntax.{w64}
+use mir.Val.{to_z}
+use borrow.Author.Tests.{eq-eqb, ne_eqb}
 use Rattle.integers.proofs.Machine.{read_i64}
 use Rattle.tables.specs.Checks.{order_ok, first_refusal}
-use Rattle.tables.specs.declared.Refusal.TheVariants.{Size}
-use Rattle.tables.proofs.Checks.{call_true, call_false, first-none, first_passes, first-refuses, order-of}
+use Rattle.tables.specs.declared.Checked.TheVariants.{Passed, Refused}
+use Rattle.tables.specs.declared.Refusal.TheVariants.{Order, Absent, Size}
+use Rattle.tables.proofs.Checks.{first-none, first_passes, first-refuses, order-of}
 use Rattle.fields.specs.declared.field.Kind.TheVariants as Kind
+use Rattle.fields.specs.declared.layout.Layout.{Layout}
 use Rattle.fields.specs.Layouts.{length_of}
 use Rattle.summary.specs.Problems.{all_present, order_in, lengths_ok, field_checks}
-use Rattle.summary.proofs.problem.check_fields.Lts as lts
-use Rattle.summary.proofs.problem.check_fields.Tie as tie
-use Rattle.summary.proofs.problem.check_fields.Reads as reads
 use Rattle.summary.proofs.problem.check_fields.Goals as goal
 
-abbrev After-order_ok : Type 0
-After-order_ok = lts.After-order_ok tie.the-claims reads.Pre reads.Post
+-- what 1 finds of n as the code reads it
+found : {n : ℕ} (s : List ℕ) (l : Layout) {r : Bool} → n < 256 → n ≡ order_in s l → r ≡ order_ok (to_z w64 n) → order_ok (pos (order_in s l)) ≡ r
+found {n} s l h e q = sym (rw (read_i64 n (omega arith), e) at q)
 
-abbrev Else1 : Type 0
-Else1 = lts.Else1 tie.the-claims reads.Pre reads.Post
+-- where 13 is the first to refuse; 14 of tag 01; 1; and the last check decides
+module _ (s : List ℕ) (l : Layout) where
+  absent : all_present l ≡ false → Refused Absent ≡ first_refusal (field_checks s l)
+  unfolding field_checks
+  absent a = sym (first-refuses _ _ a)
 
-abbrev Else2 : Type 0
-Else2 = lts.Else2 tie.the-claims reads.Pre reads.Post
+  module _ (a : all_present l ≡ true) where
+    unsized : eqb (length_of l Kind.Order) 1 ≡ false → Refused Size ≡ first_refusal (field_checks s l)
+    unfolding field_checks
+    unsized b = sym (first_passes _ _ a ∙ first-refuses _ _ b)
 
-abbrev Else3 : Type 0
-Else3 = lts.Else3 tie.the-claims reads.Pre reads.Post
+    module _ (b : eqb (length_of l Kind.Order) 1 ≡ true) where
+      disordered : order_ok (pos (order_in s l)) ≡ false → Refused Order ≡ first_refusal (field_checks s l)
+      unfolding field_checks
+      disordered o = sym (first_passes _ _ a ∙ first_passes _ _ b ∙ first-refuses _ _ o)
 
--- 13 and 14 for tag 01 passed
-present : (c : Else1) → all_present c.args.layout ≡ true
-present c = call_true c.all_present.ensures c.if-not-all_present.false-raw
+      module _ (o : order_ok (pos (order_in s l)) ≡ true) where
+        passed : lengths_ok l (order_in s l) ≡ true → Passed ≡ first_refusal (field_checks s l)
+        unfolding field_checks
+        passed k = sym (first_passes _ _ a ∙ first_passes _ _ b ∙ first_passes _ _ o ∙ first_passes _ _ k ∙ first-none)
 
-one_byte : (c : Else2) → eqb (length_of c.args.layout Kind.Order) 1 ≡ true
-one_byte c = let r = c.length_of-sized in rw r.ensures at (not-false (eqb r.result 1) c.if-not-sized.false-raw)
-
--- what 1 found
-found : (c : After-order_ok) → let a = c.args in order_ok (pos (order_in a.file.now a.layout)) ≡ c.order_ok-ordered.result
-found c =
-    let n = c.order_in-n in
-    let k = n.type_inv in
-    sym (rw (read_i64 n.result (omega arith), n.ensures) at c.order_ok-ordered.ensures)
-
-ordered : (c : Else3) → let a = c.args in order_ok (pos (order_in a.file.now a.layout)) ≡ true
-ordered c = found c.before.before ∙ not-false _ c.if-not-ordered.false-raw
-
--- the last check decides
-last : (c : Else3) → let a = c.args in
-    first_refusal (field_checks a.file.now a.layout) ≡ first_refusal (record { passes = lengths_ok a.layout (order_in a.file.now a.layout); otherwise = Size } ∷ [])
-unfolding field_checks
-last c = first_passes _ _ (present c.before.before.before.before.before) ∙ first_passes _ _ (one_byte c.before) ∙ first_passes _ _ (ordered c)
+        missized : lengths_ok l (order_in s l) ≡ false → Refused Size ≡ first_refusal (field_checks s l)
+        unfolding field_checks
+        missized k = sym (first_passes _ _ a ∙ first_passes _ _ b ∙ first_passes _ _ o ∙ first-refuses _ _ k)
 
 pub returns-then-not-all_present : goal.returns-then-not-all_present
-unfolding field_checks
-returns-then-not-all_present c = sym (first-refuses _ _ (call_false c.all_present.ensures c.if-not-all_present.true-raw))
-
-pub order_in-n-requires : goal.order_in-n-requires
-unfolding field_checks
-order_in-n-requires c = c.requires
+returns-then-not-all_present c = absent _ _ (sym c.all_present.ensures ∙ c.if-not-all_present.true)
 
 pub returns-then-not-sized : goal.returns-then-not-sized
-unfolding field_checks
 returns-then-not-sized c =
-    sym (first_passes _ _ (present c.before.before.before.before) ∙ first-refuses _ _ (rw c.length_of-sized.ensures at (not-true (eqb c.length_of-sized.result 1) c.if-not-sized.true-raw)))
+    unsized _ _ (sym c.all_present.ensures ∙ c.if-not-all_present.false)
+    (rw c.length_of-sized.ensures at (ne_eqb _ 1 c.if-not-sized.true))
 
 pub returns-then-not-ordered : goal.returns-then-not-ordered
-unfolding field_checks
 returns-then-not-ordered c =
-    sym (first_passes _ _ (present c.before.before.before.before.before) ∙ first_passes _ _ (one_byte c.before) ∙ first-refuses _ _ (found c.before.before ∙ not-true _ c.if-not-ordered.true-raw))
+    disordered _ _ (sym c.all_present.ensures ∙ c.if-not-all_present.false)
+    (rw c.length_of-sized.ensures at (eq-eqb _ 1 c.if-not-sized.false))
+    (found _ _ c.order_in-n.type_inv c.order_in-n.ensures c.order_ok-ordered.ensures ∙ c.if-not-ordered.true)
 
 pub lengths_ok-requires : goal.lengths_ok-requires
-unfolding field_checks
-lengths_ok-requires c = rw c.order_in-n.ensures (order-of (ordered c)).1
+lengths_ok-requires c =
+    rw c.order_in-n.ensures
+    (order-of (found _ _ c.order_in-n.type_inv c.order_in-n.ensures c.order_ok-ordered.ensures ∙ c.if-not-ordered.false)).1
 
 pub returns-then-lengths_ok : goal.returns-then-lengths_ok
-unfolding field_checks
 returns-then-lengths_ok c =
-    let n = c.order_in-n in
-    sym (last c.before.before ∙ first_passes _ _ (sym (rw (n.ensures, c.if-lengths_ok.true) at c.lengths_ok.ensures)) ∙ first-none)
+    passed _ _ (sym c.all_present.ensures ∙ c.if-not-all_present.false)
+    (rw c.length_of-sized.ensures at (eq-eqb _ 1 c.if-not-sized.false))
+    (found _ _ c.order_in-n.type_inv c.order_in-n.ensures c.order_ok-ordered.ensures ∙ c.if-not-ordered.false)
+    (sym (rw (c.order_in-n.ensures, c.if-lengths_ok.true) at c.lengths_ok.ensures))
 
 pub returns : goal.returns
-unfolding field_checks
 returns c =
-    let n = c.order_in-n in
-    sym (last c.before.before ∙ first-refuses _ _ (sym (rw (n.ensures, c.if-lengths_ok.false) at c.lengths_ok.ensures)))
+    missized _ _ (sym c.all_present.ensures ∙ c.if-not-all_present.false)
+    (rw c.length_of-sized.ensures at (eq-eqb _ 1 c.if-not-sized.false))
+    (found _ _ c.order_in-n.type_inv c.order_in-n.ensures c.order_ok-ordered.ensures ∙ c.if-not-ordered.false)
+    (sym (rw (c.order_in-n.ensures, c.if-lengths_ok.false) at c.lengths_ok.ensures))

@@ -1,18 +1,11 @@
 -- The loop's invariant: the first k fields have the lengths called for. The measure is how many are left.
-use mathlib.Core.Path.{◌≡◌, sym, ap, ◌∙◌}
+use mathlib.Core.Path.{◌≡◌}
 use mathlib.Core.Bool.{true}
-use mathlib.Core.List.{List}
-use Prim.Native.Nat.{ℕ, ◌-◌, ◌≤◌}
-use native.Mathlib.Omega.{arith}
-use borrow.Author.Rules.{rules}
-use borrow.Author.Tests.{eq-eqb, ne_eqb}
+use Prim.Native.Nat.{◌-◌, ◌≤◌}
 use lib.Dec.{eqb}
 use lib.ListN.{get_or}
 use Rattle.tables.specs.Checks.{all}
-use Rattle.tables.proofs.Checks.{all_none, all_more, all_false}
-use Rattle.fields.specs.declared.layout.Layout.{Layout}
 use Rattle.fields.specs.Fields.{kind_count}
-use Rattle.summary.specs.Problems.{lengths_for, lengths_ok}
 use Rattle.summary.proofs.problem.lengths_ok.Given as goal
 
 abbrev pub invariant-loop-k : goal.invariant-loop-k

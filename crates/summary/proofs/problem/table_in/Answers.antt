@@ -1,5 +1,4 @@
 use mathlib.Core.Path.{refl, ◌∙◌}
-use borrow.Author.Rules.{rules}
 use mir.Syntax.{w32}
 use Rattle.words.proofs.Filling.{fill_zeros}
 use Rattle.tables.specs.Ranges.{table_room}
