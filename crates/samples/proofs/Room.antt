@@ -20,7 +20,6 @@ use Rattle.tables.specs.Problem.{mended_constraint, constraint_ends, constraint_
 use Rattle.tables.specs.declared.Refusal.{Refusal}
 use Rattle.tables.specs.declared.Refusal.TheVariants.{Sample, Full}
 use Rattle.tables.specs.declared.Checked.{Checked}
-use Rattle.tables.specs.declared.Checked.TheVariants as Checked
 use Rattle.tables.specs.declared.problem.Constraint.{Constraint}
 use Rattle.tables.proofs.Checks.{and_of, all_of, within_true, more-checks}
 use Rattle.tables.proofs.Matrix.{row_inside, column_inside, nth-tabulate}

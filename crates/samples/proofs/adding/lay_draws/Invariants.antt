@@ -1,18 +1,10 @@
 -- The loop's invariant: the first i ends of both lists are the products with the draw, taken off 0.
-use mathlib.Core.Path.{◌≡◌, ◌∙◌}
 use mathlib.Core.List.{List}
-use Prim.Native.Nat.{ℕ, ◌-◌, ◌≤◌, ◌<◌}
-use native.Mathlib.Omega.{arith}
-use native.Mathlib.Numerals.{add-one}
+use Prim.Native.Nat.{ℕ, ◌-◌, ◌≤◌}
 use lib.IntN.{ℤ, pos, ◌-ℤ◌}
-use mir.Syntax.{w64}
-use mir.Val.{to_z, of_z}
-use Rattle.integers.proofs.Machine.{clean}
 use Rattle.tables.specs.Buffers.{Filled}
-use Rattle.tables.proofs.Buffers.{filled_none, filled_more, filled-whole}
-use Rattle.samples.specs.Samples.{factor_count, number_count, between}
+use Rattle.samples.specs.Samples.{factor_count, between}
 use Rattle.samples.specs.Gains.{least_product, greatest_product}
-use Rattle.samples.proofs.Near.{negated_fits, read_low, read-high, least-within, greatest-within}
 use Rattle.samples.proofs.adding.lay_draws.Given as goal
 
 abbrev pub greatest : List ℤ → List ℤ → ℕ → ℤ

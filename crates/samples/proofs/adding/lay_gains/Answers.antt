@@ -2,7 +2,7 @@ use mathlib.Core.Path.{◌≡◌, ◌∙◌}
 use native.Mathlib.Omega.{arith}
 use mir.Syntax.{w64}
 use mir.Val.{to_z, of_z}
-use Rattle.integers.proofs.Machine.{clean, clean_result}
+use Rattle.integers.proofs.Machine.{clean, clean_element}
 use Rattle.samples.specs.Samples.{factor_count, between}
 use Rattle.samples.specs.Gains.{least_square, gains}
 use Rattle.samples.proofs.Near.{negated_fits, least_square_within, read_lows, read_highs, near-read, gains-read, constraint_by}
@@ -16,7 +16,7 @@ After-least_square = lts.After-least_square tie.the-claims reads.Pre reads.Post
 
 square : (c : After-least_square) → let m = c.args.m in
     to_z w64 (of_z w64 c.least_square.result) ≡ least_square (between (read_lows m) (read_highs m) factor_count)
-square c = clean_result c.least_square ∙ c.least_square.ensures
+square c = clean_element c.least_square.result c.least_square.type_inv ∙ c.least_square.ensures
 
 pub overflow_sub-result : goal.overflow_sub-result
 overflow_sub-result c =

@@ -1,17 +1,13 @@
 use mathlib.Core.Path.{◌≡◌}
-use mathlib.Core.List.{List}
-use Prim.Native.Nat.{ℕ, ◌*◌, ◌/◌, ◌%◌, ◌-◌, ◌≤◌, ◌<◌}
+use Prim.Native.Nat.{◌*◌, ◌/◌, ◌%◌, ◌<◌}
 use native.Mathlib.Omega.{arith}
 use native.Mathlib.Numerals.{add-one}
-use lib.IntN.{ℤ}
 use mir.Syntax.{w64}
 use mir.Val.{to_z, of_z}
 use Rattle.tables.specs.Matrix.{table}
-use Rattle.tables.specs.Buffers.{Filled}
 use Rattle.tables.proofs.Matrix.{row_inside, column_inside}
 use Rattle.tables.proofs.Buffers.{filled_none, filled_more, filled-whole}
-use Rattle.samples.specs.Samples.{factor_count, number_count, between}
-use Rattle.samples.specs.Gains.{least_product, greatest_product}
+use Rattle.samples.specs.Samples.{factor_count, number_count}
 use Rattle.samples.proofs.Near.{read_low, read-high, least-within, greatest-within}
 use Rattle.samples.proofs.adding.lay_products.Invariants.{least, greatest}
 use Rattle.samples.proofs.adding.lay_products.Lts as lts

@@ -1,5 +1,3 @@
-use native.Mathlib.Omega.{arith}
-use borrow.Author.Rules.{rules}
 use Rattle.integers.proofs.Machine.{clean, clean_element, clean_result}
 use Rattle.tables.specs.Matrix.{nth}
 use Rattle.samples.proofs.Near.{product_fits}

@@ -1,4 +1,3 @@
-use borrow.Author.Rules.{rules}
 use borrow.Author.Tests.{eq-eqb, ne_eqb}
 use Rattle.samples.specs.Gathering.{sums_sized}
 use Rattle.samples.proofs.checking.sums_sized.Goals as goal
