@@ -68,6 +68,7 @@ module _ {n : ℕ} {L U : Matrix} {h : List ℤ} (b : Bounds n L U) (o : n ≤ g
 -- less than 1 is left of the first diagonal entry
 pub none-ends : (n : ℕ) (S : Matrix) → 0 < n → S 0 0 <ℤ pos 1 → ends_from (n - 0) S 0 ≡ false
 unfolding ends_from
+none-ends zero S p h = absurd (omega arith)
 none-ends (suc m) S p h = let e : suc m - 0 ≡ suc m = omega arith in rw (e, le_z_false h) refl
 
 -- ---- what is taken off later entries changes no row before them

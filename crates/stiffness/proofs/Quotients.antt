@@ -61,17 +61,17 @@ module _ (n : ℕ) (L U : Matrix) (x : ℕ → ℤ) where
 module _ (n : ℕ) (L U : Matrix) where
   module _ (w : ℤ) where
     -- what `first` says of it
-    first_under : (o : Option (List ℤ)) → first_under n L U w ≡ o → Picks (λ x. under n L U w (nth x)) (tried n) o
+    first_under_lem : (o : Option (List ℤ)) → first_under n L U w ≡ o → Picks (λ x. under n L U w (nth x)) (tried n) o
     unfolding first_under
-    first_under o e = subst (Picks (λ x. under n L U w (nth x)) (tried n)) e (first_picks (λ x. under n L U w (nth x)) (tried n))
+    first_under_lem o e = subst (Picks (λ x. under n L U w (nth x)) (tried n)) e (first_picks (λ x. under n L U w (nth x)) (tried n))
 
     -- it is a tried vector and under w
     pub first_found : (y : List ℤ) → first_under n L U w ≡ some y → Memᴰ y (tried n) × (under n L U w (nth y) ≡ true)
-    first_found y e = first_under (some y) e
+    first_found y e = first_under_lem (some y) e
 
     -- or no tried vector is
     pub none_found : first_under n L U w ≡ none → (x : List ℤ) → Memᴰ x (tried n) → under n L U w (nth x) ≡ true → ⊥
-    none_found e = first_under none e
+    none_found e = first_under_lem none e
 
     -- it is also the first that is under its own quotient
     pub first_again : (y : List ℤ) → first_under n L U w ≡ some y → first_under n L U (quotient n L U (nth y)) ≡ some y

@@ -11,7 +11,6 @@ use lib.ListN.{length, take}
 use lib.Seq.{take_all, length-take-le}
 use Rattle.words.proofs.Laws.{AllBytes}
 use Rattle.tables.specs.Checks.{sizes_ok, order_of, first_refusal}
-use Rattle.tables.specs.Answers.{after}
 use Rattle.tables.specs.Problem.{problem_of, lengths_of, constraint_sized, problem_checks, mended_problem}
 use Rattle.tables.specs.declared.Checked.TheVariants.{Passed}
 use Rattle.tables.specs.declared.problem.Problem.{Problem}
@@ -23,7 +22,7 @@ use Rattle.summary.specs.Problems.{file_size, file_of, padded, reading, LetThrou
 use Rattle.summary.proofs.OneFile.{accepted-size}
 use Rattle.summary.proofs.RoundTrip.{reading-means}
 use Rattle.summary.proofs.Padding.{Sized, padded-file, padded-checks, padded-mending}
-use Rattle.writer.specs.Writing.{Written, kept, written, checked_writing, write_sizes, write}
+use Rattle.writer.specs.Writing.{kept, written, checked_writing, write_sizes, write}
 use Rattle.writer.proofs.Acting.{writing-sized}
 
 take_again : (k : ℕ) (x : List ℤ) → k ≤ length x → take k (take k x) ≡ take k x

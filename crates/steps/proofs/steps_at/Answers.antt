@@ -87,11 +87,11 @@ loop-next-preserved-then-goes_on c =
     let l = c.loop-next in
     let p = c.requires.0 in
     let k = c.loop-next-test.true in
-    let g = going c.before.before.before.before in
+    let g = going c.before.before.before.before.before in
     let x = c.take_row.ensures.columns in
     let r = rw add-one at c.search.ensures in (
       omega (arith, k),
-      rw add-one (filled_more (index c.before.before.before.before.before) (clean_element c.search.result c.search.type_inv ∙ r ∙ step-at_is p.bounds k g.0) l.invariant.1),
+      rw add-one (filled_more (index c.before.before.before.before.before.before) (clean_element c.search.result c.search.type_inv ∙ r ∙ step-at_is p.bounds k g.0) l.invariant.1),
       λ e. let q = leb-true _ _ e in rw add-one (walked_on g.0 k x g.1 q, row_next x q),
       λ e. rw add-one (walked_off g.0 k x (leb-false _ _ e)),
     )

@@ -119,7 +119,7 @@ came : (c : After-check_laid) → Entered c.args.n (sizes c.before.before.before
 came c =
     entered-sized _ _ _ _ _
     (entered_by refl refl (asked c.before.before.before.before.before.before)
-    (came-sized _ _ (order c.before.before.before.before.before.before.before.before.before.before.before.before.before.before.before.before.before.before.before.before) c.if-m-eq0.left (sized c.before.before.before.before.before.before.before.before.before.before.before.before.before.before.before.before.before) c.if-not-sized.left c.load_bounds.ensures c.check_laid-checked.ensures))
+    (came-sized _ _ (order c.before.before.before.before.before.before.before.before.before.before.before.before.before.before.before.before.before.before.before.before) c.if-m-eq0.false (sized c.before.before.before.before.before.before.before.before.before.before.before.before.before.before.before.before.before) c.if-not-sized.false c.load_bounds.ensures c.check_laid-checked.ensures))
 
 passed : (c : After-enum_told) → Behind c.args.n (sizes c.before.before.before.before.before.before.before.before.before.before.before.before.before.before.before.before.before.before.before.before.before.before.before.before.before.before.before.before) (others c.before.before.before.before.before.before.before.before.before.before.before.before.before.before.before.before.before.before.before.before.before.before.before.before.before.before.before.before) (posed c.before.before.before.before.before.before.before.before.before.before.before.before.before.before.before.before.before.before.before.before.before.before.before.before.before.before.before.before).low (posed c.before.before.before.before.before.before.before.before.before.before.before.before.before.before.before.before.before.before.before.before.before.before.before.before.before.before.before.before).high
 passed c = came-through _ _ _ _ _ (came c.before) c.in_default.is

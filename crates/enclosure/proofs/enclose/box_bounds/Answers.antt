@@ -43,7 +43,7 @@ box_of-requires c =
     let t = c.step-t in
     let d = c.at_centre-d in (
       rw (clean_result d, d.ensures, clean_result t, t.ensures, clean c.ranges.limit)
-          (ready_of p.0 (one_of _ (steep c.before.before.before.before.before.before.before)) c.gradients.ensures (call_true c.near-close.ensures c.if-not-close.left) p.1),
+          (ready_of p.0 (one_of _ (steep c.before.before.before.before.before.before.before)) c.gradients.ensures (call_true c.near-close.ensures c.if-not-close.false-raw) p.1),
       p.2,
     )
 
@@ -77,7 +77,7 @@ returns-then-box_of c =
     let t = c.step-t in
     let d = c.at_centre-d in
     stated_sides
-    (box_near _ _ _ (ends c.before.before.before.before.before.before.before.before.before.before.before.before.before.before.before) _ _ (steep c.before.before.before.before.before.before.before.before.before) _ c.gradients.ensures.entries (call_true c.near-close.ensures c.if-not-close.left) _ c.steps_at.ensures.entries)
+    (box_near _ _ _ (ends c.before.before.before.before.before.before.before.before.before.before.before.before.before.before.before) _ _ (steep c.before.before.before.before.before.before.before.before.before) _ c.gradients.ensures.entries (call_true c.near-close.ensures c.if-not-close.false-raw) _ c.steps_at.ensures.entries)
     (rw (clean_result d, d.ensures, clean_result t, t.ensures, clean c.ranges.limit, c.if-box_of.true) at c.box_of.ensures)
 
 pub returns : goal.returns
@@ -85,5 +85,5 @@ returns c =
     let t = c.step-t in
     let d = c.at_centre-d in
     stated_empty
-    (box_near _ _ _ (ends c.before.before.before.before.before.before.before.before.before.before.before.before.before.before.before) _ _ (steep c.before.before.before.before.before.before.before.before.before) _ c.gradients.ensures.entries (call_true c.near-close.ensures c.if-not-close.left) _ c.steps_at.ensures.entries)
+    (box_near _ _ _ (ends c.before.before.before.before.before.before.before.before.before.before.before.before.before.before.before) _ _ (steep c.before.before.before.before.before.before.before.before.before) _ c.gradients.ensures.entries (call_true c.near-close.ensures c.if-not-close.false-raw) _ c.steps_at.ensures.entries)
     (rw (clean_result d, d.ensures, clean_result t, t.ensures, clean c.ranges.limit, c.if-box_of.false) at c.box_of.ensures)

@@ -7,6 +7,7 @@ use borrow.Author.Rules.{rules}
 use lib.IntN.{ℤ}
 use lib.ListN.{length}
 use Rattle.integers.proofs.Machine.{clean}
+use Rattle.tables.specs.declared.Checked.TheVariants.{Passed}
 use Rattle.tables.specs.Checks.{order_of, terms_within, first_refusal}
 use Rattle.tables.specs.Problem.{constraint_of, lengths_of, constraint_ends, constraint_entered}
 use Rattle.tables.specs.Entering.{Entered}
@@ -31,9 +32,6 @@ After-check_ends = lts.After-check_ends tie.the-claims reads.Pre reads.Post tie.
 
 abbrev After-enter : Type 0
 After-enter = lts.After-enter tie.the-claims reads.Pre reads.Post tie.handed_clauses
-
-abbrev After-enum_told : Type 0
-After-enum_told = lts.After-enum_told tie.the-claims reads.Pre reads.Post tie.handed_clauses
 
 abbrev After-order_of : Type 0
 After-order_of = lts.After-order_of tie.the-claims reads.Pre reads.Post tie.handed_clauses
@@ -87,8 +85,8 @@ came : (c : After-enter) → let a = c.args in
 came c =
     entered-sized _ _ _ _ _ (entered_by (clean c.ranges.n) (sized c.before.before.before.before) (asked c.before.before.before) c.enter-checked.ensures)
 
-behind-sized : (c : After-enum_told) → Lent c.before.before.before.before.before.before.before.before.before
-behind-sized c = lent c.before.before.before.before.before.before.before.before.before (came-through _ _ _ _ _ (came c.before) c.in_default.is).sizes
+behind-sized : (c : After-enter) → c.enter-checked.result ≡ Passed → Lent c.before.before.before.before.before.before.before.before
+behind-sized c e = lent c.before.before.before.before.before.before.before.before (came-through _ _ _ _ _ (came c) e).sizes
 
 -- 16
 ends : (c : After-check_ends) → c.check_ends-ordered.result ≡ first_refusal (constraint_ends (posed c.before.before.before.before.before.before.before.before.before.before))
@@ -121,8 +119,9 @@ overflow_add-m c = record { fits = omega (arith, order_small c.args.n, order c.b
 
 pub sized_within-within-requires : goal.sized_within-within-requires
 unfolding enclose boxing problem_box constraint_entered
-sized_within-within-requires c = (λ c κs s. let z = lent (begun c).before (sym (sized c) ∙ s) in
-    rw (order (begun c)) (omega (arith, z.linear_low), omega (arith, z.linear_high), omega (arith, z.centre))) c
+sized_within-within-requires c = λ s.
+    let z = lent c.before.before.before.before (sym (sized c) ∙ s) in
+    rw (order c.before.before.before) (omega (arith, z.linear_low), omega (arith, z.linear_high), omega (arith, z.centre))
 
 pub enter-checked-requires : goal.enter-checked-requires
 unfolding enclose boxing problem_box constraint_entered
@@ -136,8 +135,8 @@ returns-in-Refused c =
 
 pub check_ends-ordered-requires : goal.check_ends-ordered-requires
 unfolding enclose boxing problem_box constraint_entered
-check_ends-ordered-requires c = let z = behind-sized c in
-    rw (order c.before.before.before.before.before.before.before.before) (omega (arith, z.linear_low), omega (arith, z.linear_high))
+check_ends-ordered-requires c = let z = behind-sized c.before.before c.in_default.is in
+    rw (order c.before.before.before.before.before.before.before.before.before) (omega (arith, z.linear_low), omega (arith, z.linear_high))
 
 pub returns-in-Refused-ordered : goal.returns-in-Refused-ordered
 unfolding enclose boxing problem_box constraint_entered
@@ -158,7 +157,7 @@ unfolding enclose boxing problem_box constraint_entered
 enclose_bounds-requires c =
     let q = c.in_default.is in
     let b = came-through _ _ _ _ _ (came c.before.before.before.before.before.before) q in
-    let z = behind-sized c.before.before.before.before.before in
+    let z = behind-sized c.before.before.before.before.before.before c.in_default.is in
     rw (order c.before.before.before.before.before.before.before.before.before.before.before.before.before, clean c.ranges.limit)
     (centred _ _ _ _ _ b.within ((came c.before.before.before.before.before.before).held q).tables (omega (arith, z.linear_low)) (omega (arith, z.linear_high)) (omega (arith, z.centre)), limit-within _ _ _ _ _ b.within, z.sides)
 

@@ -1,34 +1,24 @@
 -- The head, and the numbers behind it.
-use mathlib.Core.Path.{◌≡◌, sym, ap, ◌∙◌}
-use Prim.Native.Nat.{ℕ, ◌*◌}
-use native.Mathlib.Omega.{arith}
-use borrow.Author.Rules.{rules}
-use lib.ListN.{length}
+use Rattle.std.proofs.Common.{◌≡◌, ℕ, ◌*◌, sym, ap, length, List, ℤ, ◌∙◌, arith}
 use mir.Val.{bytes}
 use Rattle.words.specs.Numbers.{width_of, bytes_of}
 use Rattle.words.proofs.Laws.{length-bytes_of}
 use Rattle.text.proofs.Puts.{put_room}
 use Rattle.writer.proofs.Fields.{part-put, field_put}
-use Rattle.writer.proofs.storing.put_numbers.Lts as lts
-use Rattle.writer.proofs.storing.put_numbers.Tie as tie
-use Rattle.writer.proofs.storing.put_numbers.Reads as reads
 use Rattle.writer.proofs.storing.put_numbers.Goals as goal
 
-abbrev Start : Type 0
-Start = lts.Start tie.the-claims reads.Pre reads.Post
-
 -- the bytes of a number, and of the numbers
-each : (s : Start) → let a = s.args in a.count * bytes (width_of a.size) ≡ a.count * a.size
-each s = ap (λ (n : ℕ). s.args.count * n) (sym s.requires.0)
+each : (size count : ℕ) → size ≡ bytes (width_of size) → count * bytes (width_of size) ≡ count * size
+each size count e = ap (λ (n : ℕ). count * n) (sym e)
 
-size : (s : Start) → let a = s.args in length (bytes_of (width_of a.size) a.x.now a.count) ≡ a.count * a.size
-size s = let a = s.args in length-bytes_of (width_of a.size) a.x.now a.count ∙ each s
+sizes : (size count : ℕ) (x : List ℤ) → size ≡ bytes (width_of size) → length (bytes_of (width_of size) x count) ≡ count * size
+sizes size count x e = length-bytes_of (width_of size) x count ∙ each size count e
 
 pub returns : goal.returns
 returns c =
     let a = c.args in
     let n = a.count * a.size in
     let t = bytes_of (width_of a.size) a.x.now a.count in
-    field_put a.kind t (size c.before.before.before.before.before.before.before.before.before) (omega (arith, c.requires.2)) c.put_head-start.ensures
-    (part-put _ _ t _ n (size c.before.before.before.before.before.before.before.before.before) (each c.before.before.before.before.before.before.before.before.before) (put_room c.put_head-start.ensures n c.requires.2)
-    c.store_numbers.ensures)
+    let e = sizes a.size a.count a.x.now c.requires.0 in
+    field_put a.kind t e (omega (arith, c.requires.2)) c.put_head-start.ensures
+    (part-put _ _ t _ n e (each a.size a.count c.requires.0) (put_room c.put_head-start.ensures n c.requires.2) c.store_numbers.ensures)

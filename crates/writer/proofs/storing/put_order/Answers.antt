@@ -2,7 +2,6 @@
 use mathlib.Core.Path.{refl}
 use mathlib.Core.List.{[], ◌∷◌}
 use native.Mathlib.Omega.{arith}
-use borrow.Author.Rules.{rules}
 use Rattle.fields.specs.declared.field.Kind.TheVariants as Kind
 use Rattle.text.proofs.Puts.{put_byte, put_room}
 use Rattle.writer.proofs.Fields.{field_put}

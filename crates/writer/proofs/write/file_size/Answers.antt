@@ -1,5 +1,4 @@
 use native.Mathlib.Omega.{arith}
-use borrow.Author.Rules.{rules}
 use Rattle.tables.proofs.Matrix.{table_fits}
 use Rattle.writer.proofs.write.file_size.Goals as goal
 

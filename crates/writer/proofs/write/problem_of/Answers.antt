@@ -1,4 +1,3 @@
-use borrow.Author.Rules.{rules}
 use Rattle.integers.proofs.Machine.{clean}
 use Rattle.tables.proofs.Matrix.{table_fits}
 use Rattle.writer.proofs.write.problem_of.Goals as goal

@@ -1,6 +1,5 @@
 -- The numbers are copied over zeros.
 use mathlib.Core.Path.{◌∙◌}
-use borrow.Author.Rules.{rules}
 use Rattle.tables.specs.Ranges.{greatest_order}
 use Rattle.summary.proofs.Padding.{over_zeros}
 use Rattle.writer.proofs.write.vector_of.Goals as goal

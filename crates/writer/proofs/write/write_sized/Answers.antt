@@ -1,4 +1,3 @@
-use borrow.Author.Rules.{rules}
 use borrow.Author.Tests.{eq-eqb, ne_eqb}
 use Rattle.writer.specs.Writing.{write_sizes}
 use Rattle.writer.proofs.write.write_sized.Goals as goal
