@@ -1,5 +1,5 @@
 use mathlib.Core.Path.{◌≡◌, refl, sym, ◌∙◌}
-use mathlib.Core.Bool.{Bool, true}
+use mathlib.Core.Bool.{Bool}
 use Prim.Native.Nat.{◌*◌}
 use native.Mathlib.Omega.{arith}
 use lib.ListN.{length}
@@ -11,7 +11,6 @@ use Rattle.tables.proofs.Answers.{exactly}
 use Rattle.tables.proofs.Admission.{order_small, order_fits, order-given, no-order, no-sizes}
 use Rattle.tables.proofs.Problems.{constraint_sizes-of}
 use Rattle.rides.specs.declared.reading.Reading.{Reading}
-use Rattle.rides.specs.declared.reading.Reading.TheVariants as Reading
 use Rattle.rides.specs.Reading.{read_sums, ReadingMeaning}
 use Rattle.rides.proofs.Readings.{reading-sized, reading-means}
 use Rattle.rides.proofs.reading.read_sums.Goals as goal
