@@ -1,20 +1,19 @@
 use mathlib.Core.Path.{◌≡◌, sym, ap, ◌∙◌}
-use mathlib.Core.Bool.{Bool, true}
+use mathlib.Core.Bool.{Bool}
 use mathlib.Core.List.{List}
 use Prim.Native.Nat.{ℕ}
 use native.Mathlib.Omega.{arith}
-use borrow.Author.Rules.{rules}
 use lib.IntN.{ℤ}
 use lib.ListN.{length}
 use Rattle.integers.proofs.Machine.{clean}
 use Rattle.tables.specs.Matrix.{tabulate}
-use Rattle.tables.specs.Checks.{first_refusal, order_of}
+use Rattle.tables.specs.Checks.{order_of}
 use Rattle.tables.specs.declared.problem.Constraint.{Constraint}
 use Rattle.tables.proofs.Admission.{order_small}
 use Rattle.tables.proofs.Answers.{exactly}
 use Rattle.sums.specs.Sums.{Outcome}
 use Rattle.sums.specs.Lent.{Lent, Left, laid_sums, sums_of}
-use Rattle.pool.specs.Pool.{count_of, Problems, problem_at, pool_entry_checks}
+use Rattle.pool.specs.Pool.{count_of, Problems, problem_at}
 use Rattle.pool.specs.Act.{pool_sized, sums_lengths, problems_lengths, pool, Meaning}
 use Rattle.pool.proofs.Counting.{count_most, count_room, entry-behind, pooling-refused, pooling-passed, pool-lists, pool-lent}
 use Rattle.pool.proofs.Meanings.{pool-means}

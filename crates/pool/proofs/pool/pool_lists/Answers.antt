@@ -2,7 +2,6 @@ use mathlib.Core.Path.{◌≡◌, ap, ◌∙◌}
 use mathlib.Core.List.{List, ◌++◌}
 use Prim.Native.Nat.{ℕ}
 use native.Mathlib.Omega.{arith}
-use borrow.Author.Rules.{rules}
 use lib.IntN.{ℤ, pos}
 use lib.ListN.{length, set, take, drop, get_or-append}
 use lib.Seq.{get_or-take, length-take-le}
@@ -60,8 +59,7 @@ slice_copy_out-pool_all c = omega (arith, c.requires.3.limit)
 pub pool_all-summed-requires : goal.pool_all-summed-requires
 pool_all-summed-requires c =
     let k = c.copy_sums.auto in
-    let p = c.requires in
-    (
+    let p = c.requires in (
       p.0,
       p.1,
       record {

@@ -19,8 +19,7 @@ within-requires c = pos_nonneg limit_range
 
 pub add_fitted-requires : goal.add_fitted-requires
 add_fitted-requires c =
-    let checks = rw (c.within.ensures, clean c.ranges.limit) at c.mend_sums-checked.ensures in
-    (
+    let checks = rw (c.within.ensures, clean c.ranges.limit) at c.mend_sums-checked.ensures in (
       c.requires.0,
       rw (clean c.ranges.limit) (mended-ranged _ c.requires.1 checks c.args.limit c.in-Passed.is refl),
       rw (clean_element c.in-Within.running (omega arith)) (c.requires.3.ranged _ c.in-Within.is),
@@ -33,8 +32,7 @@ returns-in-Within c =
     let told = c.in-Passed.is in
     let posed = sums_at a.n a.pl.now a.pu.now a.pa.now a.pb.now a.limit in
     let at = sums_at a.n a.l.now a.u.now a.a.now a.b.now c.in-Within.running in
-    let checks = rw (c.within.ensures, clean c.ranges.limit) at c.mend_sums-checked.ensures in
-    (
+    let checks = rw (c.within.ensures, clean c.ranges.limit) at c.mend_sums-checked.ensures in (
       stated_by
           (ap (λ (g : Constraint). fitted g at) (mended-front _ c.requires.1 checks a.limit told)
           ∙ ap (λ (r : Summed). added_next (mended_constraint posed) (stated a.n r a.l.now a.u.now a.a.now a.b.now)) (sym c.in-Within.is)
@@ -48,8 +46,7 @@ unfolding stated added_next
 returns-in-Refused-done c =
     let a = c.args in
     let posed = sums_at a.n a.pl.now a.pu.now a.pa.now a.pb.now a.limit in
-    let checks = rw (c.within.ensures, clean c.ranges.limit) at c.mend_sums-checked.ensures in
-    (
+    let checks = rw (c.within.ensures, clean c.ranges.limit) at c.mend_sums-checked.ensures in (
       record {
         outcome = next-passed posed _ (sym (mended_answer _ c.requires.1 checks a.limit) ∙ c.in-Passed.is)
             ∙ ap (λ (r : Summed). added_next (mended_constraint posed) (stated a.n r a.l.now a.u.now a.a.now a.b.now)) c.in-Refused-done.is;
@@ -63,8 +60,7 @@ unfolding stated added_next
 returns-in-Refused c =
     let a = c.args in
     let posed = sums_at a.n a.pl.now a.pu.now a.pa.now a.pb.now a.limit in
-    let checks = rw (c.within.ensures, clean c.ranges.limit) at c.mend_sums-checked.ensures in
-    (
+    let checks = rw (c.within.ensures, clean c.ranges.limit) at c.mend_sums-checked.ensures in (
       record {
         outcome = next-refused posed _ (sym (mended_answer _ c.requires.1 checks a.limit) ∙ c.in-Refused.is) ∙ sym (c.refused_by.ensures.held a.n a.l.now a.u.now a.a.now a.b.now);
         rooms = c.requires.2;
