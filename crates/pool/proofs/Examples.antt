@@ -16,7 +16,6 @@ use Rattle.sums.specs.Sums.{plus, sums_within}
 use Rattle.sums.specs.Halving.{halved, added_in, fitted}
 use Rattle.sums.specs.Lent.{Lent}
 use Rattle.sums.specs.declared.Gathered.{Gathered}
-use Rattle.sums.specs.declared.Gathered.TheVariants as Gathered
 use Rattle.pool.specs.Pool.{count_of, Problems, orders_ok, orders_same, of_both, pool_checks, added_next, pooled, checked_pool, pooling}
 use Rattle.pool.specs.Act.{pool_sized, pool}
 

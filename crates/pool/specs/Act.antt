@@ -11,7 +11,6 @@ use Rattle.sums.specs.Sums.{allowing}
 use Rattle.sums.specs.Lent.{Lent, Left, laid_sums, sums_of}
 use Rattle.sums.specs.Explaining.{Explained}
 use Rattle.sums.specs.declared.Gathered.{Gathered}
-use Rattle.sums.specs.declared.Gathered.TheVariants as Gathered
 use Rattle.pool.specs.Pool.{count_of, Problems, problem_at, pooling}
 
 -- 2, R15.3: the five sums, of order n, and the lists of m problems have their sizes, where a number takes `unit`

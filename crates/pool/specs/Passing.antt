@@ -6,7 +6,6 @@ use Rattle.tables.specs.Answers.{after}
 use Rattle.tables.specs.Problem.{mended_constraint}
 use Rattle.tables.specs.declared.Refusal.{Refusal}
 use Rattle.tables.specs.declared.Checked.{Checked}
-use Rattle.tables.specs.declared.Checked.TheVariants as Checked
 use Rattle.tables.specs.declared.problem.Constraint.{Constraint}
 use Rattle.sums.specs.Sums.{Outcome, taken, refused, own_checks}
 use Rattle.pool.specs.Pool.{added_next}

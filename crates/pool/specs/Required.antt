@@ -2,7 +2,6 @@
 use Rattle.std.specs.Prelude.{◌≡◌, List, ℕ, ◌*◌, ℤ, length}
 use Rattle.tables.specs.declared.Refusal.{Refusal}
 use Rattle.sums.specs.declared.Summed.{Summed}
-use Rattle.sums.specs.declared.Summed.TheVariants as Summed
 use Rattle.sums.specs.Lent.{Lent}
 use Rattle.sums.specs.Required.{Ranged, stated}
 use Rattle.pool.specs.Pool.{Problems}

@@ -16,7 +16,6 @@ use Rattle.tables.proofs.Problems.{constraint_means, constraint_sized_lem}
 use Rattle.enclosure.specs.Points.{Allowed}
 use Rattle.sums.specs.Sums.{terms_in}
 use Rattle.rides.specs.declared.reading.Reading.{Reading}
-use Rattle.rides.specs.declared.reading.Reading.TheVariants as Reading
 use Rattle.rides.specs.Reading.{allowance_range, limits_in, read_limit, checked_reading, read_sums, ReadingMeaning}
 use Rattle.rides.proofs.Wanted.{allowed}
 

@@ -9,7 +9,6 @@ use Rattle.floats.specs.Brackets.{sixteenth}
 use Rattle.sums.specs.Lent.{Lent, Left, laid_sums, sums_of}
 use Rattle.sums.specs.Explaining.{Explained}
 use Rattle.sums.specs.declared.Gathered.{Gathered}
-use Rattle.sums.specs.declared.Gathered.TheVariants as Gathered
 use Rattle.samples.specs.declared.sample.Sample.{Sample}
 use Rattle.samples.specs.Gathering.{sums_sized, gathering}
 use Rattle.samples.specs.Explaining.{misfit}

@@ -11,7 +11,6 @@ use Rattle.enclosure.specs.Points.{Allowed}
 use Rattle.sums.specs.Sums.{terms_in, sums_checks, allowing}
 use Rattle.sums.specs.Explaining.{Explained}
 use Rattle.rides.specs.declared.reading.Reading.{Reading}
-use Rattle.rides.specs.declared.reading.Reading.TheVariants as Reading
 
 -- K is from 0 to this
 abbrev pub allowance_range : ℕ

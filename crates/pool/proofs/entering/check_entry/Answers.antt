@@ -1,5 +1,4 @@
 use mathlib.Core.Path.{◌≡◌, refl}
-use borrow.Author.Rules.{rules}
 use Rattle.integers.proofs.Machine.{clean}
 use Rattle.tables.specs.Checks.{order_of}
 use Rattle.tables.proofs.Checks.{call_true, call_false, and_of, and_first_false}

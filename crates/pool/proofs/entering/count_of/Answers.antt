@@ -1,4 +1,3 @@
-use borrow.Author.Rules.{rules}
 use borrow.Author.Tests.{le-leb, lt-leb, eq-eqb, ne_eqb}
 use Rattle.pool.specs.Pool.{greatest_pool, count_of}
 use Rattle.pool.proofs.entering.count_of.Goals as goal

@@ -2,15 +2,8 @@
 use mathlib.Core.Path.{◌≡◌}
 use mathlib.Core.Bool.{true}
 use Prim.Native.Nat.{◌-◌, ◌≤◌}
-use native.Mathlib.Omega.{arith}
-use mir.Syntax.{w64}
-use mir.Val.{to_z}
-use borrow.Author.Tests.{le-leb, lt-leb}
-use Rattle.integers.proofs.Machine.{clean}
 use Rattle.tables.specs.Matrix.{nth}
 use Rattle.tables.specs.Checks.{all, same}
-use Rattle.tables.proofs.Checks.{all_none, all_more, all_false, read_same, read_differs}
-use Rattle.pool.specs.Pool.{orders_same}
 use Rattle.pool.proofs.entering.orders_same.Given as goal
 
 abbrev pub invariant-loop-k : goal.invariant-loop-k

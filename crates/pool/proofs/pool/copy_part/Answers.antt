@@ -1,11 +1,7 @@
 use mathlib.Core.Path.{◌≡◌, refl}
-use Prim.Native.Nat.{◌+◌, ◌-◌, ◌≤◌}
 use native.Mathlib.Omega.{arith}
 use native.Mathlib.Numerals.{add-one}
-use lib.ListN.{length}
 use Rattle.integers.proofs.Machine.{clean_element}
-use Rattle.tables.specs.Matrix.{nth}
-use Rattle.tables.specs.Buffers.{Filled}
 use Rattle.tables.proofs.Buffers.{filled_none, filled_more}
 use Rattle.pool.proofs.pool.copy_part.Goals as goal
 

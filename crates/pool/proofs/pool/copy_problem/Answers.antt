@@ -1,6 +1,5 @@
 use mathlib.Core.Path.{refl}
 use native.Mathlib.Omega.{arith}
-use borrow.Author.Rules.{rules}
 use Rattle.integers.proofs.Machine.{clean_element}
 use Rattle.tables.proofs.Matrix.{table_fits}
 use Rattle.sums.proofs.Fronts.{sums-filled}

@@ -1,5 +1,4 @@
 use mathlib.Core.Path.{sym, ap, ◌∙◌}
-use borrow.Author.Rules.{rules}
 use lib.IntN.{pos}
 use Rattle.integers.proofs.Machine.{clean}
 use Rattle.integers.proofs.Parts.{pos_nonneg}

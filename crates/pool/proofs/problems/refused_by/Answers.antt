@@ -1,4 +1,3 @@
-use borrow.Author.Rules.{rules}
 use Rattle.sums.specs.Required.{stated}
 use Rattle.pool.specs.Passing.{refused_by}
 use Rattle.pool.proofs.problems.refused_by.Goals as goal

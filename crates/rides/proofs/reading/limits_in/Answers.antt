@@ -1,7 +1,6 @@
 use mathlib.Core.Path.{◌≡◌, sym}
 use mathlib.Core.Bool.{true}
 use native.Mathlib.Omega.{arith}
-use borrow.Author.Rules.{rules}
 use lib.IntN.{pos}
 use lib.Signed.{◌≤ℤ◌}
 use Rattle.integers.proofs.Parts.{≤ℤ_trans, le_z_true, le_z_false}
