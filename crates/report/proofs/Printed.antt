@@ -7,7 +7,6 @@ use lib.ListN.{length, replicate, length-replicate}
 use Rattle.words.proofs.Lists.{drop-replicate}
 use Rattle.tables.specs.declared.Refusal.{Refusal}
 use Rattle.tables.specs.declared.Checked.{Checked}
-use Rattle.tables.specs.declared.Checked.TheVariants as Checked
 use Rattle.summary.specs.declared.problem.Reading.{Reading}
 use Rattle.summary.specs.Problems.{reading}
 use Rattle.text.specs.Text.{ascii}

@@ -3,12 +3,10 @@ use mathlib.Core.List.{◌++◌}
 use Prim.Native.Nat.{ℕ, ◌*◌, ◌≤◌}
 use native.Mathlib.Nat.{mul-le-mul}
 use native.Mathlib.Omega.{arith}
-use borrow.Author.Rules.{rules}
 use mir.Syntax.{w64}
 use mir.Val.{to_z, of_z}
 use Rattle.integers.proofs.Machine.{clean}
 use Rattle.tables.specs.Ranges.{greatest_order}
-use Rattle.tables.proofs.Matrix.{table_fits}
 use Rattle.text.specs.Text.{ascii, line_room, numbers, line, lines}
 use Rattle.text.proofs.Puts.{put-within, put_room, put_then}
 use Rattle.text.proofs.SameLines.{first-lines}
