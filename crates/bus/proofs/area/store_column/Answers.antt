@@ -16,7 +16,7 @@ pub loop-i-init : goal.loop-i-init
 unfolding laid_column column_of upper tabulate
 loop-i-init c =
     let r = area_of c.args.run.now in
-    (omega arith, rw (laid_none r (columns_at + stride * c.args.j)) (area_of_lem (record { each = λ i. omega (arith, c.slice_known-1.given i) }) c.requires.0))
+    (omega arith, rw (laid_none r (columns_at + stride * c.args.j)) (area_of_lem (record { each = λ i. omega (arith, c.type_inv.run i) }) c.requires.0))
 
 pub store_signed-requires : goal.store_signed-requires
 unfolding laid_column column_of upper tabulate

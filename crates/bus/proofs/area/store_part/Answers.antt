@@ -15,7 +15,7 @@ use Rattle.bus.proofs.area.store_part.Goals as goal
 pub loop-i-init : goal.loop-i-init
 loop-i-init c =
     let r = area_of c.args.run.now in
-    (omega arith, rw (laid_none r c.args.first) (area_of_lem (record { each = λ i. omega (arith, c.slice_known-1.given i) }) c.requires.0))
+    (omega arith, rw (laid_none r c.args.first) (area_of_lem (record { each = λ i. omega (arith, c.type_inv.run i) }) c.requires.0))
 
 pub store_signed-requires : goal.store_signed-requires
 store_signed-requires c = (refl, omega (arith, area_bytes_lem c.loop-i.invariant.1))

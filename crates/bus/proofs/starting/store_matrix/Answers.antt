@@ -13,7 +13,7 @@ scale-requires c = (checked_lent c.requires.1, refl)
 
 pub loop-j-init : goal.loop-j-init
 unfolding laid_columns
-loop-j-init c = (omega arith, area_of_lem (record { each = λ i. omega (arith, c.slice_known-1.given i) }) c.requires.0)
+loop-j-init c = (omega arith, area_of_lem (record { each = λ i. omega (arith, c.type_inv.run i) }) c.requires.0)
 
 pub store_column-requires : goal.store_column-requires
 unfolding laid_columns
