@@ -1,0 +1,7 @@
+-- Where the answer is true the judge's is 'definite', and its meaning says the rest.
+use Rattle.tables.specs.Checks.{order_ok, order_of}
+use Rattle.example.proofs.surely_definite.Goals as goal
+
+pub returns-in-Definite : goal.returns-in-Definite
+unfolding order_ok order_of
+returns-in-Definite c e = c.judge-verdict.ensures.meaning.definite _ c.in-Definite.is
