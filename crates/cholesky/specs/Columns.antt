@@ -10,7 +10,6 @@ use Rattle.cholesky.specs.Factoring.{Column, goes_on}
 use Rattle.cholesky.specs.Store.{upper, column_of, SmallColumn}
 use Rattle.cholesky.specs.Rows.{product_range}
 use Rattle.cholesky.specs.declared.column_step.Step.{Step}
-use Rattle.cholesky.specs.declared.column_step.Step.TheVariants as Step
 
 -- so small that 64 bits hold the step
 pub record ColumnReady (s : List ℤ) (j : ℕ) : Type 0 where

@@ -8,7 +8,6 @@ use Rattle.tables.specs.Checks.{order_of}
 use Rattle.tables.specs.Problem.{problem_of, lengths_of, constraint_sized}
 use Rattle.tables.specs.declared.Refusal.TheVariants.{Length}
 use Rattle.tables.specs.declared.Checked.{Checked}
-use Rattle.tables.specs.declared.Checked.TheVariants as Checked
 use Rattle.tables.specs.declared.problem.Lengths.{Lengths}
 use Rattle.tables.specs.declared.problem.Problem.{Problem}
 use Rattle.summary.specs.declared.problem.Reading.{Reading}

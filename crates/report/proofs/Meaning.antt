@@ -27,7 +27,6 @@ use Rattle.verdict.specs.Judge as Judge
 use Rattle.verdict.proofs.Meanings.{judged-means}
 use Rattle.enclosure.specs.Points.{Allowed}
 use Rattle.sides.specs.Sides.{Box}
-use Rattle.sides.specs.Sides as Box
 use Rattle.enclosure.specs.Box.{problem_box}
 use Rattle.enclosure.proofs.Enclosing.{Says, box_says}
 use Rattle.enclosure.proofs.BoxMeanings.{point_mended}

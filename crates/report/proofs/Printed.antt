@@ -7,7 +7,6 @@ use lib.ListN.{length, replicate, length-replicate}
 use Rattle.words.proofs.Lists.{drop-replicate}
 use Rattle.tables.specs.declared.Refusal.{Refusal}
 use Rattle.tables.specs.declared.Checked.{Checked}
-use Rattle.tables.specs.declared.Checked.TheVariants as Checked
 use Rattle.summary.specs.declared.problem.Reading.{Reading}
 use Rattle.summary.specs.Problems.{reading}
 use Rattle.text.specs.Text.{ascii}
@@ -43,11 +42,11 @@ text_first t h =
     rw z (ap (λ (rest : List ℕ). t ++ rest) (drop-replicate {A = ℕ} report_room (length t) 0 h))
 
 pub output_is : (s : List ℕ) {t : List ℕ} {m r : ℕ} {a : List ℕ} → printed s ≡ t → Put (replicate report_room 0) 0 t m r a → m ≤ report_room
-    → (◌≡◌ {A = Output} (record { text = a; length = r }) (report s)) × (r ≤ length a)
+    → record { exact : ◌≡◌ {A = Output} (record { text = a; length = r }) (report s); within : r ≤ length a }
 unfolding report
 output_is s {t} {m} {r} {a} e p h =
     let z = length-replicate {A = ℕ} report_room 0 in
     let n : r ≡ length t = omega (arith, p.behind) in
     let b : a ≡ t ++ replicate (report_room - length t) 0 = p.bytes ∙ text_first t (omega (arith, p.room)) in
     let k : length a ≡ length {A = ℕ} (replicate report_room 0) = put-length p (omega (arith, z)) in
-    (rw (e, n, b) refl, omega (arith, p.room, k, z))
+    record { exact = rw (e, n, b) refl; within = omega (arith, p.room, k, z) }

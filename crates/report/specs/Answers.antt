@@ -3,10 +3,10 @@ use Rattle.std.specs.Prelude.{List, ◌++◌, ℕ, pos, replicate}
 use Rattle.tables.specs.Ranges.{table_room}
 use Rattle.tables.specs.declared.problem.Problem.{Problem}
 use Rattle.verdict.specs.Deciding.{Decided}
-use Rattle.verdict.specs.Deciding.{stated as statedVerdict}
+use Rattle.verdict.specs.Deciding.{stated as stated_verdict}
 use Rattle.enclosure.specs.Box.{problem_box}
 use Rattle.enclosure.specs.Stating.{Stated}
-use Rattle.enclosure.specs.Stating.{stated as statedBox}
+use Rattle.enclosure.specs.Stating.{stated as stated_box}
 use Rattle.report.specs.declared.answers.Answers.{Answers}
 use Rattle.report.specs.Lines.{verdict_text, box_text}
 use Rattle.report.specs.Report.{problem_verdict}
@@ -18,4 +18,4 @@ pub record Answered (p : Problem) (a : Answers) : Type 0 where
 
 -- the lines of answers of order n
 unfoldable pub answers_text : ℕ → Answers → List ℕ
-answers_text n a = verdict_text n (statedVerdict n a.verdict a.factor a.vector) ++ box_text n (statedBox n a.answer a.sides)
+answers_text n a = verdict_text n (stated_verdict n a.verdict a.factor a.vector) ++ box_text n (stated_box n a.answer a.sides)

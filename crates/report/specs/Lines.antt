@@ -6,7 +6,6 @@ use Rattle.tables.specs.declared.Refusal.{Refusal}
 use Rattle.verdict.specs.Judge.{Judgement}
 use Rattle.verdict.specs.Judge as Judge
 use Rattle.sides.specs.Sides.{Box}
-use Rattle.sides.specs.Sides as Box
 use Rattle.text.specs.Text.{ascii, line_room, line, lines}
 
 -- a word and a refusal's number

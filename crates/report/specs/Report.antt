@@ -2,7 +2,6 @@
 use Rattle.std.specs.Prelude.{List, ◌++◌, ℕ, ◌+◌, ◌-◌, length, replicate}
 use Rattle.tables.specs.Entering.{low_bounds, high_bounds}
 use Rattle.tables.specs.declared.Checked.{Checked}
-use Rattle.tables.specs.declared.Checked.TheVariants as Checked
 use Rattle.tables.specs.declared.problem.Problem.{Problem}
 use Rattle.verdict.specs.Judge.{Judgement, judged}
 use Rattle.enclosure.specs.Box.{problem_box}

@@ -3,8 +3,8 @@ ghost use Rattle.std.specs.Prelude.{◌≡◌, ◌+◌, ◌*◌, ◌≤◌, leng
 ghost use Rattle.tables.specs.Ranges.{greatest_order, table_room, sides_room};
 ghost use Rattle.tables.specs.Matrix.{nth, tabulate};
 ghost use Rattle.verdict.specs.Judge.{definite, not_definite};
-ghost use Rattle.verdict.specs.Deciding.{stated as statedVerdict};
-ghost use Rattle.enclosure.specs.Stating.{stated as statedBox};
+ghost use Rattle.verdict.specs.Deciding.{stated as stated_verdict};
+ghost use Rattle.enclosure.specs.Stating.{stated as stated_box};
 ghost use Rattle.text.specs.Putting.{Put};
 ghost use Rattle.report.specs.Lines.{numbered, number_room, verdict_room, verdict_text, box_room, box_text};
 
@@ -71,7 +71,7 @@ pub fn put_verdict(
 ) -> usize
     requires { (n ≤ greatest_order) × (length f.now ≡ table_room) × (length x.now ≡ greatest_order)
         × (at + verdict_room ≤ length out.old) }
-    ensures { Put out.old at (verdict_text n (statedVerdict n verdict f.now x.now))
+    ensures { Put out.old at (verdict_text n (stated_verdict n verdict f.now x.now))
         verdict_room result out.new }
 {
     match verdict {
@@ -85,7 +85,7 @@ pub fn put_verdict(
 // The lines of a box, with its sides in x.
 pub fn put_box(out: &mut [u8], at: usize, n: usize, answer: BoxAnswer, x: &Sides) -> usize
     requires { (n ≤ greatest_order) × (length x.now ≡ sides_room) × (at + box_room ≤ length out.old) }
-    ensures { Put out.old at (box_text n (statedBox n answer x.now)) box_room result out.new }
+    ensures { Put out.old at (box_text n (stated_box n answer x.now)) box_room result out.new }
 {
     match answer {
         BoxAnswer::Sides => put_lines(out, at, b"side", x, 2, n),

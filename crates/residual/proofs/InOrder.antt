@@ -26,7 +26,6 @@ use Rattle.cholesky.specs.Scale.{scale}
 use Rattle.residual.specs.Residual.{residual, radius, row_passes, rows_pass, accepts, least_over, over}
 use Rattle.residual.specs.FactorTest.{check_factor, tested, factor_answer, factor_tested, factor_sizes, factor_test}
 use Rattle.residual.specs.declared.factor_test.FactorAnswer.{FactorAnswer}
-use Rattle.residual.specs.declared.factor_test.FactorAnswer.TheVariants as FactorAnswer
 use Rattle.residual.specs.ResidualAct.{Tabled, kept, tables, tabled, tabling, residual_sizes, residual_act}
 use Rattle.residual.proofs.Rows.{rows_ext, least-over_ext}
 

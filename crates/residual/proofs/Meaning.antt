@@ -24,7 +24,6 @@ use Rattle.tables.proofs.Triangular.{UpperTriangular}
 use Rattle.residual.specs.Residual.{residual, accepts, over, FormBound}
 use Rattle.residual.specs.FactorTest.{factor_entry, factor_shape, tested, factor_answer, factor_tested, Carries, Meaning}
 use Rattle.residual.specs.declared.factor_test.FactorAnswer.{FactorAnswer}
-use Rattle.residual.specs.declared.factor_test.FactorAnswer.TheVariants as FactorAnswer
 use Rattle.residual.proofs.Rows.{rows-over, over_below}
 use Rattle.residual.proofs.Sizes.{over-within}
 use Rattle.residual.proofs.Definite.{over-bound, accepted-definite}

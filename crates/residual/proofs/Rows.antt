@@ -16,7 +16,6 @@ use Rattle.integers.proofs.Extremes.{least_by, least-≤, least_ext}
 use Rattle.integers.proofs.Sums.{sum_zero, sum_suc, sum_ext, sum-at, except_by}
 use Rattle.integers.proofs.Machine.{within_more, within-neg, within-+, within--, within_in, within-high, within-sum, fits_within}
 use Rattle.tables.specs.Matrix.{Matrix}
-use Rattle.tables.specs.Checks.{all}
 use Rattle.tables.proofs.Checks.{all_of, all-at, all_ext, bool_ext, le_of}
 use Rattle.residual.specs.Residual.{radius, row_passes, rows_pass, row_over, least_over, over_limit}
 use Rattle.residual.specs.Scratch.{residual_range, over_range, Ranged}

@@ -14,7 +14,6 @@ use Rattle.tables.specs.Entering.{low_bounds, high_bounds, entered}
 use Rattle.tables.specs.declared.Refusal.TheVariants.{Factor}
 use Rattle.residual.specs.Residual.{accepts, over, over_limit, FormBound}
 use Rattle.residual.specs.declared.factor_test.FactorAnswer.{FactorAnswer}
-use Rattle.residual.specs.declared.factor_test.FactorAnswer.TheVariants as FactorAnswer
 
 -- 6, R2.8: an entry of an offered factor is 0 below the diagonal, 1 to 2^26 on it, and within ±2^26 above it
 unfoldable pub factor_entry : ℕ → ℕ → ℤ → Bool

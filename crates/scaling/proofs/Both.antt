@@ -1,21 +1,19 @@
 -- Both tables scaled, by a scale that is read from its array.
-use mathlib.Core.Path.{◌≡◌, refl, sym, ap, ap₂, ◌∙◌}
-use mathlib.Core.Bool.{Bool, true, false, false≢true, ◌&&◌}
+use mathlib.Core.Path.{◌≡◌, sym, ap, ap₂, ◌∙◌}
+use mathlib.Core.Bool.{Bool, true, false, false≢true}
 use mathlib.Core.List.{List}
-use Prim.Native.Nat.{ℕ, ◌+◌, ◌*◌, ◌^◌, ◌≤◌, ◌<◌}
+use Prim.Native.Nat.{ℕ, ◌+◌, ◌*◌, ◌^◌, ◌<◌}
 use native.Mathlib.Omega.{arith}
 use lib.IntN.{ℤ, pos, ◌*ℤ◌}
 use lib.ListN.{length}
-use borrow.Table.Steps.{cases}
 use Rattle.tables.specs.Ranges.{table_room, entry_range}
 use Rattle.tables.specs.Matrix.{Matrix, at}
-use Rattle.tables.specs.Checks.{all, within}
+use Rattle.tables.specs.Checks.{within}
 use Rattle.tables.specs.Bounds.{Bounds, CheckedTables}
-use Rattle.tables.specs.Entering.{Rooms}
-use Rattle.tables.proofs.Checks.{and_first_false, and_left, and_right, all_ext}
+use Rattle.tables.proofs.Checks.{and_first_false, all_ext}
 use Rattle.tables.proofs.Matrix.{inside, table_fits}
 use Rattle.scaling.specs.Scaling.{exponents, rescaled, scaled_low, scaled_high, entries_within, scaled_within}
-use Rattle.scaling.specs.Scratch.{scale_in, Scale, Part, Rescaling, ScaledTables}
+use Rattle.scaling.specs.Scratch.{scale_in, Scale, Rescaling, ScaledTables}
 use Rattle.scaling.proofs.Scales.{scale-read}
 use Rattle.scaling.proofs.Scaled.{rescaled-bounds}
 

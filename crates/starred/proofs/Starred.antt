@@ -19,7 +19,6 @@ use Rattle.tables.specs.Members.{PositiveDefinite}
 use Rattle.tables.specs.declared.Refusal.TheVariants.{Range, Crossed, Lopsided, Again, Reversed, Falling}
 use Rattle.tables.specs.declared.Refusal.{Refusal}
 use Rattle.tables.specs.declared.Checked.{Checked}
-use Rattle.tables.specs.declared.Checked.TheVariants as Checked
 use Rattle.tables.specs.declared.Answer.{Answer as VectorAnswer}
 use Rattle.tables.specs.declared.Answer.TheVariants.{No}
 use Rattle.cholesky.specs.Scale.{take_off, scaled_by}

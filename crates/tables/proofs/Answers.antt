@@ -13,7 +13,6 @@ use Rattle.tables.specs.declared.Refusal.TheVariants.{Order, Length, Range, Cros
 use Rattle.tables.specs.declared.Checked.{Checked}
 use Rattle.tables.specs.declared.Checked.TheVariants.{Passed, Refused}
 use Rattle.tables.specs.declared.Answer.{Answer}
-use Rattle.tables.specs.declared.Answer.TheVariants as Answer
 use Rattle.tables.proofs.Checks.{no-more-checks}
 
 -- ---- checks, and one more

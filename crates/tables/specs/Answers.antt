@@ -5,7 +5,6 @@ use Rattle.tables.specs.declared.Refusal.{Refusal}
 use Rattle.tables.specs.declared.Checked.{Checked}
 use Rattle.tables.specs.declared.Checked.TheVariants.{Passed, Refused}
 use Rattle.tables.specs.declared.Answer.{Answer}
-use Rattle.tables.specs.declared.Answer.TheVariants as Answer
 
 -- the refusal, or else the answer: of any kind of answer that can be a refusal
 unfoldable pub after : {A : Type 0} → (Refusal → A) → Checked → A → A

@@ -7,13 +7,12 @@ use lib.IntN.{ℤ, pos}
 use lib.Signed.{le_z}
 use lib.ListN.{length}
 use Rattle.tables.specs.Ranges.{vector_range}
-use Rattle.tables.specs.Matrix.{Matrix, at, nth}
+use Rattle.tables.specs.Matrix.{Matrix, nth}
 use Rattle.tables.specs.Bounds.{Bounds, CheckedTables}
 use Rattle.tables.specs.Checks.{all, within, order_of}
 use Rattle.tables.specs.Entering.{low_bounds, high_bounds}
 use Rattle.tables.specs.Answers.{yes_or_no}
 use Rattle.tables.specs.declared.Answer.{Answer}
-use Rattle.tables.specs.declared.Answer.TheVariants as Answer
 use Rattle.tables.proofs.Checks.{and_left, and_right, all-at, within_of, first_passes, first-none, passed-bounds}
 use Rattle.tables.proofs.Answers.{after-passed, after-yes, after-no, yes_true, no_false}
 use Rattle.tables.proofs.Admission.{entered-means}

@@ -13,7 +13,7 @@ use Rattle.integers.specs.Numbers.{Within}
 use Rattle.integers.specs.Sum.{sum}
 use Rattle.integers.proofs.Parts.{choice_by}
 use Rattle.integers.proofs.Machine.{within_more, within-+, within-*, within-sum, fits_within}
-use Rattle.integers.proofs.Solver.{ring, order, solver}
+use Rattle.integers.proofs.Solver.{ring, solver}
 use Rattle.integers.proofs.Sums.{sum_zero, sum_suc, sum_ext, sum-none, sum-*, eqb_by}
 use Rattle.tables.specs.Ranges.{greatest_order, entry_range}
 use Rattle.tables.specs.Matrix.{Matrix, at, nth, form}

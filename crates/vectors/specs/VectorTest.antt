@@ -7,7 +7,6 @@ use Rattle.tables.specs.Answers.{after, yes_or_no}
 use Rattle.tables.specs.Entering.{low_bounds, high_bounds, entered}
 use Rattle.tables.specs.declared.Refusal.TheVariants.{Vector}
 use Rattle.tables.specs.declared.Answer.{Answer}
-use Rattle.tables.specs.declared.Answer.TheVariants as Answer
 use Rattle.vectors.specs.Least.{nonzero, shows, Witness}
 
 -- 7, R4.7: some entry of an offered vector is not 0, and all are within ±2^15

@@ -1,7 +1,6 @@
 use mathlib.Core.Path.{◌∙◌}
 use mathlib.Core.List.{[], ◌∷◌}
 use native.Mathlib.Omega.{arith}
-use borrow.Author.Rules.{rules}
 use lib.IntN.{neg_ℤ, +ℤ_idl}
 use Rattle.integers.specs.Numbers.{Within}
 use Rattle.integers.specs.Division.{ceil_div}

@@ -1,11 +1,6 @@
 use mathlib.Core.Path.{◌≡◌, sym, ◌∙◌}
-use Prim.Native.Nat.{◌-◌, ◌≤◌}
 use native.Mathlib.Omega.{arith}
 use native.Mathlib.Numerals.{add-one}
-use lib.IntN.{◌*ℤ◌}
-use mir.Syntax.{w64}
-use mir.Val.{to_z}
-use Rattle.integers.specs.Sum.{sum}
 use Rattle.integers.proofs.Machine.{clean, clean_element}
 use Rattle.integers.proofs.Sums.{sum_zero, sum_suc}
 use Rattle.tables.specs.Matrix.{nth}

@@ -1,9 +1,7 @@
 use Prim.Native.Nat.{ℕ, ◌*◌, ◌-◌, ◌≤◌, ◌<◌}
 use native.Mathlib.Nat.{mul-le-mul}
 use native.Mathlib.Omega.{arith}
-use borrow.Author.Rules.{rules}
 use Rattle.integers.proofs.between.Lts as lts
-use Rattle.integers.proofs.between.Tie as tie
 use Rattle.integers.proofs.between.Reads as reads
 use Rattle.integers.proofs.between.Goals as goal
 

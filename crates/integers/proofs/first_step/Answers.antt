@@ -1,5 +1,4 @@
 use native.Mathlib.Omega.{arith}
-use borrow.Author.Rules.{rules}
 use Rattle.integers.proofs.Roots.{newton_above}
 use Rattle.integers.proofs.first_step.Goals as goal
 

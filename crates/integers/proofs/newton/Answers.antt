@@ -1,6 +1,5 @@
 use native.Mathlib.Nat.{div-le_self}
 use native.Mathlib.Omega.{arith}
-use borrow.Author.Rules.{rules}
 use Rattle.integers.proofs.newton.Goals as goal
 
 pub overflow_add-result : goal.overflow_add-result

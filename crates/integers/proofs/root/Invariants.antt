@@ -1,8 +1,5 @@
 -- The loop's invariant: r is not below the root, and its square fits 64 bits. The measure is r.
-use Prim.Native.Nat.{ℕ, zero, suc, ◌+◌, ◌*◌, ◌^◌, ◌≤◌, ◌<◌}
-use native.Mathlib.Nat.{mul-le-mul}
-use native.Mathlib.Omega.{arith}
-use Rattle.integers.proofs.Roots.{newton_above, newton_falls}
+use Prim.Native.Nat.{◌+◌, ◌*◌, ◌^◌, ◌<◌}
 use Rattle.integers.proofs.root.Given as goal
 
 abbrev pub invariant-loop-above : goal.invariant-loop-above

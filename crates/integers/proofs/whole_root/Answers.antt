@@ -1,6 +1,5 @@
 use mathlib.Core.Path.{ap, ◌∙◌}
 use native.Mathlib.Omega.{arith}
-use borrow.Author.Rules.{rules}
 use lib.IntN.{nat_abs}
 use Rattle.integers.proofs.Machine.{clean, as_usize, size_as_usize, read_i64}
 use Rattle.integers.proofs.Roots.{root_is}

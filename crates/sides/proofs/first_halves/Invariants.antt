@@ -1,19 +1,11 @@
 -- The loop's invariant: Y(i) is filled in for each i passed.
-use mathlib.Core.Path.{◌≡◌, ◌∙◌}
 use Prim.Native.Nat.{◌-◌, ◌≤◌}
-use native.Mathlib.Omega.{arith}
-use native.Mathlib.Numerals.{add-one}
 use lib.IntN.{◌+ℤ◌}
-use mir.Syntax.{w64}
-use mir.Val.{to_z, of_z}
 use Rattle.integers.specs.Division.{ceil_div}
 use Rattle.integers.specs.Root.{least_root}
-use Rattle.integers.proofs.Machine.{clean, clean_element, clean_result}
 use Rattle.tables.specs.Ranges.{greatest_order}
 use Rattle.tables.specs.Matrix.{nth}
 use Rattle.tables.specs.Buffers.{Filled}
-use Rattle.tables.proofs.Buffers.{filled_none, filled_more}
-use Rattle.sides.proofs.HalfSides.{gradient_numerator, half_fits}
 use Rattle.sides.proofs.first_halves.Given as goal
 
 abbrev pub invariant-loop-k : goal.invariant-loop-k

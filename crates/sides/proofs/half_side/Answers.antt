@@ -1,6 +1,5 @@
 -- By the test.
 use mathlib.Core.Path.{◌∙◌}
-use borrow.Author.Rules.{rules}
 use lib.IntN.{pos}
 use Rattle.integers.proofs.Order.{<_suc}
 use Rattle.integers.proofs.Machine.{clean, clean_result, le_no, fits_literal}

@@ -1,6 +1,5 @@
 use mathlib.Core.Path.{◌∙◌}
 use native.Mathlib.Omega.{arith}
-use borrow.Author.Rules.{rules}
 use Rattle.integers.proofs.Machine.{clean, clean_result, fits_within}
 use Rattle.sides.proofs.HalfSides.{twice_fits, second-within}
 use Rattle.sides.proofs.second_bound.Goals as goal

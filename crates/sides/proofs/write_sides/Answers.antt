@@ -1,6 +1,5 @@
 use mathlib.Core.Path.{◌≡◌, ◌∙◌}
 use mathlib.Core.List.{[], ◌∷◌}
-use Prim.Native.Nat.{◌-◌, ◌≤◌}
 use native.Mathlib.Omega.{arith}
 use native.Mathlib.Numerals.{add-one}
 use mir.Syntax.{w64}
@@ -13,7 +12,7 @@ use Rattle.integers.proofs.Machine.{clean, clean_element, clean_result, fits_wit
 use Rattle.tables.specs.Ranges.{centre_range}
 use Rattle.tables.specs.Matrix.{nth}
 use Rattle.sides.specs.Sides.{smaller_half}
-use Rattle.sides.specs.Required.{half_range, side_range, SidesIn}
+use Rattle.sides.specs.Required.{half_range, side_range}
 use Rattle.sides.proofs.HalfSides.{smaller_within, sides_none, sides_more}
 use Rattle.sides.proofs.write_sides.Lts as lts
 use Rattle.sides.proofs.write_sides.Tie as tie

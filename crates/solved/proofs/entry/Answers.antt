@@ -1,5 +1,4 @@
 use mathlib.Core.Path.{◌∙◌}
-use borrow.Author.Rules.{rules}
 use lib.IntN.{+ℤ_idl}
 use Rattle.integers.proofs.Machine.{clean, clean_element, clean_result}
 use Rattle.cholesky.specs.Store.{upper}

@@ -1,12 +1,9 @@
 use mathlib.Core.Path.{◌≡◌, ◌∙◌}
-use Prim.Native.Nat.{suc, ◌-◌, ◌≤◌, ◌<◌}
+use Prim.Native.Nat.{suc}
 use native.Mathlib.Omega.{arith}
 use native.Mathlib.Numerals.{add-one}
-use mir.Syntax.{w64}
-use mir.Val.{to_z}
 use Rattle.integers.proofs.Machine.{clean, clean_element}
 use Rattle.cholesky.specs.Store.{upper}
-use Rattle.solved.specs.Stopped.{row_sum}
 use Rattle.solved.proofs.Sizes.{row-sum-none, row-sum_suc, product_fits, next_fits}
 use Rattle.solved.proofs.row_sum.Goals as goal
 

@@ -1,11 +1,7 @@
 use mathlib.Core.Path.{◌≡◌, refl}
-use Prim.Native.Nat.{◌-◌, ◌≤◌}
 use native.Mathlib.Omega.{arith}
 use native.Mathlib.Numerals.{add-one}
-use lib.IntN.{pos}
 use Rattle.integers.proofs.Machine.{clean}
-use Rattle.tables.specs.Ranges.{greatest_order}
-use Rattle.tables.specs.Buffers.{Filled}
 use Rattle.tables.proofs.Buffers.{filled_none, filled_more}
 use Rattle.solved.proofs.Solving.{cleared_end}
 use Rattle.solved.proofs.start.Goals as goal

@@ -1,10 +1,5 @@
 use mathlib.Core.Path.{◌≡◌, sym}
-use mathlib.Core.Bool.{true}
-use Prim.Native.Nat.{◌-◌, ◌≤◌}
 use native.Mathlib.Omega.{arith}
-use lib.IntN.{nat_abs}
-use mir.Syntax.{w64}
-use mir.Val.{to_z}
 use borrow.Author.Tests.{not-true, not-false}
 use Rattle.integers.proofs.Machine.{clean, clean_element}
 use Rattle.tables.specs.Matrix.{nth}

@@ -1,6 +1,5 @@
 use mathlib.Core.Path.{sym, ◌∙◌}
 use mathlib.Core.Bool.{false}
-use borrow.Author.Rules.{rules}
 use Rattle.tables.proofs.Checks.{bounded-passed}
 use Rattle.tables.proofs.check_apart.Goals as goal
 

@@ -1,6 +1,5 @@
 use mathlib.Core.Path.{sym, ◌∙◌}
 use mathlib.Core.Bool.{true}
-use borrow.Author.Rules.{rules}
 use Rattle.tables.proofs.Checks.{others_outside, bounded-passed}
 use Rattle.tables.proofs.check_bounds.Goals as goal
 

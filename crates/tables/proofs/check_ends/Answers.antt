@@ -1,5 +1,4 @@
 use mathlib.Core.Path.{sym, ◌∙◌}
-use borrow.Author.Rules.{rules}
 use Rattle.tables.specs.Checks.{ends_checks}
 use Rattle.tables.proofs.Checks.{first_passes, first-refuses, first-none}
 use Rattle.tables.proofs.check_ends.Goals as goal

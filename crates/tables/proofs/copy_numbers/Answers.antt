@@ -1,13 +1,10 @@
 use mathlib.Core.Path.{◌≡◌, refl, ap, ◌∙◌}
-use mathlib.Core.List.{◌++◌}
-use Prim.Native.Nat.{◌-◌, ◌≤◌}
 use native.Mathlib.Omega.{arith}
 use native.Mathlib.Numerals.{add-one}
-use lib.ListN.{length, take, drop}
+use lib.ListN.{length}
 use Rattle.integers.proofs.Machine.{clean_element}
 use Rattle.tables.proofs.Buffers.{length-copied, copied_more}
 use Rattle.tables.proofs.copy_numbers.Lts as lts
-use Rattle.tables.proofs.copy_numbers.Tie as tie
 use Rattle.tables.proofs.copy_numbers.Reads as reads
 use Rattle.tables.proofs.copy_numbers.Goals as goal
 

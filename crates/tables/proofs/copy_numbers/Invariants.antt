@@ -1,12 +1,8 @@
 -- The loop's invariant: the numbers passed are copied.
-use mathlib.Core.Path.{◌≡◌, refl, ap, ◌∙◌}
+use mathlib.Core.Path.{◌≡◌}
 use mathlib.Core.List.{◌++◌}
 use Prim.Native.Nat.{◌-◌, ◌≤◌}
-use native.Mathlib.Omega.{arith}
-use native.Mathlib.Numerals.{add-one}
-use lib.ListN.{length, take, drop}
-use Rattle.integers.proofs.Machine.{clean_element}
-use Rattle.tables.proofs.Buffers.{length-copied, copied_more}
+use lib.ListN.{take, drop}
 use Rattle.tables.proofs.copy_numbers.Given as goal
 
 abbrev pub invariant-loop-k : goal.invariant-loop-k

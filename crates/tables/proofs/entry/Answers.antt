@@ -5,7 +5,6 @@ use Rattle.tables.specs.Ranges.{table_room}
 use Rattle.tables.specs.Matrix.{at}
 use Rattle.tables.proofs.Matrix.{inside, table_fits}
 use Rattle.tables.proofs.entry.Lts as lts
-use Rattle.tables.proofs.entry.Tie as tie
 use Rattle.tables.proofs.entry.Reads as reads
 use Rattle.tables.proofs.entry.Goals as goal
 

@@ -1,6 +1,5 @@
 use mathlib.Core.Path.{◌≡◌}
 use mathlib.Core.Bool.{true}
-use borrow.Author.Rules.{rules}
 use lib.IntN.{pos, neg_ℤ}
 use lib.Signed.{le_z}
 use Rattle.integers.proofs.Parts.{le_z_true, le_z_false}
@@ -8,7 +7,6 @@ use Rattle.integers.proofs.Machine.{clean, fits_literal, lt_yes, lt_no}
 use Rattle.tables.specs.Ranges.{entry_range}
 use Rattle.tables.specs.Pairs.{entry_bounded}
 use Rattle.tables.proofs.entry_bounded.Lts as lts
-use Rattle.tables.proofs.entry_bounded.Tie as tie
 use Rattle.tables.proofs.entry_bounded.Reads as reads
 use Rattle.tables.proofs.entry_bounded.Goals as goal
 

@@ -1,6 +1,5 @@
-use mathlib.Core.Path.{◌≡◌, sym, ◌∙◌}
+use mathlib.Core.Path.{sym, ◌∙◌}
 use mathlib.Core.Bool.{false≢true}
-use borrow.Author.Rules.{rules}
 use Rattle.tables.specs.Checks.{check_lopsided, bounds_checks}
 use Rattle.tables.proofs.Checks.{false_of, call_false, call_true, first_passes, first-refuses, first-none, passed-bounded}
 use Rattle.tables.proofs.find_refusal.Goals as goal

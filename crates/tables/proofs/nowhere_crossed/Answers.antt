@@ -1,6 +1,4 @@
 use mathlib.Core.Path.{◌≡◌, sym}
-use mathlib.Core.Bool.{true}
-use Prim.Native.Nat.{◌-◌, ◌≤◌}
 use native.Mathlib.Omega.{arith}
 use Rattle.tables.specs.Matrix.{nth}
 use Rattle.tables.specs.Checks.{nowhere_crossed}

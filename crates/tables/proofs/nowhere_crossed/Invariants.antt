@@ -1,11 +1,8 @@
 -- The loop's invariant: none of the first k numbers of low is above that of high. The measure is how many are left.
-use mathlib.Core.Path.{◌≡◌, sym}
+use mathlib.Core.Path.{◌≡◌}
 use mathlib.Core.Bool.{true}
 use Prim.Native.Nat.{◌-◌, ◌≤◌}
-use native.Mathlib.Omega.{arith}
-use Rattle.tables.specs.Matrix.{nth}
 use Rattle.tables.specs.Checks.{nowhere_crossed}
-use Rattle.tables.proofs.Checks.{all_none, all_more, all_false, read_less, read_not_less}
 use Rattle.tables.proofs.nowhere_crossed.Given as goal
 
 abbrev pub invariant-loop-k : goal.invariant-loop-k

@@ -1,5 +1,4 @@
-use mathlib.Core.Path.{◌≡◌, ◌∙◌}
-use borrow.Author.Rules.{rules}
+use mathlib.Core.Path.{◌≡◌}
 use Rattle.integers.proofs.Machine.{clean}
 use Rattle.tables.specs.Pairs.{pair_even, pair_bounded}
 use Rattle.tables.proofs.pair_bounded.Lts as lts

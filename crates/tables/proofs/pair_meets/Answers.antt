@@ -1,6 +1,5 @@
-use mathlib.Core.Path.{◌≡◌, ◌∙◌}
+use mathlib.Core.Path.{◌≡◌}
 use mathlib.Core.Bool.{true}
-use borrow.Author.Rules.{rules}
 use Rattle.integers.proofs.Parts.{le_z_true, le_z_false}
 use Rattle.integers.proofs.Machine.{clean, lt_yes, lt_no}
 use Rattle.tables.specs.Pairs.{entry_bounded, pair_meets}

@@ -1,5 +1,4 @@
 -- Variant by variant.
-use borrow.Author.Rules.{rules}
 use Rattle.tables.proofs.refusal_number.Goals as goal
 
 pub returns-in-Order : goal.returns-in-Order

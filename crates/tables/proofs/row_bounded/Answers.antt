@@ -1,10 +1,7 @@
 use mathlib.Core.Path.{◌≡◌, sym, ◌∙◌}
-use mathlib.Core.Bool.{true}
-use Prim.Native.Nat.{suc, ◌-◌, ◌≤◌}
+use Prim.Native.Nat.{suc}
 use native.Mathlib.Omega.{arith}
-use borrow.Author.Rules.{rules}
 use Rattle.tables.specs.Matrix.{at}
-use Rattle.tables.specs.Checks.{all}
 use Rattle.tables.specs.Pairs.{pair_bounded}
 use Rattle.integers.proofs.Machine.{clean_result}
 use Rattle.tables.proofs.Checks.{all_none, all_more, all_false, call_false, call_true}

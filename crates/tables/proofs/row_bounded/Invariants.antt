@@ -1,14 +1,10 @@
 -- The loop's invariant: the first j entries of row i pass. The measure is how many are left.
-use mathlib.Core.Path.{◌≡◌, sym, ◌∙◌}
+use mathlib.Core.Path.{◌≡◌}
 use mathlib.Core.Bool.{true}
 use Prim.Native.Nat.{suc, ◌-◌, ◌≤◌}
-use native.Mathlib.Omega.{arith}
-use borrow.Author.Rules.{rules}
 use Rattle.tables.specs.Matrix.{at}
 use Rattle.tables.specs.Checks.{all}
 use Rattle.tables.specs.Pairs.{pair_bounded}
-use Rattle.integers.proofs.Machine.{clean_result}
-use Rattle.tables.proofs.Checks.{all_none, all_more, all_false, call_false, call_true}
 use Rattle.tables.proofs.row_bounded.Given as goal
 
 abbrev pub invariant-loop-j : goal.invariant-loop-j

@@ -1,8 +1,6 @@
 use mathlib.Core.Path.{◌≡◌, sym}
-use mathlib.Core.Bool.{Bool, true}
-use Prim.Native.Nat.{◌-◌, ◌≤◌}
+use mathlib.Core.Bool.{Bool}
 use native.Mathlib.Omega.{arith}
-use Rattle.tables.specs.Checks.{all}
 use Rattle.tables.specs.Pairs.{row_bounded, tables_bounded}
 use Rattle.tables.proofs.Checks.{all_none, all_more, all_false, call_false, call_true}
 use Rattle.tables.proofs.tables_bounded.Lts as lts

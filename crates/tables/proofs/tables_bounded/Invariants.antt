@@ -1,11 +1,9 @@
 -- The loop's invariant: the first i rows pass. The measure is how many are left.
-use mathlib.Core.Path.{◌≡◌, sym}
-use mathlib.Core.Bool.{Bool, true}
+use mathlib.Core.Path.{◌≡◌}
+use mathlib.Core.Bool.{true}
 use Prim.Native.Nat.{◌-◌, ◌≤◌}
-use native.Mathlib.Omega.{arith}
 use Rattle.tables.specs.Checks.{all}
-use Rattle.tables.specs.Pairs.{row_bounded, tables_bounded}
-use Rattle.tables.proofs.Checks.{all_none, all_more, all_false, call_false, call_true}
+use Rattle.tables.specs.Pairs.{row_bounded}
 use Rattle.tables.proofs.tables_bounded.Given as goal
 
 abbrev pub invariant-loop-i : goal.invariant-loop-i

@@ -1,5 +1,4 @@
 use mathlib.Core.Path.{◌≡◌, refl}
-use Prim.Native.Nat.{◌-◌, ◌≤◌}
 use native.Mathlib.Omega.{arith}
 use native.Mathlib.Numerals.{add-one}
 use Rattle.integers.specs.Division.{floor_div}
@@ -7,7 +6,7 @@ use Rattle.integers.proofs.Machine.{clean_element}
 use Rattle.tables.proofs.Checks.{call_false, call_true}
 use Rattle.cholesky.specs.Store.{upper}
 use Rattle.cholesky.specs.Rows.{ColumnTaken}
-use Rattle.cholesky.proofs.Taken.{RowsTaking, taking-start, taking_end, taking_rowed, taking_divisor, taking_stops, taking_on}
+use Rattle.cholesky.proofs.Taken.{taking-start, taking_end, taking_rowed, taking_divisor, taking_stops, taking_on}
 use Rattle.cholesky.proofs.column_step.take_rows.Lts as lts
 use Rattle.cholesky.proofs.column_step.take_rows.Tie as tie
 use Rattle.cholesky.proofs.column_step.take_rows.Reads as reads

@@ -1,6 +1,5 @@
 use mathlib.Core.Path.{◌∙◌}
 use native.Mathlib.Omega.{arith}
-use borrow.Author.Rules.{rules}
 use lib.IntN.{ℤ, pos}
 use Rattle.integers.proofs.Parts.{≤ℤ_trans, pos_nonneg}
 use Rattle.integers.proofs.Machine.{clean_result, clean_element}

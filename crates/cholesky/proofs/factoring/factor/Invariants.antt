@@ -1,11 +1,7 @@
 -- The loop's invariant: the rows before row i were worked out in the columns before `end`, and column `end` stopped after `rows` of them.
-use mathlib.Core.Path.{◌≡◌}
 use Prim.Native.Nat.{◌-◌, ◌≤◌, ◌<◌}
-use native.Mathlib.Omega.{arith}
-use native.Mathlib.Numerals.{add-one}
 use Rattle.cholesky.specs.Store.{upper}
-use Rattle.cholesky.proofs.Walked.{Rows, Stop, rows_start, stop_start, rows_some, rows_more, stop_now, stop_kept}
-use Rattle.cholesky.proofs.Sweep.{sweep_stop, sweep_end}
+use Rattle.cholesky.proofs.Walked.{Rows, Stop}
 use Rattle.cholesky.proofs.factoring.factor.Given as goal
 
 abbrev pub invariant-loop-i : goal.invariant-loop-i

@@ -1,6 +1,5 @@
 use mathlib.Core.Path.{◌≡◌}
 use mathlib.Core.Logic.{by_cases}
-use Prim.Native.Nat.{ℕ, ◌-◌, ◌≤◌, ◌<◌}
 use native.Mathlib.Omega.{arith}
 use native.Mathlib.Decide.{ℕ_discrete}
 use lib.IntN.{ℤ, pos}
@@ -8,7 +7,6 @@ use lib.Signed.{◌≤ℤ◌}
 use Rattle.tables.proofs.Checks.{le_of, read_less, read_not_less}
 use Rattle.cholesky.specs.Store.{upper}
 use Rattle.cholesky.proofs.factoring.start.Lts as lts
-use Rattle.cholesky.proofs.factoring.start.Tie as tie
 use Rattle.cholesky.proofs.factoring.start.Reads as reads
 use Rattle.cholesky.proofs.factoring.start.Goals as goal
 

@@ -1,12 +1,7 @@
 -- The loop's invariant: no diagonal entry before j is below 1.
-use mathlib.Core.Path.{◌≡◌}
-use mathlib.Core.Logic.{by_cases}
 use Prim.Native.Nat.{ℕ, ◌-◌, ◌≤◌, ◌<◌}
-use native.Mathlib.Omega.{arith}
-use native.Mathlib.Decide.{ℕ_discrete}
-use lib.IntN.{ℤ, pos}
+use lib.IntN.{pos}
 use lib.Signed.{◌≤ℤ◌}
-use Rattle.tables.proofs.Checks.{le_of, read_less, read_not_less}
 use Rattle.cholesky.specs.Store.{upper}
 use Rattle.cholesky.proofs.factoring.start.Given as goal
 

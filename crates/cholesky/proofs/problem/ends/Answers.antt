@@ -1,5 +1,4 @@
 use mathlib.Core.Path.{refl}
-use borrow.Author.Rules.{rules}
 use Rattle.tables.specs.Matrix.{at}
 use Rattle.cholesky.specs.Factoring.{Factoring, factored}
 use Rattle.cholesky.proofs.Store.{outcome-ends, outcome_stops}

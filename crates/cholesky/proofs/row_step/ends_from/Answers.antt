@@ -1,13 +1,9 @@
 use mathlib.Core.Path.{◌≡◌, refl, sym, ◌∙◌}
-use Prim.Native.Nat.{◌-◌, ◌<◌}
+use Prim.Native.Nat.{◌-◌}
 use native.Mathlib.Omega.{arith}
 use native.Mathlib.Numerals.{add-one}
-use lib.IntN.{pos}
-use lib.Signed.{◌≤ℤ◌}
 use Rattle.integers.proofs.Parts.{le_z_true}
 use Rattle.cholesky.specs.Store.{upper}
-use Rattle.cholesky.specs.Reduced.{ends_from}
-use Rattle.cholesky.specs.Rows.{Factorable}
 use Rattle.cholesky.proofs.Rows.{left_factorable}
 use Rattle.cholesky.proofs.Passing.{row_done, row_next, ends-row, ends_stop, ends_last}
 use Rattle.cholesky.proofs.row_step.ends_from.Goals as goal

@@ -1,6 +1,5 @@
 use mathlib.Core.Path.{◌≡◌}
 use mathlib.Core.Bool.{true}
-use borrow.Author.Rules.{rules}
 use Rattle.integers.proofs.Machine.{clean, clean_result, clean_element}
 use Rattle.integers.specs.Division.{floor_div}
 use Rattle.tables.specs.Ranges.{factor_range}

@@ -1,5 +1,4 @@
 use mathlib.Core.Path.{◌≡◌, refl}
-use Prim.Native.Nat.{◌-◌, ◌≤◌, ◌<◌}
 use native.Mathlib.Omega.{arith}
 use native.Mathlib.Numerals.{add-one}
 use Rattle.integers.specs.Division.{floor_div}
@@ -8,7 +7,7 @@ use Rattle.integers.proofs.Machine.{clean}
 use Rattle.tables.proofs.Checks.{call_false, call_true}
 use Rattle.cholesky.specs.Store.{upper}
 use Rattle.cholesky.specs.Rows.{ColumnTaken}
-use Rattle.cholesky.proofs.Rows.{RowGoing, going_start, going_rowed, going_stops, going_on}
+use Rattle.cholesky.proofs.Rows.{going_start, going_rowed, going_stops, going_on}
 use Rattle.cholesky.proofs.row_step.take_columns.Lts as lts
 use Rattle.cholesky.proofs.row_step.take_columns.Tie as tie
 use Rattle.cholesky.proofs.row_step.take_columns.Reads as reads

@@ -1,5 +1,4 @@
 use mathlib.Core.Path.{sym, ◌∙◌}
-use borrow.Author.Rules.{rules}
 use Rattle.integers.proofs.Machine.{clean, clean_result}
 use Rattle.cholesky.specs.Scale.{take_off}
 use Rattle.cholesky.proofs.ScaledMatrix.{scaled_on}

@@ -4,7 +4,6 @@ use Rattle.integers.proofs.Machine.{clean}
 use Rattle.tables.specs.Matrix.{at}
 use Rattle.cholesky.proofs.Filling.{Placed, placed, clean-sum, middle_fits, doubled_fits}
 use Rattle.cholesky.proofs.scaling.middle.Lts as lts
-use Rattle.cholesky.proofs.scaling.middle.Tie as tie
 use Rattle.cholesky.proofs.scaling.middle.Reads as reads
 use Rattle.cholesky.proofs.scaling.middle.Goals as goal
 

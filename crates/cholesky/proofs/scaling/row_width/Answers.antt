@@ -1,16 +1,12 @@
 use mathlib.Core.Path.{◌≡◌, sym, ◌∙◌}
-use Prim.Native.Nat.{◌-◌, ◌≤◌}
 use native.Mathlib.Omega.{arith}
 use native.Mathlib.Numerals.{add-one}
 use lib.IntN.{ℤ}
-use mir.Syntax.{w64}
-use mir.Val.{to_z}
 use Rattle.integers.proofs.Machine.{clean, clean_element}
 use Rattle.integers.proofs.Sums.{sum_zero, sum_suc}
 use Rattle.tables.specs.Matrix.{at, row_width}
 use Rattle.cholesky.proofs.Filling.{Placed, placed, gap_fits, width_fits}
 use Rattle.cholesky.proofs.scaling.row_width.Lts as lts
-use Rattle.cholesky.proofs.scaling.row_width.Tie as tie
 use Rattle.cholesky.proofs.scaling.row_width.Reads as reads
 use Rattle.cholesky.proofs.scaling.row_width.Goals as goal
 

@@ -1,9 +1,6 @@
 use mathlib.Core.Path.{◌≡◌}
-use Prim.Native.Nat.{◌-◌, ◌≤◌}
 use native.Mathlib.Omega.{arith}
 use native.Mathlib.Numerals.{add-one}
-use Rattle.tables.specs.Matrix.{at}
-use Rattle.cholesky.specs.Scaling.{Scaled}
 use Rattle.cholesky.proofs.scaling.scale.Goals as goal
 
 pub loop-j-init : goal.loop-j-init

@@ -1,8 +1,5 @@
 -- The loop's invariant: the columns before j are those of H.
-use mathlib.Core.Path.{◌≡◌}
 use Prim.Native.Nat.{◌-◌, ◌≤◌}
-use native.Mathlib.Omega.{arith}
-use native.Mathlib.Numerals.{add-one}
 use Rattle.tables.specs.Matrix.{at}
 use Rattle.cholesky.specs.Scaling.{Scaled}
 use Rattle.cholesky.proofs.scaling.scale.Given as goal

@@ -1,13 +1,10 @@
 use mathlib.Core.Path.{◌≡◌}
-use Prim.Native.Nat.{◌-◌, ◌≤◌}
 use native.Mathlib.Omega.{arith}
 use native.Mathlib.Numerals.{add-one}
-use borrow.Author.Rules.{rules}
 use Rattle.integers.proofs.Machine.{clean_result}
-use Rattle.tables.specs.Matrix.{at}
 use Rattle.cholesky.specs.Scale.{take_off}
 use Rattle.cholesky.proofs.ScaledMatrix.{scaled_off}
-use Rattle.cholesky.proofs.Filling.{Filling, filling_start, filling_row, filling_end}
+use Rattle.cholesky.proofs.Filling.{filling_start, filling_row, filling_end}
 use Rattle.cholesky.proofs.scaling.scale_column.Goals as goal
 
 pub loop-i-init : goal.loop-i-init

@@ -1,4 +1,3 @@
-use borrow.Author.Rules.{rules}
 use Rattle.integers.proofs.Machine.{clean}
 use Rattle.file_buffers.proofs.loading.load_problem.Goals as goal
 

@@ -1,5 +1,4 @@
 use mathlib.Core.Path.{◌∙◌}
-use borrow.Author.Rules.{rules}
 use mir.Syntax.{w64}
 use Rattle.words.proofs.Filling.{fill_zeros}
 use Rattle.tables.specs.Ranges.{greatest_order}

@@ -1,4 +1,3 @@
-use borrow.Author.Rules.{rules}
 use borrow.Author.Tests.{eq-eqb, ne_eqb}
 use Rattle.file_buffers.specs.Parts.{roomy}
 use Rattle.file_buffers.proofs.reading.parts_roomy.Goals as goal

@@ -1,5 +1,4 @@
 use mathlib.Core.Path.{◌∙◌}
-use borrow.Author.Rules.{rules}
 use Rattle.file_buffers.proofs.Fronts.{numbers-stored}
 use Rattle.file_buffers.proofs.storing.store_linear.Goals as goal
 

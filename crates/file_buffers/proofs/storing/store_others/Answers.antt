@@ -1,6 +1,5 @@
 use mathlib.Core.Path.{◌∙◌}
 use native.Mathlib.Omega.{arith}
-use borrow.Author.Rules.{rules}
 use Rattle.integers.proofs.Machine.{read_i64, clean_element}
 use Rattle.buffers.proofs.Stores.{number-stored}
 use Rattle.file_buffers.proofs.Fronts.{numbers-stored}
@@ -11,6 +10,6 @@ returns c =
     let a = c.args in
     let p = c.requires in (
       number-stored a.order.now p.1 (read_i64 _ (omega (arith, p.0))) c.store_signed.ensures,
-      number-stored a.limit.now p.2 (clean_element a.problem.constraint.limit c.struct_told-1.given.1.1.1.1.0.1) c.store_signed-2.ensures,
+      number-stored a.limit.now p.2 (clean_element a.problem.constraint.limit (omega arith)) c.store_signed-2.ensures,
       c.store_numbers.ensures ∙ numbers-stored p.3,
     )

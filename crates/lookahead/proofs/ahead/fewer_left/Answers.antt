@@ -2,7 +2,7 @@
 use mathlib.Core.Path.{◌≡◌}
 use native.Mathlib.Numerals.{add-one}
 use native.Mathlib.Omega.{arith}
-use Rattle.integers.proofs.Machine.{clean, clean_result, clean_element}
+use Rattle.integers.proofs.Machine.{clean, clean_element}
 use Rattle.lookahead.specs.LeastSums.{least_shares}
 use Rattle.lookahead.proofs.LeastSums.{first_small, shares_least, open_last, raise_small}
 use Rattle.lookahead.proofs.ahead.fewer_left.Goals as goal

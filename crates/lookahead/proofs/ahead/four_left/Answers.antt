@@ -1,7 +1,7 @@
 -- The shares of the entries give the least sum.
 use native.Mathlib.Numerals.{add-one}
 use native.Mathlib.Omega.{arith}
-use Rattle.integers.proofs.Machine.{clean, clean_result, clean_element}
+use Rattle.integers.proofs.Machine.{clean, clean_element}
 use Rattle.lookahead.proofs.LeastSums.{shares_least, open_last, raise_small}
 use Rattle.lookahead.proofs.ahead.four_left.Goals as goal
 

@@ -1,7 +1,7 @@
 -- By the least sum, where few entries are left.
 use mathlib.Core.Path.{◌≡◌}
 use native.Mathlib.Omega.{arith}
-use Rattle.integers.proofs.Machine.{clean, clean_result, clean_element}
+use Rattle.integers.proofs.Machine.{clean, clean_element}
 use Rattle.lookahead.specs.LeastSums.{look_ahead}
 use Rattle.lookahead.proofs.Sizes.{sum-within}
 use Rattle.lookahead.proofs.LeastSums.{many-left, few_left}

@@ -6,7 +6,6 @@ use Rattle.integers.proofs.Machine.{clean_element}
 use Rattle.lookahead.specs.Pairs.{pairs_room}
 use Rattle.lookahead.proofs.Sizes.{row_inside, row_at}
 use Rattle.lookahead.proofs.ahead.row_entry.Lts as lts
-use Rattle.lookahead.proofs.ahead.row_entry.Tie as tie
 use Rattle.lookahead.proofs.ahead.row_entry.Reads as reads
 use Rattle.lookahead.proofs.ahead.row_entry.Goals as goal
 

@@ -1,6 +1,5 @@
 -- The sums of the entry and of those after it.
-use borrow.Author.Rules.{rules}
-use Rattle.integers.proofs.Machine.{clean, clean_result, clean_element}
+use Rattle.integers.proofs.Machine.{clean, clean_element}
 use Rattle.lookahead.specs.LeastSums.{least_choice}
 use Rattle.lookahead.proofs.LeastSums.{sum_fits, sum_is}
 use Rattle.lookahead.proofs.least.least_choice.Goals as goal

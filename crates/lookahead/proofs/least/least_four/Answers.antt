@@ -2,8 +2,7 @@
 use mathlib.Core.Path.{◌∙◌}
 use native.Mathlib.Numerals.{add-one}
 use native.Mathlib.Omega.{arith}
-use borrow.Author.Rules.{rules}
-use Rattle.integers.proofs.Machine.{clean, clean_result, clean_element}
+use Rattle.integers.proofs.Machine.{clean, clean_element}
 use Rattle.lookahead.specs.LeastSums.{shares_after}
 use Rattle.lookahead.proofs.LeastSums.{last_zero, last_one, last-minus-one, first_small, choice_small, choice_is}
 use Rattle.lookahead.proofs.least.least_four.Goals as goal

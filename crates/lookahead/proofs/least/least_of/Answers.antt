@@ -1,7 +1,6 @@
 -- The smaller of the first two, and of it and the third.
 use mathlib.Core.Path.{refl}
-use borrow.Author.Rules.{rules}
-use Rattle.integers.proofs.Machine.{clean, clean_result, clean_element}
+use Rattle.integers.proofs.Machine.{clean, clean_element}
 use Rattle.lookahead.specs.LeastSums.{least_of}
 use Rattle.lookahead.proofs.least.least_of.Goals as goal
 

@@ -1,7 +1,6 @@
 -- The least of three.
 use native.Mathlib.Omega.{arith}
-use borrow.Author.Rules.{rules}
-use Rattle.integers.proofs.Machine.{clean, clean_result, fits_within, clean_element}
+use Rattle.integers.proofs.Machine.{clean, fits_within, clean_element}
 use Rattle.lookahead.specs.LeastSums.{least_one}
 use Rattle.lookahead.proofs.least.least_one.Goals as goal
 

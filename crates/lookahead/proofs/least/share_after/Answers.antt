@@ -1,6 +1,5 @@
 -- Two sums.
 use native.Mathlib.Omega.{arith}
-use borrow.Author.Rules.{rules}
 use Rattle.integers.proofs.Machine.{within_more}
 use Rattle.lookahead.specs.LeastSums.{share_after}
 use Rattle.lookahead.proofs.Sizes.{row_small}

@@ -1,7 +1,6 @@
 -- By the answer.
 use Prim.Native.Nat.{◌+◌}
 use native.Mathlib.Omega.{arith}
-use borrow.Author.Rules.{rules}
 use Rattle.enclosure.specs.Stating.{stated}
 use Rattle.text.specs.Text.{ascii, lines}
 use Rattle.text.proofs.Puts.{put-within}

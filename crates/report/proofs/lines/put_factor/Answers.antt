@@ -3,12 +3,10 @@ use mathlib.Core.List.{◌++◌}
 use Prim.Native.Nat.{ℕ, ◌*◌, ◌≤◌}
 use native.Mathlib.Nat.{mul-le-mul}
 use native.Mathlib.Omega.{arith}
-use borrow.Author.Rules.{rules}
 use mir.Syntax.{w64}
 use mir.Val.{to_z, of_z}
 use Rattle.integers.proofs.Machine.{clean}
 use Rattle.tables.specs.Ranges.{greatest_order}
-use Rattle.tables.proofs.Matrix.{table_fits}
 use Rattle.text.specs.Text.{ascii, line_room, numbers, line, lines}
 use Rattle.text.proofs.Puts.{put-within, put_room, put_then}
 use Rattle.text.proofs.SameLines.{first-lines}
@@ -18,18 +16,6 @@ use Rattle.report.proofs.lines.put_factor.Goals as goal
 -- the rows of the greatest order take up most
 rows_room : {n : ℕ} → n ≤ greatest_order → n * line_room 3 n ≤ greatest_order * line_room 3 greatest_order
 rows_room {n} h = let l : line_room 3 n ≤ line_room 3 greatest_order = omega arith in mul-le-mul h l
-
-pub slice_bounds-put_line-end-2 : goal.slice_bounds-put_line-end-2
-slice_bounds-put_line-end-2 c =
-    let p = c.requires in
-    (put_room c.put_text-rows.ensures _ (omega (arith, rows_room p.0, p.2)), omega (arith, table_fits p.0, p.1))
-
--- 'definite' and the rows leave room for a line
-pub shape_of-out : goal.shape_of-out
-shape_of-out c =
-    let rows = lines (ascii "row") c.args.f.now c.args.n c.args.n in
-    let both = put_then c.put_text-rows.ensures {s = rows} (omega (arith, c.requires.2)) c.put_lines-next.ensures in
-    (put_room both _ (omega (arith, rows_room c.requires.0, c.requires.2)), omega arith)
 
 pub returns : goal.returns
 unfolding verdict_text line numbers

@@ -1,6 +1,5 @@
 -- By the verdict.
-use native.Mathlib.Omega.{arith}
-use borrow.Author.Rules.{rules}
+use Rattle.std.proofs.Common.{arith}
 use Rattle.integers.proofs.Machine.{clean_element}
 use Rattle.verdict.specs.Deciding.{stated}
 use Rattle.text.proofs.Puts.{put-within}
@@ -9,9 +8,7 @@ use Rattle.report.proofs.lines.put_verdict.Goals as goal
 
 pub returns-in-Definite : goal.returns-in-Definite
 unfolding stated verdict_text
-returns-in-Definite c =
-    let v = c.verdict-1.given in
-    rw (v.1, ← clean_element v.0.0 c.known_told-1.given.0.1) c.put_factor.ensures
+returns-in-Definite c = rw (c.in-Definite.is, ← clean_element c.in-Definite.over (omega arith)) c.put_factor.ensures
 
 pub returns-in-NotDefinite : goal.returns-in-NotDefinite
 unfolding stated verdict_text

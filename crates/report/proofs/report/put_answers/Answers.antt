@@ -1,5 +1,4 @@
 use native.Mathlib.Omega.{arith}
-use borrow.Author.Rules.{rules}
 use Rattle.verdict.specs.Deciding.{stated}
 use Rattle.text.proofs.Puts.{put-within, put_then}
 use Rattle.report.specs.Lines.{verdict_text}

@@ -5,7 +5,7 @@ use lib.Signed.{le_z}
 use mir.Syntax.{w64}
 use mir.Val.{to_z, of_z}
 use Rattle.integers.proofs.Parts.{le_z_true, le_z_false}
-use Rattle.integers.proofs.Machine.{clean_result, lt_holds, lt_fails, clean_element}
+use Rattle.integers.proofs.Machine.{lt_holds, lt_fails, clean_element}
 use Rattle.tables.specs.Matrix.{at}
 use Rattle.tables.proofs.Checks.{call_false, call_true, first_passes, first-refuses, first-none}
 use Rattle.tables.proofs.Answers.{after-refused, after-passed}
@@ -13,7 +13,6 @@ use Rattle.tables.specs.declared.Refusal.TheVariants.{Factor}
 use Rattle.residual.specs.Residual.{over}
 use Rattle.residual.specs.FactorTest.{factor_shape, tested, factor_answer}
 use Rattle.residual.specs.declared.factor_test.FactorAnswer.{FactorAnswer}
-use Rattle.residual.specs.declared.factor_test.FactorAnswer.TheVariants as FactorAnswer
 use Rattle.residual.specs.Scratch.{Offer}
 use Rattle.residual.proofs.Meaning.{accepts-over}
 use Rattle.residual.proofs.factor_test.answer.Lts as lts

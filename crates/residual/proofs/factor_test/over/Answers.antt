@@ -1,7 +1,6 @@
 use mathlib.Core.Path.{◌∙◌}
 use native.Mathlib.Omega.{arith}
-use borrow.Author.Rules.{rules}
-use Rattle.integers.proofs.Machine.{clean_result, clean_element}
+use Rattle.integers.proofs.Machine.{clean_element}
 use Rattle.residual.proofs.Worked.{residue, least-over}
 use Rattle.residual.proofs.factor_test.over.Goals as goal
 

@@ -1,7 +1,6 @@
 use mathlib.Core.Path.{◌≡◌, refl, sym, ◌∙◌}
 use mathlib.Core.Bool.{true}
 use native.Mathlib.Omega.{arith}
-use borrow.Author.Rules.{rules}
 use lib.ListN.{length}
 use Rattle.integers.proofs.Machine.{clean}
 use Rattle.tables.specs.Checks.{order_of}
@@ -11,7 +10,6 @@ use Rattle.tables.proofs.Answers.{exactly}
 use Rattle.tables.proofs.Admission.{order_fits, order-positive, no-order, came-through, entered-refused, entered-passed}
 use Rattle.residual.specs.FactorTest.{factor_sizes, factor_tested, factor_test, Meaning}
 use Rattle.residual.specs.declared.factor_test.FactorAnswer.{FactorAnswer}
-use Rattle.residual.specs.declared.factor_test.FactorAnswer.TheVariants as FactorAnswer
 use Rattle.residual.proofs.Meaning.{tested-means}
 use Rattle.residual.proofs.factor_test.test_factor.Lts as lts
 use Rattle.residual.proofs.factor_test.test_factor.Tie as tie

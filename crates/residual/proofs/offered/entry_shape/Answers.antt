@@ -1,6 +1,5 @@
 use mathlib.Core.Path.{sym, ◌∙◌}
 use native.Mathlib.Omega.{arith}
-use borrow.Author.Rules.{rules}
 use Rattle.integers.proofs.Machine.{clean, lt_yes, lt_no, fits_literal}
 use Rattle.residual.proofs.OfferedFactor.{factor-entry-above, factor-entry-low, factor-entry-high, factor-entry-below, zero_test}
 use Rattle.residual.proofs.offered.entry_shape.Goals as goal

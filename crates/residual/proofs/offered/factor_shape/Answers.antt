@@ -1,11 +1,7 @@
 use mathlib.Core.Path.{◌≡◌, sym}
-use mathlib.Core.Bool.{true}
-use Prim.Native.Nat.{◌-◌, ◌≤◌}
 use native.Mathlib.Omega.{arith}
-use Rattle.tables.specs.Matrix.{at}
-use Rattle.tables.specs.Checks.{all}
 use Rattle.tables.proofs.Checks.{all_none, all_more, all_false, call_false, call_true}
-use Rattle.residual.specs.FactorTest.{factor_entry, factor_shape}
+use Rattle.residual.specs.FactorTest.{factor_shape}
 use Rattle.residual.proofs.offered.factor_shape.Goals as goal
 
 pub loop-i-init : goal.loop-i-init

@@ -1,12 +1,10 @@
 -- The loop's invariant: the first i rows have their shape. The measure is how many are left.
-use mathlib.Core.Path.{◌≡◌, sym}
+use mathlib.Core.Path.{◌≡◌}
 use mathlib.Core.Bool.{true}
 use Prim.Native.Nat.{◌-◌, ◌≤◌}
-use native.Mathlib.Omega.{arith}
 use Rattle.tables.specs.Matrix.{at}
 use Rattle.tables.specs.Checks.{all}
-use Rattle.tables.proofs.Checks.{all_none, all_more, all_false, call_false, call_true}
-use Rattle.residual.specs.FactorTest.{factor_entry, factor_shape}
+use Rattle.residual.specs.FactorTest.{factor_entry}
 use Rattle.residual.proofs.offered.factor_shape.Given as goal
 
 abbrev pub invariant-loop-i : goal.invariant-loop-i

@@ -1,15 +1,11 @@
 use mathlib.Core.Path.{◌≡◌, sym}
-use mathlib.Core.Bool.{true}
-use Prim.Native.Nat.{◌+◌, ◌*◌, ◌-◌, ◌≤◌, ◌<◌}
+use Prim.Native.Nat.{◌+◌, ◌*◌, ◌≤◌, ◌<◌}
 use native.Mathlib.Omega.{arith}
-use borrow.Author.Rules.{rules}
 use Rattle.integers.proofs.Machine.{clean_element}
 use Rattle.tables.specs.Ranges.{table_room}
 use Rattle.tables.specs.Matrix.{at}
-use Rattle.tables.specs.Checks.{all}
 use Rattle.tables.proofs.Matrix.{inside, table_fits}
 use Rattle.tables.proofs.Checks.{all_none, all_more, all_false, call_false, call_true}
-use Rattle.residual.specs.FactorTest.{factor_entry}
 use Rattle.residual.proofs.offered.row_shape.Lts as lts
 use Rattle.residual.proofs.offered.row_shape.Tie as tie
 use Rattle.residual.proofs.offered.row_shape.Reads as reads

@@ -1,15 +1,9 @@
 -- The loop's invariant: the first j entries of row i have their shape. The measure is how many are left.
-use mathlib.Core.Path.{◌≡◌, sym}
+use mathlib.Core.Path.{◌≡◌}
 use mathlib.Core.Bool.{true}
-use Prim.Native.Nat.{◌+◌, ◌*◌, ◌-◌, ◌≤◌, ◌<◌}
-use native.Mathlib.Omega.{arith}
-use borrow.Author.Rules.{rules}
-use Rattle.integers.proofs.Machine.{clean_element}
-use Rattle.tables.specs.Ranges.{table_room}
+use Prim.Native.Nat.{◌-◌, ◌≤◌}
 use Rattle.tables.specs.Matrix.{at}
 use Rattle.tables.specs.Checks.{all}
-use Rattle.tables.proofs.Matrix.{inside, table_fits}
-use Rattle.tables.proofs.Checks.{all_none, all_more, all_false, call_false, call_true}
 use Rattle.residual.specs.FactorTest.{factor_entry}
 use Rattle.residual.proofs.offered.row_shape.Given as goal
 

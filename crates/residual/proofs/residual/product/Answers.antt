@@ -1,14 +1,9 @@
 use mathlib.Core.Path.{◌≡◌, sym, ◌∙◌}
-use Prim.Native.Nat.{suc, ◌-◌, ◌≤◌}
+use Prim.Native.Nat.{suc}
 use native.Mathlib.Omega.{arith}
 use native.Mathlib.Numerals.{add-one}
-use lib.IntN.{◌*ℤ◌}
-use mir.Syntax.{w64}
-use mir.Val.{to_z}
-use Rattle.integers.specs.Sum.{sum}
-use Rattle.integers.proofs.Machine.{clean, clean_result, clean_element}
+use Rattle.integers.proofs.Machine.{clean, clean_element}
 use Rattle.integers.proofs.Sums.{sum_zero, sum_suc}
-use Rattle.tables.specs.Matrix.{at}
 use Rattle.residual.specs.Scratch.{gram_at}
 use Rattle.residual.proofs.Sizes.{product_fits, products_fit}
 use Rattle.residual.proofs.residual.product.Goals as goal

@@ -1,4 +1,3 @@
-use borrow.Author.Rules.{rules}
 use borrow.Author.Tests.{eq-eqb, ne_eqb}
 use Rattle.residual.specs.ResidualAct.{residual_sizes}
 use Rattle.residual.proofs.residual.sizes_ok.Goals as goal

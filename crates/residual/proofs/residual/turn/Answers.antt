@@ -1,10 +1,8 @@
 use mathlib.Core.Path.{◌≡◌}
-use Prim.Native.Nat.{◌-◌, ◌≤◌}
 use native.Mathlib.Omega.{arith}
 use native.Mathlib.Numerals.{add-one}
 use Rattle.tables.specs.Matrix.{Matrix, at}
 use Rattle.tables.proofs.CheckedTables.{low-within, high-within}
-use Rattle.residual.specs.Scratch.{turned}
 use Rattle.residual.proofs.Turned.{columns-none, columns-more, columns_unturned}
 use Rattle.residual.proofs.residual.turn.Lts as lts
 use Rattle.residual.proofs.residual.turn.Tie as tie

@@ -1,12 +1,8 @@
 -- The loop's invariant: the columns before j are turned.
 use mathlib.Core.Path.{◌≡◌}
 use Prim.Native.Nat.{◌-◌, ◌≤◌}
-use native.Mathlib.Omega.{arith}
-use native.Mathlib.Numerals.{add-one}
-use Rattle.tables.specs.Matrix.{Matrix, at}
-use Rattle.tables.proofs.CheckedTables.{low-within, high-within}
+use Rattle.tables.specs.Matrix.{at}
 use Rattle.residual.specs.Scratch.{turned}
-use Rattle.residual.proofs.Turned.{columns-none, columns-more, columns_unturned}
 use Rattle.residual.proofs.residual.turn.Given as goal
 
 abbrev pub invariant-loop-j : goal.invariant-loop-j

@@ -1,10 +1,9 @@
 use mathlib.Core.Path.{◌≡◌}
-use Prim.Native.Nat.{suc, ◌-◌, ◌≤◌}
+use Prim.Native.Nat.{suc}
 use native.Mathlib.Omega.{arith}
 use native.Mathlib.Numerals.{add-one}
-use Rattle.integers.proofs.Machine.{clean_result, clean_element}
+use Rattle.integers.proofs.Machine.{clean_element}
 use Rattle.tables.specs.Matrix.{Matrix, at}
-use Rattle.residual.specs.Scratch.{turned_column}
 use Rattle.residual.proofs.Sizes.{gram-within}
 use Rattle.residual.proofs.Turned.{column_none, column_more, column_unturned}
 use Rattle.residual.proofs.residual.turn_column.Lts as lts

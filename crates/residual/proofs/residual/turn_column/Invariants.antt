@@ -1,13 +1,8 @@
 -- The loop's invariant: the pairs before i are turned.
 use mathlib.Core.Path.{◌≡◌}
 use Prim.Native.Nat.{suc, ◌-◌, ◌≤◌}
-use native.Mathlib.Omega.{arith}
-use native.Mathlib.Numerals.{add-one}
-use Rattle.integers.proofs.Machine.{clean_result}
-use Rattle.tables.specs.Matrix.{Matrix, at}
+use Rattle.tables.specs.Matrix.{at}
 use Rattle.residual.specs.Scratch.{turned_column}
-use Rattle.residual.proofs.Sizes.{gram-within}
-use Rattle.residual.proofs.Turned.{column_none, column_more, column_unturned}
 use Rattle.residual.proofs.residual.turn_column.Given as goal
 
 abbrev pub invariant-loop-i : goal.invariant-loop-i

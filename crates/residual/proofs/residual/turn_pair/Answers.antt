@@ -1,5 +1,4 @@
-use mathlib.Core.Path.{◌∙◌}
-use Prim.Native.Nat.{◌+◌, ◌*◌, ◌≤◌, ◌<◌}
+use Prim.Native.Nat.{◌+◌, ◌*◌, ◌<◌}
 use native.Mathlib.Omega.{arith}
 use Rattle.integers.proofs.Machine.{clean, clean_element}
 use Rattle.tables.specs.Ranges.{table_room}
@@ -7,7 +6,6 @@ use Rattle.tables.specs.Matrix.{at}
 use Rattle.tables.proofs.Matrix.{inside, table_fits}
 use Rattle.residual.proofs.Sizes.{scaled_fits, residual_fits}
 use Rattle.residual.proofs.residual.turn_pair.Lts as lts
-use Rattle.residual.proofs.residual.turn_pair.Tie as tie
 use Rattle.residual.proofs.residual.turn_pair.Reads as reads
 use Rattle.residual.proofs.residual.turn_pair.Goals as goal
 

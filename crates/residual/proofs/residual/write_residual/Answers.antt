@@ -1,17 +1,14 @@
 use mathlib.Core.Path.{◌≡◌, sym, ap, ◌∙◌}
 use mathlib.Core.Bool.{true, false, false≢true}
-use mathlib.Core.Logic.{⊎_elim}
 use Prim.Native.Nat.{◌*◌, ◌≤◌}
 use mathlib.Core.List.{◌++◌}
 use lib.ListN.{length, take, drop}
 use native.Mathlib.Omega.{arith}
-use borrow.Author.Rules.{rules}
 use Rattle.tables.specs.Matrix.{at, table}
 use Rattle.tables.proofs.Checks.{first_passes, first-refuses, first-none}
 use Rattle.tables.proofs.Matrix.{table_fits}
 use Rattle.tables.proofs.Answers.{after-refused, after-passed}
 use Rattle.residual.specs.Residual.{residual}
-use Rattle.residual.specs.FactorTest.{factor_shape}
 use Rattle.residual.specs.ResidualAct.{kept, tabled}
 use Rattle.residual.specs.Scratch.{Offer}
 use Rattle.residual.proofs.Worked.{low-size, high-size, low-table, high-table}

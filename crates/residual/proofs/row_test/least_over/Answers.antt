@@ -1,6 +1,4 @@
 use mathlib.Core.Path.{◌≡◌, ◌∙◌}
-use mathlib.Core.Logic.{⊎_elim}
-use Prim.Native.Nat.{◌-◌, ◌≤◌}
 use native.Mathlib.Omega.{arith}
 use native.Mathlib.Numerals.{add-one}
 use lib.IntN.{ℤ}
@@ -8,7 +6,7 @@ use mir.Syntax.{w64}
 use mir.Val.{to_z}
 use Rattle.integers.specs.Numbers.{min_ℤ}
 use Rattle.integers.proofs.Parts.{le_z_true, le_z_false}
-use Rattle.integers.proofs.Machine.{clean_result, lt_holds, lt_fails, clean_element}
+use Rattle.integers.proofs.Machine.{lt_holds, lt_fails, clean_element}
 use Rattle.integers.proofs.Extremes.{min_first, min_second}
 use Rattle.tables.specs.Matrix.{at}
 use Rattle.residual.specs.Residual.{row_over}

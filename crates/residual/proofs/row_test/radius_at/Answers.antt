@@ -2,7 +2,7 @@ use mathlib.Core.Path.{◌∙◌}
 use Prim.Native.Nat.{◌+◌, ◌*◌, ◌<◌}
 use native.Mathlib.Omega.{arith}
 use lib.IntN.{ℤ}
-use Rattle.integers.proofs.Machine.{clean_element, clean_result}
+use Rattle.integers.proofs.Machine.{clean_element}
 use Rattle.tables.specs.Ranges.{table_room}
 use Rattle.tables.specs.Matrix.{nth, at}
 use Rattle.tables.proofs.Matrix.{inside, table_fits}

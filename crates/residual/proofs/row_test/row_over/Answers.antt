@@ -1,14 +1,12 @@
 use mathlib.Core.Path.{◌≡◌, ◌∙◌}
-use Prim.Native.Nat.{◌+◌, ◌*◌, ◌-◌, ◌≤◌, ◌<◌}
+use Prim.Native.Nat.{◌+◌, ◌*◌, ◌<◌}
 use native.Mathlib.Omega.{arith}
 use native.Mathlib.Numerals.{add-one}
-use mir.Syntax.{w64}
-use mir.Val.{to_z}
-use Rattle.integers.proofs.Machine.{clean, clean_element, clean_result}
+use Rattle.integers.proofs.Machine.{clean, clean_element}
 use Rattle.tables.specs.Ranges.{table_room}
 use Rattle.tables.specs.Matrix.{at}
 use Rattle.tables.proofs.Matrix.{inside, table_fits}
-use Rattle.residual.proofs.Rows.{left, left-none, left-more, left-all, first_fits, left_fits}
+use Rattle.residual.proofs.Rows.{left-none, left-more, left-all, first_fits, left_fits}
 use Rattle.residual.proofs.row_test.row_over.Lts as lts
 use Rattle.residual.proofs.row_test.row_over.Tie as tie
 use Rattle.residual.proofs.row_test.row_over.Reads as reads

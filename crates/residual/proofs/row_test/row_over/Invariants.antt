@@ -1,15 +1,8 @@
 -- The loop's invariant: what is left of the row after the radii of the columns before j.
-use mathlib.Core.Path.{◌≡◌, ◌∙◌}
-use Prim.Native.Nat.{◌+◌, ◌*◌, ◌-◌, ◌≤◌, ◌<◌}
-use native.Mathlib.Omega.{arith}
-use native.Mathlib.Numerals.{add-one}
-use mir.Syntax.{w64}
-use mir.Val.{to_z}
-use Rattle.integers.proofs.Machine.{clean, clean_element, clean_result}
-use Rattle.tables.specs.Ranges.{table_room}
+use mathlib.Core.Path.{◌≡◌}
+use Prim.Native.Nat.{◌-◌, ◌≤◌}
 use Rattle.tables.specs.Matrix.{at}
-use Rattle.tables.proofs.Matrix.{inside, table_fits}
-use Rattle.residual.proofs.Rows.{left, left-none, left-more, left-all, first_fits, left_fits}
+use Rattle.residual.proofs.Rows.{left}
 use Rattle.residual.proofs.row_test.row_over.Given as goal
 
 abbrev pub invariant-loop-j : goal.invariant-loop-j

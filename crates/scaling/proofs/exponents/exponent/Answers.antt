@@ -1,10 +1,7 @@
 use mathlib.Core.Path.{◌≡◌, refl, sym, ◌∙◌}
-use Prim.Native.Nat.{◌≤◌}
 use native.Mathlib.Omega.{arith}
-use mir.Syntax.{w64}
-use mir.Val.{to_z}
 use Rattle.integers.proofs.Machine.{clean}
-use Rattle.scaling.specs.Scaling.{greatest_exponent, greatest_of, stays_within, exponent}
+use Rattle.scaling.specs.Scaling.{exponent}
 use Rattle.scaling.proofs.Greatest.{greatest-none, greatest-found, greatest-passed}
 use Rattle.scaling.proofs.exponents.exponent.Goals as goal
 

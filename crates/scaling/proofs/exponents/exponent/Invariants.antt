@@ -1,12 +1,7 @@
 -- The loop's invariant: what is looked for is the greatest from 0 to k. The measure is k.
-use mathlib.Core.Path.{◌≡◌, refl, sym, ◌∙◌}
+use mathlib.Core.Path.{◌≡◌}
 use Prim.Native.Nat.{◌≤◌}
-use native.Mathlib.Omega.{arith}
-use mir.Syntax.{w64}
-use mir.Val.{to_z}
-use Rattle.integers.proofs.Machine.{clean}
 use Rattle.scaling.specs.Scaling.{greatest_exponent, greatest_of, stays_within, exponent}
-use Rattle.scaling.proofs.Greatest.{greatest-none, greatest-found, greatest-passed}
 use Rattle.scaling.proofs.exponents.exponent.Given as goal
 
 abbrev pub invariant-loop-k : goal.invariant-loop-k

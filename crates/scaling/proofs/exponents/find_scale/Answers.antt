@@ -1,5 +1,5 @@
-use mathlib.Core.Path.{◌≡◌, sym, ap, ◌∙◌}
-use Prim.Native.Nat.{◌+◌, ◌*◌, ◌-◌, ◌≤◌, ◌<◌}
+use mathlib.Core.Path.{◌≡◌, ap, ◌∙◌}
+use Prim.Native.Nat.{◌+◌, ◌*◌, ◌≤◌, ◌<◌}
 use native.Mathlib.Omega.{arith}
 use lib.IntN.{ℤ, pos}
 use mir.Syntax.{w64}
@@ -10,7 +10,6 @@ use Rattle.tables.specs.Matrix.{at}
 use Rattle.tables.proofs.Matrix.{inside, table_fits}
 use Rattle.tables.proofs.CheckedTables.{high-within}
 use Rattle.scaling.specs.Scaling.{exponent, exponents}
-use Rattle.scaling.specs.Scratch.{Scale}
 use Rattle.scaling.proofs.Greatest.{exponent_small}
 use Rattle.scaling.proofs.Scales.{scale-none, scale-more}
 use Rattle.scaling.proofs.exponents.find_scale.Lts as lts

@@ -1,11 +1,6 @@
-use mathlib.Core.Path.{◌≡◌, ◌∙◌}
-use Prim.Native.Nat.{◌*◌, ◌^◌}
+use Prim.Native.Nat.{◌*◌}
 use native.Mathlib.Omega.{arith}
-use borrow.Author.Rules.{rules}
-use lib.IntN.{pos, ◌*ℤ◌}
-use mir.Syntax.{w64}
-use mir.Val.{to_z, of_z}
-use Rattle.integers.proofs.Machine.{clean, clean_result, fits_within, fits_literal}
+use Rattle.integers.proofs.Machine.{clean, clean_result, fits_within}
 use Rattle.scaling.specs.Scaling.{stays_within}
 use Rattle.scaling.proofs.Powers.{four-power, times_power}
 use Rattle.scaling.proofs.exponents.stays_within.Goals as goal

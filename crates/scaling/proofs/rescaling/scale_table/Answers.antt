@@ -1,12 +1,8 @@
-use mathlib.Core.Path.{◌≡◌, refl, sym, ◌∙◌}
-use mathlib.Core.Bool.{false, false≢true}
-use Prim.Native.Nat.{suc, ◌+◌, ◌*◌, ◌-◌, ◌≤◌}
+use mathlib.Core.Path.{◌≡◌, refl, sym}
+use mathlib.Core.Bool.{false≢true}
+use Prim.Native.Nat.{suc, ◌+◌, ◌*◌}
 use native.Mathlib.Omega.{arith}
-use lib.ListN.{length}
-use Rattle.tables.specs.Ranges.{table_room}
-use Rattle.tables.specs.Matrix.{at}
 use Rattle.tables.proofs.Checks.{call_true, call_false}
-use Rattle.scaling.specs.Scratch.{scale_in, Part}
 use Rattle.scaling.proofs.Parts.{part_none, part_join, part_range, row_leaves, all_stay}
 use Rattle.scaling.proofs.rescaling.scale_table.Goals as goal
 

@@ -1,5 +1,4 @@
 use mathlib.Core.Path.{◌≡◌, refl, sym, ◌∙◌}
-use borrow.Author.Rules.{rules}
 use Rattle.integers.proofs.Machine.{clean}
 use Rattle.tables.specs.Checks.{first_refusal, order_of, entry_checks}
 use Rattle.tables.proofs.Checks.{no-more-checks}

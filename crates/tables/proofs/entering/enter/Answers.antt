@@ -1,5 +1,4 @@
 use mathlib.Core.Path.{◌≡◌}
-use borrow.Author.Rules.{rules}
 use Rattle.integers.proofs.Machine.{clean}
 use Rattle.tables.specs.Checks.{order_of}
 use Rattle.tables.proofs.Admission.{order_small, entered-laid}

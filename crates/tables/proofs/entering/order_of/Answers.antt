@@ -1,6 +1,5 @@
 use mathlib.Core.Path.{◌≡◌, sym, ◌∙◌}
 use mathlib.Core.Bool.{true}
-use borrow.Author.Rules.{rules}
 use Rattle.integers.proofs.Machine.{clean}
 use Rattle.tables.specs.Checks.{order_ok, order_of}
 use Rattle.tables.proofs.Checks.{order_usize}

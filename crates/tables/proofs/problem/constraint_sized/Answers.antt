@@ -1,4 +1,3 @@
-use borrow.Author.Rules.{rules}
 use Rattle.tables.specs.Problem.{constraint_sized}
 use Rattle.tables.proofs.problem.constraint_sized.Goals as goal
 

@@ -1,5 +1,4 @@
 use mathlib.Core.Path.{◌∙◌}
-use borrow.Author.Rules.{rules}
 use Rattle.integers.proofs.Machine.{clean, clean_element, clean_result}
 use Rattle.tables.specs.Matrix.{nth}
 use Rattle.vectors.specs.LeastShares.{least_pair}

@@ -1,9 +1,6 @@
 use mathlib.Core.Path.{◌≡◌, sym, ◌∙◌}
-use Prim.Native.Nat.{◌-◌, ◌≤◌}
 use native.Mathlib.Omega.{arith}
 use native.Mathlib.Numerals.{add-one}
-use mir.Syntax.{w64}
-use mir.Val.{to_z}
 use Rattle.integers.proofs.Machine.{clean, clean_result}
 use Rattle.integers.proofs.Sums.{sum_zero, sum_suc}
 use Rattle.vectors.specs.LeastShares.{least_row}

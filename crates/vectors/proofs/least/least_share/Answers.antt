@@ -1,5 +1,4 @@
 use mathlib.Core.Path.{sym, ◌∙◌}
-use borrow.Author.Rules.{rules}
 use Rattle.integers.proofs.Machine.{clean, clean_element, clean_result, fits_literal, same_bits}
 use Rattle.tables.proofs.CheckedTables.{low-within}
 use Rattle.vectors.specs.LeastShares.{least_share}

@@ -1,10 +1,7 @@
 use mathlib.Core.Path.{◌≡◌, sym, ap}
-use mathlib.Core.Bool.{true, not}
-use Prim.Native.Nat.{◌-◌, ◌≤◌}
+use mathlib.Core.Bool.{not}
 use native.Mathlib.Omega.{arith}
 use lib.IntN.{pos}
-use Rattle.tables.specs.Matrix.{nth}
-use Rattle.tables.specs.Checks.{all, same}
 use Rattle.tables.proofs.Checks.{all_none, all_more, all_false, read_same, read_differs}
 use Rattle.vectors.specs.Least.{nonzero}
 use Rattle.vectors.proofs.vector_test.nonzero.Goals as goal

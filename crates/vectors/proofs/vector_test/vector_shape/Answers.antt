@@ -1,5 +1,4 @@
 use mathlib.Core.Path.{sym}
-use borrow.Author.Rules.{rules}
 use Rattle.tables.specs.Checks.{all_within}
 use Rattle.tables.proofs.Checks.{call_false, call_true, and_first_false}
 use Rattle.vectors.specs.VectorTest.{vector_shape}

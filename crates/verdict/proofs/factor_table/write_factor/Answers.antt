@@ -18,7 +18,7 @@ pub overflow_add-i : goal.overflow_add-i
 overflow_add-i c = let p = c.requires in omega (arith, p.0, c.loop-i-test.true)
 
 pub loop-i-preserved : goal.loop-i-preserved
-loop-i-preserved c = let w = c.write_row in (omega arith, w.auto.1.1.1.0 ∙ c.loop-i.invariant.1, rw add-one w.ensures)
+loop-i-preserved c = let w = c.write_row in (omega arith, w.auto.factor ∙ c.loop-i.invariant.1, rw add-one w.ensures)
 
 pub shape_of-factor : goal.shape_of-factor
 shape_of-factor c = c.loop-i.invariant.1

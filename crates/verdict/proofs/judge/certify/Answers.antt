@@ -11,7 +11,7 @@ over-requires c =
     let w = c.write_factor in
     let p = c.requires in (
       record {
-        factor = record { order = p.0.order; size = omega (arith, p.4, w.auto.1.1.0); shape = factor_shaped _ _ _ _ _ p.3 w.ensures p.0.order p.0.bounds };
+        factor = record { order = p.0.order; size = omega (arith, p.4, w.auto.factor); shape = factor_shaped _ _ _ _ _ p.3 w.ensures p.0.order p.0.bounds };
         rooms = p.1;
         tables = p.0;
       },
@@ -19,7 +19,7 @@ over-requires c =
     )
 
 pub shape_of-factor : goal.shape_of-factor
-shape_of-factor c = c.write_factor.auto.1.1.0
+shape_of-factor c = c.write_factor.auto.factor
 
 pub returns : goal.returns
 returns c =

@@ -35,7 +35,7 @@ returns-in-Ends c =
     record {
       verdict = rw (clean_element c.certify.result c.certify.type_inv) c.certify.ensures;
       left = refl;
-      room = c.certify.auto.1.1.1.1.0;
+      room = c.certify.auto.factor;
       size = c.requires.4;
     }
 

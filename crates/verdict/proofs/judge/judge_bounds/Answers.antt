@@ -32,7 +32,8 @@ unfolding stated left_by
 returns-in-Definite c =
     let d = c.decide-verdict.ensures in
     let w = c.in-Definite.v in
-    rw (clean_element w c.known_told-1.given.0.1)
+    let k = rw c.in-Definite.is at c.decide-verdict.type_inv in
+    rw (clean_element w k.1.1.1.1.0.1)
     (ap (λ (t : List ℤ). record { verdict = Verdict.Definite w; factor = t; vector = c.args.vector.now }) (whole (d.room ∙ c.requires.3))
     ∙ made_of (given c.before.before.before.before.before.before.before) {g = of c.before.before.before.before.before.before.before} d (Verdict.Definite w) c.in-Definite.is)
 
