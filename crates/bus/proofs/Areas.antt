@@ -3,7 +3,7 @@
 --   area_of       an area of any bytes            area-read      the numbers that are read back
 --   area_set, area-laid, area-column              what a store of the module `area` leaves
 --   area-blank    an area of zeros                area-bytes     its length in bytes
-use mathlib.Core.Path.{◌≡◌, refl, sym, ap, ◌∙◌}
+use mathlib.Core.Path.{◌≡◌, refl, sym, ap, subst, ◌∙◌}
 use mathlib.Core.List.{List, [], ◌∷◌, ◌++◌, append_assoc, append-nil}
 use Prim.Native.Nat.{ℕ, zero, suc, ◌+◌, ◌*◌, ◌≤◌, ◌<◌}
 use native.Mathlib.Decide.{ℕ_discrete}
@@ -103,8 +103,9 @@ module _ (w : Width) where
       go : Dec (k ≡ n) → (k < n → bytes_of w (set r k v) n ≡ with_signed w (bytes_of w r n) (k * bytes w) v)
           → bytes_of w (set r k v) (suc n) ≡ with_signed w (bytes_of w r (suc n)) (k * bytes w) v
       go (yes e) f =
-          rw (e, set-behind r n n v (omega arith), get_or-set_same r n v (pos 0) (omega arith))
-          (sym (with_end (bytes_of w r n) last (n * bytes w) v (length-bytes_of w r n) (length-to_le_bytes _ _)))
+          subst (λ (z : ℕ). bytes_of w (set r z v) (suc n) ≡ with_signed w (bytes_of w r (suc n)) (z * bytes w) v) (sym e)
+          (rw (set-behind r n n v (omega arith), get_or-set_same r n v (pos 0) (omega arith))
+          (sym (with_end (bytes_of w r n) last (n * bytes w) v (length-bytes_of w r n) (length-to_le_bytes _ _))))
       go (no e) f =
           let l : k < n = omega (arith, h, e) in
           let room : suc k * bytes w ≤ n * bytes w = mul-le-mul_right (bytes w) l in

@@ -1,9 +1,8 @@
 -- W73 to W78, W80 to W82 and W84 to W88 of docs/RULES.md, computed on the definitions: a bus is shown by its registers 0 to 6.
 use mathlib.Core.Path.{◌≡◌, refl}
-use mathlib.Core.Bool.{true, false}
-use mathlib.Core.List.{List, [], ◌∷◌, ◌++◌}
-use Prim.Native.Nat.{ℕ, zero, suc}
-use lib.IntN.{ℤ, pos, negsuc}
+use mathlib.Core.List.{List, [], ◌∷◌}
+use Prim.Native.Nat.{ℕ}
+use lib.IntN.{ℤ, pos}
 use lib.ListN.{take}
 use Rattle.words.specs.Numbers.{numbers_of, bytes_of, signed_at, unsigned_at, from_le_bytes, to_le_bytes}
 use Rattle.integers.specs.Sum.{sum, only}
@@ -16,7 +15,7 @@ use Rattle.tables.specs.Checks.{all, same, first_refusal, order_ok, order_of, wi
 use Rattle.tables.specs.Answers.{after}
 use Rattle.tables.specs.Entering.{entered}
 use Rattle.tables.specs.declared.Refusal.TheVariants.{Length, Busy}
-use Rattle.tables.specs.declared.Checked.TheVariants.{Passed, Refused}
+use Rattle.tables.specs.declared.Checked.TheVariants.{Refused}
 use Rattle.cholesky.specs.Scale.{scaled_by, take_off}
 use Rattle.cholesky.specs.Factoring.{entries, next_entry, goes_on, rows, next_column}
 use Rattle.cholesky.specs.Store.{upper, column_of, columns_of}
@@ -25,7 +24,7 @@ use Rattle.tried.specs.Tried.{tried, first}
 use Rattle.solved.specs.Solved.{stopped_factor, solved_entry, solved_rows, solved}
 use Rattle.solved.specs.Stopped.{stopped_at}
 use Rattle.tables.specs.Matrix.{form}
-use Rattle.bus.specs.Registers.{writable, reset_block, read_at, put, is_busy, raised, cleared, started_block, refused_block, settled_block, is_raised}
+use Rattle.bus.specs.Registers.{writable, reset_block, put, is_busy, raised, cleared, started_block, refused_block, settled_block, is_raised}
 use Rattle.bus.specs.Area.{blank_area, blank_bytes, table_at, columns_to, laid_over, laid_column, laid_columns, begun_area}
 use Rattle.bus.specs.Running.{Bus, factor_columns, column_safe, passes, stop_safe, search_safe, column_work, search_work, work_at, work_of, settled, search_verdict, column_taken, listed_shows, worked}
 use Rattle.bus.specs.Bus.{tables_sized, refused_start, begun_start, started, start, reset_bus, commanded, written_at, written, ticked, bus_sized, where_sized, write, line}

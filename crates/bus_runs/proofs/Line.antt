@@ -33,8 +33,8 @@ some_bit (suc m) x h p =
     record { place = suc s.place; one = rw (pow-succ' 2 s.place, ← div-div-eq-div-mul x 2 (2 ^ s.place)) s.one })
 
 -- bit k of the two together
-bit_and : (x y k : ℕ) → bit_and x y / 2 ^ k % 2 ≡ min (x / 2 ^ k % 2) (y / 2 ^ k % 2)
-bit_and x y k = rw (and_shr x y k) (omega (arith, and_step (x / 2 ^ k) (y / 2 ^ k)))
+bit_of_and : (x y k : ℕ) → bit_and x y / 2 ^ k % 2 ≡ min (x / 2 ^ k % 2) (y / 2 ^ k % 2)
+bit_of_and x y k = rw (and_shr x y k) (omega (arith, and_step (x / 2 ^ k) (y / 2 ^ k)))
 
 raised_bit : (b : List ℕ) → is_raised b ≡ true → CommonBit (register b flags) (register b mask)
 unfolding is_raised
@@ -42,14 +42,14 @@ raised_bit b e =
     let x = bit_and (register b flags) (register b mask) in
     let some : x ≡ 0 → ⊥ = eqb-false x 0 (not-true _ e) in
     let s = some_bit x x (omega arith) (omega arith) in
-    let both = bit_and (register b flags) (register b mask) s.place in
+    let both = bit_of_and (register b flags) (register b mask) s.place in
     record { place = s.place; first = omega (arith, s.one); second = omega (arith, s.one) }
 
 bit_raised : (b : List ℕ) → CommonBit (register b flags) (register b mask) → is_raised b ≡ true
 unfolding is_raised
 bit_raised b c =
     let x = bit_and (register b flags) (register b mask) in
-    let both = bit_and (register b flags) (register b mask) c.place in
+    let both = bit_of_and (register b flags) (register b mask) c.place in
     let none : x ≡ 0 → x / 2 ^ c.place ≡ 0 = λ e. rw e (zero-div (2 ^ c.place)) in
     ap not (ne_eqb x 0 (λ e. absurd (omega (arith, none e, c.first, c.second))))
 

@@ -1,4 +1,3 @@
-use borrow.Author.Rules.{rules}
 use borrow.Author.Tests.{eq-eqb, ne_eqb}
 use Rattle.bus.specs.Bus.{reset_bus, commanded}
 use Rattle.bus.proofs.acts.obey.Goals as goal

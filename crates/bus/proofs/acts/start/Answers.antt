@@ -1,5 +1,4 @@
 use mathlib.Core.Path.{ap}
-use borrow.Author.Rules.{rules}
 use Rattle.tables.specs.declared.Checked.TheVariants.{Passed}
 use Rattle.bus.specs.Running.{Bus}
 use Rattle.bus.specs.Bus.{Moved, start}

@@ -1,4 +1,3 @@
-use borrow.Author.Rules.{rules}
 use borrow.Author.Tests.{eq-eqb, ne_eqb}
 use Rattle.bus.specs.Bus.{written_at}
 use Rattle.bus.proofs.acts.write_at.Goals as goal

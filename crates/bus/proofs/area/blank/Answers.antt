@@ -1,13 +1,10 @@
 use mathlib.Core.Path.{◌≡◌, refl, ◌∙◌}
-use mathlib.Core.List.{◌++◌}
-use Prim.Native.Nat.{◌-◌, ◌≤◌}
 use native.Mathlib.Omega.{arith}
-use lib.ListN.{length, drop, replicate}
+use lib.ListN.{length, replicate}
 use Rattle.words.proofs.Lists.{append-drop_end}
 use Rattle.bus.specs.Area.{run_bytes, blank_bytes}
 use Rattle.bus.proofs.Filling.{length-filled, fill_more}
 use Rattle.bus.proofs.area.blank.Lts as lts
-use Rattle.bus.proofs.area.blank.Tie as tie
 use Rattle.bus.proofs.area.blank.Reads as reads
 use Rattle.bus.proofs.area.blank.Goals as goal
 

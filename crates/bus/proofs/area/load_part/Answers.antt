@@ -1,10 +1,10 @@
 use mathlib.Core.Path.{◌≡◌, refl, sym, ◌∙◌}
-use mathlib.Core.List.{List, ◌++◌}
-use Prim.Native.Nat.{ℕ, ◌+◌, ◌-◌, ◌≤◌}
+use mathlib.Core.List.{List}
+use Prim.Native.Nat.{ℕ, ◌+◌, ◌-◌}
 use native.Mathlib.Numerals.{add-one}
 use native.Mathlib.Omega.{arith}
 use lib.IntN.{pos}
-use lib.ListN.{length, take, drop, length-drop}
+use lib.ListN.{length, drop, length-drop}
 use lib.Seq.{get_or-drop}
 use mir.Syntax.{w64}
 use Rattle.integers.proofs.Machine.{clean_result}
@@ -35,9 +35,6 @@ loop-i-init c = (omega arith, refl)
 pub load_signed-v-requires : goal.load_signed-v-requires
 load_signed-v-requires c = (refl, omega arith)
 
-pub bounds-out-i : goal.bounds-out-i
-bounds-out-i c = omega (arith, same c.before.before)
-
 pub loop-i-preserved : goal.loop-i-preserved
 loop-i-preserved c =
     let l = c.loop-i in
@@ -45,9 +42,6 @@ loop-i-preserved c =
     let x = drop a.first (area_of a.run.now) in
     let v = clean_result c.load_signed-v ∙ c.load_signed-v.ensures ∙ sym (get_or-drop a.first (area_of a.run.now) l.i (pos 0) ∙ nth-area a.run.now (a.first + l.i) (omega arith)) in
     (omega arith, rw (add-one, l.invariant.1, v) (copied_more x a.out.now l.i (omega (arith, long a.run.now a.first)) (omega arith)))
-
-pub shape_of-out : goal.shape_of-out
-shape_of-out c = same c.before
 
 pub returns : goal.returns
 returns c = let e : c.loop-i.i ≡ c.args.count = omega arith in rw e at c.loop-i.invariant.1

@@ -1,5 +1,4 @@
 use mathlib.Core.Path.{sym, ◌∙◌}
-use borrow.Author.Rules.{rules}
 use Rattle.integers.proofs.Machine.{clean_result}
 use Rattle.bus.proofs.Areas.{nth-area}
 use Rattle.bus.proofs.area.number_in.Goals as goal

@@ -1,5 +1,5 @@
 use mathlib.Core.Path.{◌≡◌, refl, sym, ◌∙◌}
-use Prim.Native.Nat.{◌+◌, ◌-◌, ◌*◌, ◌≤◌}
+use Prim.Native.Nat.{◌+◌, ◌*◌}
 use native.Mathlib.Numerals.{add-one}
 use native.Mathlib.Omega.{arith}
 use mir.Syntax.{w64}
@@ -9,14 +9,14 @@ use Rattle.tables.specs.Matrix.{tabulate}
 use Rattle.tables.proofs.Matrix.{length-tabulate}
 use Rattle.cholesky.specs.Store.{stride, upper, column_of}
 use Rattle.bus.specs.Area.{run_numbers, columns_at, area_of, laid_column}
-use Rattle.bus.proofs.Areas.{Area, area_of_lem, area_bytes_lem, area-more, laid_none}
+use Rattle.bus.proofs.Areas.{area_of_lem, area_bytes_lem, area-more, laid_none}
 use Rattle.bus.proofs.area.store_column.Goals as goal
 
 pub loop-i-init : goal.loop-i-init
 unfolding laid_column column_of upper tabulate
 loop-i-init c =
     let r = area_of c.args.run.now in
-    (omega arith, rw (laid_none r (columns_at + stride * c.args.j)) (area_of_lem (record { each = λ i. omega (arith, c.slice_known-1.given i) }) c.requires.0))
+    (omega arith, rw (laid_none r (columns_at + stride * c.args.j)) (area_of_lem (record { each = λ i. omega (arith, c.type_inv.run i) }) c.requires.0))
 
 pub store_signed-requires : goal.store_signed-requires
 unfolding laid_column column_of upper tabulate

@@ -1,6 +1,5 @@
 use mathlib.Core.Path.{◌∙◌}
 use native.Mathlib.Omega.{arith}
-use borrow.Author.Rules.{rules}
 use Rattle.integers.proofs.Machine.{clean}
 use Rattle.bus.proofs.Areas.{area_of_lem, area_store}
 use Rattle.bus.proofs.area.store_number.Goals as goal

@@ -1,5 +1,4 @@
 use mathlib.Core.Path.{◌≡◌, refl, sym, ◌∙◌}
-use Prim.Native.Nat.{◌-◌, ◌≤◌}
 use native.Mathlib.Numerals.{add-one}
 use native.Mathlib.Omega.{arith}
 use lib.IntN.{pos}
@@ -9,14 +8,14 @@ use mir.Syntax.{w64}
 use Rattle.integers.proofs.Machine.{clean_element}
 use Rattle.words.proofs.Laws.{length-numbers_of}
 use Rattle.tables.specs.Matrix.{nth}
-use Rattle.bus.specs.Area.{run_numbers, area_of, laid_over}
-use Rattle.bus.proofs.Areas.{Area, area_of_lem, area_bytes_lem, area-more, laid_none}
+use Rattle.bus.specs.Area.{run_numbers, area_of}
+use Rattle.bus.proofs.Areas.{area_of_lem, area_bytes_lem, area-more, laid_none}
 use Rattle.bus.proofs.area.store_part.Goals as goal
 
 pub loop-i-init : goal.loop-i-init
 loop-i-init c =
     let r = area_of c.args.run.now in
-    (omega arith, rw (laid_none r c.args.first) (area_of_lem (record { each = λ i. omega (arith, c.slice_known-1.given i) }) c.requires.0))
+    (omega arith, rw (laid_none r c.args.first) (area_of_lem (record { each = λ i. omega (arith, c.type_inv.run i) }) c.requires.0))
 
 pub store_signed-requires : goal.store_signed-requires
 store_signed-requires c = (refl, omega (arith, area_bytes_lem c.loop-i.invariant.1))

@@ -1,5 +1,4 @@
 use mathlib.Core.Path.{refl}
-use borrow.Author.Rules.{rules}
 use Rattle.bus.specs.Registers.{cleared}
 use Rattle.bus.proofs.registers.clear.Goals as goal
 

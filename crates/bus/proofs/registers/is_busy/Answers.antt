@@ -1,5 +1,4 @@
 use mathlib.Core.Path.{refl}
-use borrow.Author.Rules.{rules}
 use Rattle.bus.specs.Registers.{is_busy}
 use Rattle.bus.proofs.registers.is_busy.Goals as goal
 

@@ -1,5 +1,4 @@
 use mathlib.Core.Path.{refl}
-use borrow.Author.Rules.{rules}
 use Rattle.bus.specs.Registers.{is_raised}
 use Rattle.bus.proofs.registers.is_raised.Goals as goal
 

@@ -1,5 +1,4 @@
 use native.Mathlib.Omega.{arith}
-use borrow.Author.Rules.{rules}
 use lib.Bits.{bit_or}
 use lib.Seq.{get_or-set_other}
 use Rattle.bus.specs.Registers.{status, flags, register, raised}

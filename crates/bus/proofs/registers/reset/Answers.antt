@@ -1,8 +1,6 @@
 use mathlib.Core.Path.{◌≡◌, refl, ◌∙◌}
-use mathlib.Core.List.{◌++◌}
-use Prim.Native.Nat.{◌-◌, ◌≤◌}
 use native.Mathlib.Omega.{arith}
-use lib.ListN.{length, drop, replicate}
+use lib.ListN.{length, replicate}
 use Rattle.words.proofs.Lists.{append-drop_end}
 use Rattle.bus.specs.Registers.{block_bytes, reset_value, reset_block}
 use Rattle.bus.proofs.Filling.{length-filled, fill_more}

@@ -1,12 +1,9 @@
 -- The loop's invariant: the first k registers are reset.
-use mathlib.Core.Path.{◌≡◌, refl, ◌∙◌}
+use mathlib.Core.Path.{◌≡◌}
 use mathlib.Core.List.{◌++◌}
 use Prim.Native.Nat.{◌-◌, ◌≤◌}
-use native.Mathlib.Omega.{arith}
-use lib.ListN.{length, drop, replicate}
-use Rattle.words.proofs.Lists.{append-drop_end}
-use Rattle.bus.specs.Registers.{block_bytes, reset_value, reset_block}
-use Rattle.bus.proofs.Filling.{length-filled, fill_more}
+use lib.ListN.{drop, replicate}
+use Rattle.bus.specs.Registers.{block_bytes}
 use Rattle.bus.proofs.registers.reset.Given as goal
 
 abbrev pub invariant-loop-k : goal.invariant-loop-k

@@ -1,5 +1,4 @@
 use mathlib.Core.Path.{ap, ◌∙◌}
-use borrow.Author.Rules.{rules}
 use Rattle.bus.specs.Registers.{busy, raised, started_block}
 use Rattle.bus.proofs.registers.start.Goals as goal
 

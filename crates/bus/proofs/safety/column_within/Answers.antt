@@ -1,14 +1,8 @@
 use mathlib.Core.Path.{◌≡◌, sym}
-use mathlib.Core.Bool.{true}
-use Prim.Native.Nat.{◌+◌, ◌*◌, ◌-◌, ◌≤◌}
+use Prim.Native.Nat.{◌+◌, ◌*◌}
 use native.Mathlib.Omega.{arith}
-use lib.IntN.{nat_abs}
-use mir.Syntax.{w64}
-use mir.Val.{to_z}
-use borrow.Author.Tests.{not-true, not-false}
 use Rattle.integers.proofs.Machine.{clean, clean_element}
 use Rattle.tables.specs.Matrix.{nth}
-use Rattle.tables.specs.Checks.{all, within}
 use Rattle.tables.proofs.Checks.{all_none, all_more, all_false}
 use Rattle.cholesky.specs.Store.{stride, upper}
 use Rattle.bus.proofs.safety.column_within.Goals as goal
@@ -26,7 +20,7 @@ unfolding upper
 returns-then-not-within c =
     let l = c.loop-k in
     let x = clean_element (nth c.args.t.now (stride * c.args.j + l.k)) c.within-arg-1.given in
-    let t = not-true c.within.result c.if-not-within.true-raw in
+    let t = c.if-not-within.true in
     rw (← clean c.ranges.bound) (sym (all_false _ c.args.count l.k (omega arith) (cc (x, t))))
 
 pub loop-k-preserved : goal.loop-k-preserved
@@ -34,7 +28,7 @@ unfolding upper
 loop-k-preserved c =
     let l = c.loop-k in
     let x = clean_element (nth c.args.t.now (stride * c.args.j + l.k)) c.within-arg-1.given in
-    let t = not-false c.within.result c.if-not-within.false-raw in
+    let t = c.if-not-within.false in
     (omega arith, all_more _ l.k l.invariant.1 (cc (x, t)))
 
 pub returns : goal.returns

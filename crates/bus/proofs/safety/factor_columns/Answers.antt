@@ -1,13 +1,13 @@
-use mathlib.Core.Path.{◌≡◌, refl, sym}
+use mathlib.Core.Path.{◌≡◌, refl, sym, ◌∙◌}
 use mathlib.Core.Bool.{Bool, true, false, ◌&&◌}
-use Prim.Native.Nat.{suc, ◌-◌, ◌≤◌}
+use Prim.Native.Nat.{suc}
 use native.Mathlib.Omega.{arith}
 use native.Mathlib.Numerals.{add-one}
 use lib.IntN.{ℤ, pos}
 use Rattle.integers.proofs.Parts.{pos_nonneg}
 use Rattle.tables.specs.Ranges.{factor_range}
 use Rattle.tables.specs.Checks.{all, within}
-use Rattle.tables.proofs.Checks.{all_none, all_more, all_false, and_of, and_first_false, call_false, call_true, read_less, read_not_less}
+use Rattle.tables.proofs.Checks.{all_none, all_more, all_false, and_of, and_first_false, read_less, read_not_less}
 use Rattle.cholesky.specs.Store.{upper}
 use Rattle.bus.specs.Running.{factor_columns}
 use Rattle.bus.proofs.safety.factor_columns.Lts as lts
@@ -48,7 +48,7 @@ column_within-requires c = (omega arith, omega arith, c.requires.1, pos_nonneg f
 pub returns-then-not-column_within : goal.returns-then-not-column_within
 unfolding factor_columns upper
 returns-then-not-column_within c =
-    sym (all_false _ _ c.loop-l.l c.loop-l-test.true (and_first_false _ (call_false (found c.before) c.if-not-column_within.true-raw)))
+    sym (all_false _ _ c.loop-l.l c.loop-l-test.true (and_first_false _ (sym (found c.before) ∙ c.if-not-column_within.true)))
 
 pub returns-then-t-l-lt1 : goal.returns-then-t-l-lt1
 unfolding factor_columns upper
@@ -60,7 +60,7 @@ unfolding factor_columns upper
 loop-l-preserved c = (
   omega arith,
   all_more _ c.loop-l.l c.loop-l.invariant.1
-      (and_of (call_true (found c.before.before.before) c.if-not-column_within.false-raw) (read_not_less (diagonal c.before.before.before.before.before) (pos 1) c.t11-1.given (omega arith) c.if-t-l-lt1.false)),
+      (and_of (sym (found c.before.before.before) ∙ c.if-not-column_within.false) (read_not_less (diagonal c.before.before.before.before.before) (pos 1) c.t11-1.given (omega arith) c.if-t-l-lt1.false)),
 )
 
 pub returns : goal.returns

@@ -1,12 +1,9 @@
 use mathlib.Core.Path.{◌≡◌, refl, sym, ◌∙◌}
-use Prim.Native.Nat.{◌-◌, ◌≤◌}
 use native.Mathlib.Numerals.{add-one}
 use native.Mathlib.Omega.{arith}
-use Rattle.tables.specs.Matrix.{at}
-use Rattle.cholesky.specs.Scale.{scaled}
 use Rattle.cholesky.proofs.Filling.{bounds-ranged, checked_lent}
-use Rattle.bus.specs.Area.{area_of, laid_columns}
-use Rattle.bus.proofs.Areas.{Area, area_of_lem, area_bytes_lem}
+use Rattle.bus.specs.Area.{laid_columns}
+use Rattle.bus.proofs.Areas.{area_of_lem, area_bytes_lem}
 use Rattle.bus.proofs.Begun.{begun_more}
 use Rattle.bus.proofs.starting.store_matrix.Goals as goal
 
@@ -16,7 +13,7 @@ scale-requires c = (checked_lent c.requires.1, refl)
 
 pub loop-j-init : goal.loop-j-init
 unfolding laid_columns
-loop-j-init c = (omega arith, area_of_lem (record { each = λ i. omega (arith, c.slice_known-1.given i) }) c.requires.0)
+loop-j-init c = (omega arith, area_of_lem (record { each = λ i. omega (arith, c.type_inv.run i) }) c.requires.0)
 
 pub store_column-requires : goal.store_column-requires
 unfolding laid_columns

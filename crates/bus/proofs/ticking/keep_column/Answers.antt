@@ -1,34 +1,30 @@
-use mathlib.Core.Path.{sym, ap, ◌∙◌}
+use mathlib.Core.Path.{◌≡◌, sym, ap, ◌∙◌}
 use mathlib.Core.List.{List}
 use Prim.Native.Nat.{ℕ, ◌≤◌}
 use native.Mathlib.Omega.{arith}
-use borrow.Author.Rules.{rules}
+use Rattle.cholesky.specs.declared.column_step.Step.{Step}
+use Rattle.cholesky.specs.declared.column_step.Step.TheVariants.{Stops}
 use Rattle.bus.specs.Running.{Bus}
 use Rattle.bus.specs.Required.{StopsIn}
 use Rattle.bus.proofs.Worked.{taken-last, taken_next, taken_stop}
-use Rattle.bus.proofs.ticking.keep_column.Lts as lts
-use Rattle.bus.proofs.ticking.keep_column.Tie as tie
-use Rattle.bus.proofs.ticking.keep_column.Reads as reads
 use Rattle.bus.proofs.ticking.keep_column.Goals as goal
-
-abbrev After-step : Type 0
-After-step = lts.After-step tie.the-claims reads.Pre reads.Post
 
 -- a bus whose block is kept
 abbrev kept : List ℕ → List ℕ → Bus
 kept b x = record { block = b; run = x }
 
 -- the rows of a stop
-rows : (c : After-step) → c.in-Stops.m ≤ c.args.j
+rows : {j m : ℕ} (s : Step) → s ≡ Stops m → StopsIn j s → m ≤ j
 unfolding StopsIn
-rows c = rw c.in-Stops.is at c.requires.5
+rows s e h = rw e at h
 
 pub overflow_add-m : goal.overflow_add-m
-overflow_add-m c = record { fits = omega (arith, rows c, c.requires.2, c.requires.3) }
+overflow_add-m c = record { fits = omega (arith, rows _ c.in-Stops.is c.requires.5, c.requires.2, c.requires.3) }
 
 pub put_column-requires-in-Stops : goal.put_column-requires-in-Stops
 put_column-requires-in-Stops c =
-    (c.requires.1, omega arith, omega (arith, rows c, c.requires.2, c.requires.3), omega arith, omega (arith, rows c), c.requires.4)
+    let h = rows _ c.in-Stops.is c.requires.5 in
+    (c.requires.1, omega arith, omega (arith, h, c.requires.2, c.requires.3), omega arith, omega (arith, h), c.requires.4)
 
 pub returns-then-j-n : goal.returns-then-j-n
 returns-then-j-n c =

@@ -1,4 +1,3 @@
-use borrow.Author.Rules.{rules}
 use Rattle.bus.specs.Running.{settled}
 use Rattle.bus.proofs.ticking.settle.Goals as goal
 

@@ -1,96 +1,106 @@
-use mathlib.Core.Path.{◌≡◌, ap, ◌∙◌}
+use mathlib.Core.Path.{◌≡◌, refl, ap, ◌∙◌}
 use mathlib.Core.Bool.{Bool, true, false, ◌&&◌}
 use mathlib.Core.List.{List}
-use Prim.Native.Nat.{◌≤◌}
+use Prim.Native.Nat.{ℕ, ◌≤◌, ◌<◌, ◌^◌}
 use native.Mathlib.Omega.{arith}
-use borrow.Author.Rules.{rules}
-use lib.IntN.{ℤ, pos}
-use lib.Signed.{◌≤ℤ◌, le_z, lt_z}
+use lib.IntN.{ℤ, pos, nat_abs}
+use lib.Signed.{◌≤ℤ◌, le_z, lt_z, mag}
 use mir.Syntax.{w64}
 use mir.Val.{to_z, of_z}
-use Rattle.integers.proofs.Machine.{clean_result, fits, lt_holds, lt_fails, as_usize, read_i64}
+use Rattle.integers.proofs.Machine.{clean_element, fits, lt_holds, lt_fails, as_usize, read_i64}
 use Rattle.integers.proofs.Parts.{le_z_true, le_z_false}
 use Rattle.tables.specs.Ranges.{greatest_order}
 use Rattle.tables.specs.Matrix.{nth}
 use Rattle.tables.specs.Checks.{order_of}
-use Rattle.tables.proofs.Checks.{and_of, and_first_false}
+use Rattle.tables.proofs.Checks.{and_first_false}
 use Rattle.tables.proofs.Admission.{order_small}
 use Rattle.bus.specs.Area.{order_at, column_at, stop_at, area_of}
-use Rattle.bus.specs.Running.{nothing, work_of, worked}
+use Rattle.bus.specs.Running.{nothing, work_at, work_of, worked}
 use Rattle.bus.proofs.Worked.{nat_abs-below, worked-yes, worked-no}
-use Rattle.bus.proofs.ticking.step.Lts as lts
-use Rattle.bus.proofs.ticking.step.Tie as tie
-use Rattle.bus.proofs.ticking.step.Reads as reads
 use Rattle.bus.proofs.ticking.step.Goals as goal
 
-abbrev After-number_in3 : Type 0
-After-number_in3 = lts.After-number_in3 tie.the-claims reads.Pre reads.Post
+-- a number as the code reads it
+read : {x y : ℤ} → mag x < 2 ^ 63 → x ≡ y → to_z w64 (of_z w64 x) ≡ y
+read h e = clean_element _ h ∙ e
 
-abbrev Else1 : Type 0
-Else1 = lts.Else1 tie.the-claims reads.Pre reads.Post
+-- the order
+module _ (s : List ℕ) {x : ℤ} {n : ℕ} (h : mag x < 2 ^ 63) (e : x ≡ nth (area_of s) order_at) (o : n ≡ order_of (to_z w64 (of_z w64 x))) where
+  order : n ≡ order_of (nth (area_of s) order_at)
+  order = o ∙ ap order_of (read h e)
 
-abbrev Then2 : Type 0
-Then2 = lts.Then2 tie.the-claims reads.Pre reads.Post
+  small : n ≤ greatest_order
+  small = omega (arith, order, order_small (nth (area_of s) order_at))
 
--- the three numbers
-module _ (c : After-number_in3) where
-  abbrev r : List ℤ
-  r = area_of c.args.run.now
+  -- the column, from 0 up, and below the order or not
+  module _ {y : ℤ} (k : mag y < 2 ^ 63) (f : y ≡ nth (area_of s) column_at) (q : lt_z (to_z w64 (of_z w64 y)) (pos 0) ≡ false) {b : Bool} (t : lt_z (to_z w64 (of_z w64 y)) (to_z w64 n) ≡ b) where
+    up : pos 0 ≤ℤ nth (area_of s) column_at
+    up = lt_fails (rw (read k f) at q)
 
-  order : c.order_of-n.result ≡ order_of (nth r order_at)
-  order = c.order_of-n.ensures ∙ ap order_of (clean_result c.number_in ∙ c.number_in.ensures)
+    below : lt_z (nth (area_of s) column_at) (pos (order_of (nth (area_of s) order_at))) ≡ b
+    below = rw (read k f, read_i64 n (omega (arith, small)) ∙ ap pos order) at t
 
-  small : c.order_of-n.result ≤ greatest_order
-  small = omega (arith, order, order_small (nth r order_at))
+    within : (le_z (pos 0) (nth (area_of s) column_at) && lt_z (nth (area_of s) column_at) (pos (order_of (nth (area_of s) order_at)))) ≡ b
+    within = ap (λ (z : Bool). z && lt_z (nth (area_of s) column_at) (pos (order_of (nth (area_of s) order_at)))) (le_z_true up) ∙ below
 
-  limit : to_z w64 c.order_of-n.result ≡ pos (order_of (nth r order_at))
-  limit = read_i64 c.order_of-n.result (omega (arith, small)) ∙ ap pos order
+    column : b ≡ true → nat_abs (to_z w64 (of_z w64 y)) < n
+    column g = rw (read k f, order) (nat_abs-below up (lt_holds (below ∙ g)))
 
-  column : to_z w64 (of_z w64 c.number_in-j.result) ≡ nth r column_at
-  column = clean_result c.number_in-j ∙ c.number_in-j.ensures
+-- below 0
+under : (s : List ℕ) {y : ℤ} → mag y < 2 ^ 63 → y ≡ nth (area_of s) column_at → lt_z (to_z w64 (of_z w64 y)) (pos 0) ≡ true →
+    (le_z (pos 0) (nth (area_of s) column_at) && lt_z (nth (area_of s) column_at) (pos (order_of (nth (area_of s) order_at)))) ≡ false
+under s k f t = and_first_false _ (le_z_false {x = pos 0} {y = nth (area_of s) column_at} (lt_holds (rw (read k f) at t)))
 
-  stop : to_z w64 (of_z w64 c.number_in-p.result) ≡ nth r stop_at
-  stop = clean_result c.number_in-p ∙ c.number_in-p.ensures
+-- what is done then
+module _ (b s : List ℕ) where
+  abbrev test : Bool
+  test = le_z (pos 0) (nth (area_of s) column_at) && lt_z (nth (area_of s) column_at) (pos (order_of (nth (area_of s) order_at)))
 
--- j from 0 up
-module _ (c : Else1) where
-  up : pos 0 ≤ℤ nth (r c.before) column_at
-  up = lt_fails (rw (column c.before) at c.if-j-lt0.false)
+  idle : test ≡ false → record { block = b; run = s } ≡ worked b s (work_of (area_of s))
+  unfolding work_of worked
+  idle e = worked-no b s (work_at (area_of s) (order_of (nth (area_of s) order_at)) (nat_abs (nth (area_of s) column_at)) (nth (area_of s) stop_at)) nothing e
 
-  from : le_z (pos 0) (nth (r c.before) column_at) ≡ true
-  from = le_z_true up
-
--- and below n
-inside : (c : Then2) → lt_z (nth (r c.before.before) column_at) (pos (order_of (nth (r c.before.before) order_at))) ≡ true
-inside c = rw (column c.before.before, limit c.before.before) at c.if-j-n.true
+  busy : test ≡ true → worked b s (work_at (area_of s) (order_of (nth (area_of s) order_at)) (nat_abs (nth (area_of s) column_at)) (nth (area_of s) stop_at)) ≡ worked b s (work_of (area_of s))
+  unfolding work_of
+  busy e = worked-yes b s (work_at (area_of s) (order_of (nth (area_of s) order_at)) (nat_abs (nth (area_of s) column_at)) (nth (area_of s) stop_at)) nothing e
 
 pub returns-then-j-lt0 : goal.returns-then-j-lt0
-unfolding work_of worked
-returns-then-j-lt0 c = worked-no _ _ _ nothing (and_first_false _ (le_z_false {x = pos 0} {y = nth (r c.before) column_at} (lt_holds (rw (column c.before) at c.if-j-lt0.true))))
+returns-then-j-lt0 c =
+    let a = c.args in let j = c.number_in-j in idle a.block.now a.run.now (under a.run.now j.type_inv j.ensures c.if-j-lt0.true)
 
 pub overflow_cast-n : goal.overflow_cast-n
-unfolding work_of worked
-overflow_cast-n c = fits (omega (arith, small c.before))
+overflow_cast-n c = fits (omega (arith, small c.args.run.now c.number_in.type_inv c.number_in.ensures c.order_of-n.ensures))
 
 pub overflow_cast-j : goal.overflow_cast-j
-unfolding work_of worked
 overflow_cast-j c =
-    let k = c.number_in-j in
-    as_usize {x = k.result} (record { sfits = k.ok }) (lt_fails (rw (clean_result k) at c.if-j-lt0.false))
+    let j = c.number_in-j in
+    as_usize {x = j.result} (record { sfits = j.type_inv }) (lt_fails (rw (clean_element _ j.type_inv) at c.if-j-lt0.false))
 
 pub work-requires : goal.work-requires
-unfolding work_of worked
 work-requires c =
     let p = c.requires in
-    (p.0, p.1, small c.before.before.before.before, rw (column c.before.before.before.before) (omega (arith, order c.before.before.before.before, nat_abs-below (up c.before.before.before) (lt_holds (inside c.before.before)))))
+    let n = c.number_in in
+    let j = c.number_in-j in
+    let s = c.args.run.now in (
+      p.0,
+      p.1,
+      small s n.type_inv n.ensures c.order_of-n.ensures,
+      column s n.type_inv n.ensures c.order_of-n.ensures j.type_inv j.ensures c.if-j-lt0.false c.if-j-n.true refl,
+    )
 
 pub returns-then-j-n : goal.returns-then-j-n
-unfolding work_of worked
 returns-then-j-n c =
-    (rw (order c.before.before.before.before.before.before.before.before.before, column c.before.before.before.before.before.before.before.before.before, stop c.before.before.before.before.before.before.before.before.before) at c.work.ensures) ∙ worked-yes _ _ _ nothing (and_of (from c.before.before.before.before.before.before.before.before) (inside c.before.before.before.before.before.before.before))
+    let a = c.args in
+    let s = a.run.now in
+    let n = c.number_in in
+    let j = c.number_in-j in
+    let p = c.number_in-p in
+    (rw (order s n.type_inv n.ensures c.order_of-n.ensures, read j.type_inv j.ensures, read p.type_inv p.ensures) at c.work.ensures)
+    ∙ busy a.block.now s (within s n.type_inv n.ensures c.order_of-n.ensures j.type_inv j.ensures c.if-j-lt0.false c.if-j-n.true)
 
 pub returns-else-j-n : goal.returns-else-j-n
-unfolding work_of worked
 returns-else-j-n c =
-    let past : lt_z (nth (r c.before.before) column_at) (pos (order_of (nth (r c.before.before) order_at))) ≡ false = rw (column c.before.before, limit c.before.before) at c.if-j-n.false in
-    worked-no _ _ _ nothing (ap (λ (x : Bool). x && lt_z (nth (r c.before.before) column_at) (pos (order_of (nth (r c.before.before) order_at)))) (from c.before) ∙ past)
+    let a = c.args in
+    let s = a.run.now in
+    let n = c.number_in in
+    let j = c.number_in-j in
+    idle a.block.now s (within s n.type_inv n.ensures c.order_of-n.ensures j.type_inv j.ensures c.if-j-lt0.false c.if-j-n.false)
