@@ -20,13 +20,13 @@ pub returns-then-orders-k : goal.returns-then-orders-k
 unfolding orders_same
 returns-then-orders-k c =
     let l = c.loop-k in
-    rw (orders_same, all_false (λ i. same (nth c.args.orders.now i) c.args.n) c.args.count l.k (omega arith) (read_differs _ c.args.n c.t9-1.given c.ranges.n.sfits c.if-orders-k.true), le-leb 1 c.args.count (omega (arith, c.if-count-lt1.false)))
+    rw (orders_same, all_false (λ i. same (nth c.args.orders.now i) c.args.n) c.args.count l.k (omega arith) (read_differs _ c.args.n (omega arith) c.ranges.n.sfits c.if-orders-k.true), le-leb 1 c.args.count (omega (arith, c.if-count-lt1.false)))
 
 pub loop-k-preserved : goal.loop-k-preserved
 unfolding orders_same
 loop-k-preserved c =
     let l = c.loop-k in
-    (omega arith, all_more _ l.k l.invariant.1 (rw (clean c.ranges.n) (read_same _ c.args.n c.t9-1.given c.ranges.n.sfits c.if-orders-k.false)))
+    (omega arith, all_more _ l.k l.invariant.1 (rw (clean c.ranges.n) (read_same _ c.args.n (omega arith) c.ranges.n.sfits c.if-orders-k.false)))
 
 pub returns : goal.returns
 unfolding orders_same

@@ -14,7 +14,7 @@ bounds-out-i c = omega (arith, c.loop-i.invariant.1.size)
 pub loop-i-preserved : goal.loop-i-preserved
 loop-i-preserved c =
     let l = c.loop-i in
-    (omega arith, rw add-one (filled_more (omega (arith, l.invariant.1.size)) (clean_element _ c.out-1.given) l.invariant.1))
+    (omega arith, rw add-one (filled_more (omega (arith, l.invariant.1.size)) (clean_element _ (omega arith)) l.invariant.1))
 
 pub shape_of-out : goal.shape_of-out
 shape_of-out c = c.loop-i.invariant.1.size

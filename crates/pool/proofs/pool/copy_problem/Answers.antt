@@ -32,4 +32,4 @@ copy_part-requires-4 c = let p = c.requires in (rw p.4.tos (part_inside _ p.2), 
 
 pub returns : goal.returns
 returns c =
-    sums-filled c.requires.3 c.copy_part.ensures c.copy_part-2.ensures c.copy_part-3.ensures c.copy_part-4.ensures (clean_element _ c.result-1.given) refl
+    sums-filled c.requires.3 c.copy_part.ensures c.copy_part-2.ensures c.copy_part-3.ensures c.copy_part-4.ensures (clean_element _ (omega arith)) refl

@@ -13,6 +13,7 @@ use Rattle.words.specs.Numbers.{numbers_of}
 use Rattle.words.proofs.Laws.{length-numbers_of}
 use Rattle.tables.specs.Matrix.{nth}
 use Rattle.tables.specs.Checks.{first_refusal, order_of}
+use Rattle.tables.specs.declared.Checked.{Checked}
 use Rattle.tables.specs.declared.problem.Constraint.{Constraint}
 use Rattle.tables.proofs.Admission.{order_small}
 use Rattle.sums.specs.Sums.{Outcome}
@@ -22,25 +23,8 @@ use Rattle.pool.proofs.Counting.{count_most, count_room, entry-behind, entry-fro
 use Rattle.sums_buffers.specs.SumsBuffers.{spelled_sums, stored_sums}
 use Rattle.pool_buffers.specs.PoolBuffers.{pool_count, spelled_problems, pool_buffers, spelled_pool}
 use Rattle.pool_buffers.proofs.Lists.{lists_bytes, lent_bytes}
-use Rattle.pool_buffers.proofs.pooling.pool.Lts as lts
-use Rattle.pool_buffers.proofs.pooling.pool.Tie as tie
-use Rattle.pool_buffers.proofs.pooling.pool.Reads as reads
 use Rattle.pool_buffers.proofs.pooling.pool.Goals as goal
-
-abbrev After-check_entry : Type 0
-After-check_entry = lts.After-check_entry tie.the-claims reads.Pre reads.Post
-
-abbrev After-enum_told : Type 0
-After-enum_told = lts.After-enum_told tie.the-claims reads.Pre reads.Post
-
-abbrev After-load_numbers : Type 0
-After-load_numbers = lts.After-load_numbers tie.the-claims reads.Pre reads.Post
-
-abbrev After-order_of : Type 0
-After-order_of = lts.After-order_of tie.the-claims reads.Pre reads.Post
-
-abbrev Start : Type 0
-Start = lts.Start tie.the-claims reads.Pre reads.Post
+use Rattle.pool_buffers.proofs.pooling.pool.Goals.{Start, After-load_numbers}
 
 -- the buffers that are lent, and the lists of problems
 abbrev lent : Start → Lent (List ℕ)
@@ -65,54 +49,53 @@ abbrev given : Start → Outcome → Left (List ℕ)
 given s o = stored_sums (order_of s.args.n) o (lent s)
 
 -- the orders that are loaded
-each : (c : After-load_numbers) → (k : ℕ) → k < c.count_of-count.result →
-    nth c.load_numbers.new.out k ≡ nth (numbers_of w64 c.args.orders.now c.count_of-count.result) k
+each : (c : After-load_numbers) → (k : ℕ) → k < c.count_of-count.result → nth c.load_numbers.new.out k ≡ nth (numbers_of w64 c.args.orders.now c.count_of-count.result) k
 each c k h =
     let x = numbers_of w64 c.args.orders.now c.count_of-count.result in
     ap (λ (y : List ℤ). nth y k) c.load_numbers.ensures ∙ get_or-append x _ (pos 0) k (omega (arith, h, length-numbers_of w64 c.args.orders.now c.count_of-count.result))
 
-checks : (c : After-check_entry) → c.check_entry-checked.result ≡ first_refusal (pool_entry_checks c.args.n (many c.before.before.before.before.before.before.before.before.before.before.before.before.before.before.before.before.before.before.before) (numbers_of w64 c.args.orders.now (many c.before.before.before.before.before.before.before.before.before.before.before.before.before.before.before.before.before.before.before)) (sized c.before.before.before.before.before.before.before.before.before.before.before.before.before.before.before.before.before.before.before (many c.before.before.before.before.before.before.before.before.before.before.before.before.before.before.before.before.before.before.before)))
-checks c =
-    let m = c.count_of-count.result in
-    let orders = c.args.orders.now in
-    (rw (c.lengths_of-problems.ensures, c.lengths_of-sums.ensures, clean c.ranges.n) at c.check_entry-checked.ensures)
-    ∙ ap first_refusal (entry-front c.args.n m _ (numbers_of w64 orders m) (sized c.before.before.before.before.before.before.before.before.before.before.before.before.before.before.before.before.before.before.before m) (each c.before.before.before.before.before))
-    ∙ ap (λ (m : ℕ). first_refusal (pool_entry_checks c.args.n m (numbers_of w64 orders m) (sized c.before.before.before.before.before.before.before.before.before.before.before.before.before.before.before.before.before.before.before m))) c.count_of-count.ensures
-
-passed : (c : After-enum_told) → sized c.before.before.before.before.before.before.before.before.before.before.before.before.before.before.before.before.before.before.before.before (many c.before.before.before.before.before.before.before.before.before.before.before.before.before.before.before.before.before.before.before.before) ≡ true
-passed c = (entry-behind _ _ _ _ (sym (checks c.before) ∙ c.in-Passed.is)).sizes
-
-order : (c : After-order_of) → c.order_of.result ≡ order_of c.args.n
-order c = rw (clean c.ranges.n) at c.order_of.ensures
-
-count : (c : After-check_entry) → c.count_of-count.result ≡ many c.before.before.before.before.before.before.before.before.before.before.before.before.before.before.before.before.before.before.before
-count c = c.count_of-count.ensures
+-- what checks 1 and 2 find
+checks : (s : Start) {m : ℕ} (orders : List ℤ) {r : Checked} → r ≡ first_refusal (pool_entry_checks s.args.n m orders (sized s m)) →
+    ((k : ℕ) → k < m → nth orders k ≡ nth (numbers_of w64 s.args.orders.now m) k) → m ≡ many s →
+    r ≡ first_refusal (pool_entry_checks s.args.n (many s) (numbers_of w64 s.args.orders.now (many s)) (sized s (many s)))
+checks s {m} orders e f g =
+    e ∙ ap first_refusal (entry-front s.args.n m orders (numbers_of w64 s.args.orders.now m) (sized s m) f)
+    ∙ ap (λ (m : ℕ). first_refusal (pool_entry_checks s.args.n m (numbers_of w64 s.args.orders.now m) (sized s m))) g
 
 pub load_numbers-requires : goal.load_numbers-requires
-unfolding spelled_pool
 load_numbers-requires c =
     let size = length c.args.orders.now in
     (refl, omega (arith, c.count_of-count.ensures, count_room (bytes w64) size), rw c.count_of-count.ensures (count_most (bytes w64) size))
 
 pub check_entry-checked-requires : goal.check_entry-checked-requires
-unfolding spelled_pool
 check_entry-checked-requires c =
     let most = count_most (bytes w64) (length c.args.orders.now) in
-    (omega arith, rw c.count_of-count.ensures most, omega (arith, c.count_of-count.ensures, most, c.load_numbers.auto.1.0))
+    (omega arith, rw c.count_of-count.ensures most, omega (arith, c.count_of-count.ensures, most, c.load_numbers.auto.out))
 
 pub pool_lists-requires : goal.pool_lists-requires
-unfolding spelled_pool
 pool_lists-requires c =
-    let z = passed c.before.before.before.before.before.before in
-    rw (count c.before.before.before.before.before.before.before, order c.before.before.before.before.before) (order_small c.args.n, count_most (bytes w64) (length c.args.orders.now), lists_bytes _ _ (lists c.before.before.before.before.before.before.before.before.before.before.before.before.before.before.before.before.before.before.before.before.before.before.before.before.before.before) (lent c.before.before.before.before.before.before.before.before.before.before.before.before.before.before.before.before.before.before.before.before.before.before.before.before.before.before) z, lent_bytes _ _ (lists c.before.before.before.before.before.before.before.before.before.before.before.before.before.before.before.before.before.before.before.before.before.before.before.before.before.before) (lent c.before.before.before.before.before.before.before.before.before.before.before.before.before.before.before.before.before.before.before.before.before.before.before.before.before.before) z)
+    let p = goal.at.pool_lists-requires c in
+    let s = p.Start in
+    let e = checks s c.load_numbers.new.out (rw (c.lengths_of-problems.ensures, c.lengths_of-sums.ensures, clean c.ranges.n) at c.check_entry-checked.ensures) (each p.After-load_numbers) c.count_of-count.ensures in
+    let order = rw (clean c.ranges.n) at c.order_of.ensures in
+    let z = (entry-behind _ _ _ (sized s (many s)) (sym e ∙ c.in-Passed.is)).sizes in
+    rw (c.count_of-count.ensures, order)
+    (order_small c.args.n, count_most (bytes w64) (length c.args.orders.now), lists_bytes _ _ (lists s) (lent s) z, lent_bytes _ _ (lists s) (lent s) z)
 
 pub returns-in-Passed : goal.returns-in-Passed
 unfolding spelled_pool
 returns-in-Passed c =
-    (rw (count c.before.before.before.before.before.before.before.before.before.before.before.before.before.before.before.before.before.before, order c.before.before.before.before.before.before.before.before.before.before.before.before.before.before.before.before) at c.pool_lists.ensures)
-    ∙ ap (given c.before.before.before.before.before.before.before.before.before.before.before.before.before.before.before.before.before.before.before.before.before.before.before.before.before.before.before.before.before.before.before.before.before.before.before.before.before) (pooling-passed _ _ _ (sized c.before.before.before.before.before.before.before.before.before.before.before.before.before.before.before.before.before.before.before.before.before.before.before.before.before.before.before.before.before.before.before.before.before.before.before.before.before (many c.before.before.before.before.before.before.before.before.before.before.before.before.before.before.before.before.before.before.before.before.before.before.before.before.before.before.before.before.before.before.before.before.before.before.before.before.before)) (sums c.before.before.before.before.before.before.before.before.before.before.before.before.before.before.before.before.before.before.before.before.before.before.before.before.before.before.before.before.before.before.before.before.before.before.before.before.before) (problems c.before.before.before.before.before.before.before.before.before.before.before.before.before.before.before.before.before.before.before.before.before.before.before.before.before.before.before.before.before.before.before.before.before.before.before.before.before) (sym (checks c.before.before.before.before.before.before.before.before.before.before.before.before.before.before.before.before.before.before) ∙ c.in-Passed.is))
+    let p = goal.at.returns-in-Passed c in
+    let s = p.Start in
+    let e = checks s c.load_numbers.new.out (rw (c.lengths_of-problems.ensures, c.lengths_of-sums.ensures, clean c.ranges.n) at c.check_entry-checked.ensures) (each p.After-load_numbers) c.count_of-count.ensures in
+    let order = rw (clean c.ranges.n) at c.order_of.ensures in
+    (rw (c.count_of-count.ensures, order) at c.pool_lists.ensures)
+    ∙ ap (given s) (pooling-passed _ _ _ (sized s (many s)) (sums s) (problems s) (sym e ∙ c.in-Passed.is))
 
 pub returns-in-Refused : goal.returns-in-Refused
 unfolding spelled_pool
 returns-in-Refused c =
-    ap (given c.before.before.before.before.before.before.before.before.before.before.before.before.before.before.before.before.before.before.before.before) (pooling-refused _ _ _ (sized c.before.before.before.before.before.before.before.before.before.before.before.before.before.before.before.before.before.before.before.before (many c.before.before.before.before.before.before.before.before.before.before.before.before.before.before.before.before.before.before.before.before)) (sums c.before.before.before.before.before.before.before.before.before.before.before.before.before.before.before.before.before.before.before.before) (problems c.before.before.before.before.before.before.before.before.before.before.before.before.before.before.before.before.before.before.before.before) (sym (checks c.before) ∙ c.in-Refused.is))
+    let p = goal.at.returns-in-Refused c in
+    let s = p.Start in
+    let e = checks s c.load_numbers.new.out (rw (c.lengths_of-problems.ensures, c.lengths_of-sums.ensures, clean c.ranges.n) at c.check_entry-checked.ensures) (each p.After-load_numbers) c.count_of-count.ensures in
+    ap (given s) (pooling-refused _ _ _ (sized s (many s)) (sums s) (problems s) (sym e ∙ c.in-Refused.is))

@@ -2,37 +2,28 @@ use mathlib.Core.Path.{refl, sym, ◌∙◌}
 use mathlib.Core.List.{List}
 use Prim.Native.Nat.{ℕ, ◌-◌, ◌≤◌}
 use native.Mathlib.Omega.{arith}
-use Rattle.integers.proofs.Machine.{clean, clean_result}
+use Rattle.integers.proofs.Machine.{clean, clean_element}
 use Rattle.tables.specs.declared.problem.Constraint.{Constraint}
 use Rattle.pool_buffers.specs.PoolBuffers.{spelled_problems}
 use Rattle.pool.specs.Passing.{passing}
 use Rattle.pool.proofs.Going.{Scratch, scratch_rooms, Begun, Going, going_none, going_next, going_rooms, going_ready, going_whole}
 use Rattle.pool_buffers.proofs.pooling.pool_all.Invariants.{problems}
-use Rattle.pool_buffers.proofs.pooling.pool_all.Lts as lts
-use Rattle.pool_buffers.proofs.pooling.pool_all.Tie as tie
-use Rattle.pool_buffers.proofs.pooling.pool_all.Reads as reads
 use Rattle.pool_buffers.proofs.pooling.pool_all.Goals as goal
-
-abbrev After-begin : Type 0
-After-begin = lts.After-begin tie.the-claims reads.Pre reads.Post goal.the-invariant-loop-k goal.the-decreases-loop-k
-
-abbrev After-load_problem : Type 0
-After-load_problem = lts.After-load_problem tie.the-claims reads.Pre reads.Post goal.the-invariant-loop-k goal.the-decreases-loop-k
+use Rattle.pool_buffers.proofs.pooling.pool_all.Goals.{After-begin-done, After-load_problem-limit}
 
 -- what is begun with
-first : (c : After-begin) → let a = c.args in
-    let o = c.begin-done.new.1.1 in
-    Begun a.n (problems a.n a.count a.lows.now a.highs.now a.froms.now a.tos.now a.limits.now) a.l.now a.u.now a.a.now a.b.now a.running
-    c.begin-done.result o.0 o.1.0 a.a.now a.b.now
+first : (c : After-begin-done) → let a = c.args in
+    let o = c.begin-done.new in
+    Begun a.n (problems a.n a.count a.lows.now a.highs.now a.froms.now a.tos.now a.limits.now) a.l.now a.u.now a.a.now a.b.now a.running c.begin-done.result o.l o.u a.a.now a.b.now
 unfolding passing
 first c = record { states = rw (clean c.ranges.running) at c.begin-done.ensures }
 
 -- the scratch lists of a problem that is loaded
-scratch : (c : After-load_problem) → let o = c.load_problem-limit.new.1.1.1.1.1.1.1.1 in Scratch o.0 o.1.0 o.1.1.0 o.1.1.1.0
+scratch : (c : After-load_problem-limit) → let o = c.load_problem-limit.new in Scratch o.l o.u o.a o.b
 scratch c =
-    let k = c.load_problem-limit.auto.1.1.1.1.1.1.1.1 in
+    let k = c.load_problem-limit.auto in
     let w = c.loop-k.invariant.1 in
-    record { low = k.0 ∙ w.low; high = k.1.0 ∙ w.high; from = k.1.1.0 ∙ w.from; to = k.1.1.1.0 ∙ w.to }
+    record { low = k.l ∙ w.low; high = k.u ∙ w.high; from = k.a ∙ w.from; to = k.b ∙ w.to }
 
 pub begin-done-requires : goal.begin-done-requires
 begin-done-requires c = let p = c.requires in (p.0, p.2)
@@ -58,20 +49,20 @@ load_problem-limit-requires c =
     (p.0, p.1, c.loop-k-test.true, scratch_rooms p.0 c.loop-k.invariant.1, p.3)
 
 pub slice_bounds-add_problem-end : goal.slice_bounds-add_problem-end
-slice_bounds-add_problem-end c = sym (scratch c.before.before.before.before.before).low
+slice_bounds-add_problem-end c = sym (scratch (goal.at.slice_bounds-add_problem-end c).After-load_problem-limit).low
 
 pub slice_bounds-add_problem-end-in-loop-k : goal.slice_bounds-add_problem-end-in-loop-k
-slice_bounds-add_problem-end-in-loop-k c = sym (scratch c.before.before.before.before.before.before).high
+slice_bounds-add_problem-end-in-loop-k c = sym (scratch (goal.at.slice_bounds-add_problem-end-in-loop-k c).After-load_problem-limit).high
 
 pub slice_bounds-add_problem-end-in-loop-k-2 : goal.slice_bounds-add_problem-end-in-loop-k-2
-slice_bounds-add_problem-end-in-loop-k-2 c = sym (scratch c.before.before.before.before.before.before.before).from
+slice_bounds-add_problem-end-in-loop-k-2 c = sym (scratch (goal.at.slice_bounds-add_problem-end-in-loop-k-2 c).After-load_problem-limit).from
 
 pub slice_bounds-add_problem-end-in-loop-k-3 : goal.slice_bounds-add_problem-end-in-loop-k-3
-slice_bounds-add_problem-end-in-loop-k-3 c = sym (scratch c.before.before.before.before.before.before.before.before).to
+slice_bounds-add_problem-end-in-loop-k-3 c = sym (scratch (goal.at.slice_bounds-add_problem-end-in-loop-k-3 c).After-load_problem-limit).to
 
 pub add_problem-done-requires : goal.add_problem-done-requires
 add_problem-done-requires c =
-    let f = first c.before.before.before.before.before.before.before.before.before.before.before.before.before.before.before.before.before.before.before.before.before in
+    let f = first (goal.at.add_problem-done-requires c).After-begin-done in
     (c.requires.0, c.load_problem-limit.ensures.rooms, going_rooms c.loop-k.invariant.2 f, going_ready c.loop-k.invariant.2 f)
 
 pub overflow_add-k : goal.overflow_add-k
@@ -79,20 +70,20 @@ overflow_add-k c = omega (arith, c.loop-k-test.true, c.requires.1)
 
 pub loop-k-preserved : goal.loop-k-preserved
 loop-k-preserved c =
-    let m = c.add_problem-done.kept.1.1 in
-    let w = scratch c.before.before.before.before.before.before.before.before.before.before.before.before.before.before.before.before.before.before.before in (
+    let m = c.add_problem-done.auto in
+    let w = scratch (goal.at.loop-k-preserved c).After-load_problem-limit in
+    (
       omega (arith, c.loop-k-test.true),
-      record { low = m.0 ∙ w.low; high = m.1.0 ∙ w.high; from = w.from; to = w.to },
-      going_next c.loop-k.invariant.2 c.load_problem-limit.ensures.sums
-          (record { low = m.1.1.1.1.1.0; high = m.1.1.1.1.1.1.0; from = m.1.1.1.1.1.1.1.0; to = m.1.1.1.1.1.1.1.1.0 })
-          (rw (clean_result c.load_problem-limit) at c.add_problem-done.ensures.0),
+      record { low = m.pl ∙ w.low; high = m.pu ∙ w.high; from = w.from; to = w.to },
+      going_next c.loop-k.invariant.2 c.load_problem-limit.ensures.sums (record { low = m.l; high = m.u; from = m.a; to = m.b })
+          (rw (clean_element c.load_problem-limit.result c.load_problem-limit.type_inv) at c.add_problem-done.ensures.0),
     )
 
 pub shape_of-l : goal.shape_of-l
-shape_of-l c = c.loop-k.invariant.2.sizes.low ∙ c.begin-done.auto.1.1.0
+shape_of-l c = c.loop-k.invariant.2.sizes.low ∙ c.begin-done.auto.l
 
 pub shape_of-u : goal.shape_of-u
-shape_of-u c = c.loop-k.invariant.2.sizes.high ∙ c.begin-done.auto.1.1.1.0
+shape_of-u c = c.loop-k.invariant.2.sizes.high ∙ c.begin-done.auto.u
 
 pub shape_of-a : goal.shape_of-a
 shape_of-a c = c.loop-k.invariant.2.sizes.from
@@ -101,4 +92,4 @@ pub shape_of-b : goal.shape_of-b
 shape_of-b c = c.loop-k.invariant.2.sizes.to
 
 pub returns : goal.returns
-returns c = going_whole c.loop-k.invariant.2 (first c.before.before.before.before) (omega (arith, c.loop-k.invariant.0, c.loop-k-test.false))
+returns c = going_whole c.loop-k.invariant.2 (first (goal.at.returns c).After-begin-done) (omega (arith, c.loop-k.invariant.0, c.loop-k-test.false))

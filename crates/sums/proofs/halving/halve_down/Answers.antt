@@ -17,7 +17,7 @@ pub loop-k-preserved : goal.loop-k-preserved
 loop-k-preserved c = (
   omega arith,
   rw add-one
-      (replaced_more (omega arith) (clean_result c.floor_div ∙ c.floor_div.ensures ∙ ap half_down (read_next _ c.floor_div-arg-1.given c.loop-k.invariant.1))
+      (replaced_more (omega arith) (clean_result c.floor_div ∙ c.floor_div.ensures ∙ ap half_down (read_next c.loop-k.x (omega arith) c.loop-k.invariant.1))
       c.loop-k.invariant.1),
 )
 

@@ -12,7 +12,7 @@ loop-k-init c = (omega arith, replaced_none refl)
 
 pub ceil_div-requires : goal.ceil_div-requires
 ceil_div-requires c = (
-  rw (read_next _ c.ceil_div-arg-1.given c.loop-k.invariant.1) (within_more (omega arith) (c.requires.small c.loop-k.k c.loop-k-test.true)),
+  rw (read_next c.loop-k.x (omega arith) c.loop-k.invariant.1) (within_more (omega arith) (c.requires.small c.loop-k.k c.loop-k-test.true)),
   ≤_in (omega arith),
 )
 
@@ -20,7 +20,7 @@ pub loop-k-preserved : goal.loop-k-preserved
 loop-k-preserved c = (
   omega arith,
   rw add-one
-      (replaced_more (omega arith) (clean_result c.ceil_div ∙ c.ceil_div.ensures ∙ ap half_up (read_next _ c.ceil_div-arg-1.given c.loop-k.invariant.1))
+      (replaced_more (omega arith) (clean_result c.ceil_div ∙ c.ceil_div.ensures ∙ ap half_up (read_next c.loop-k.x (omega arith) c.loop-k.invariant.1))
       c.loop-k.invariant.1),
 )
 
