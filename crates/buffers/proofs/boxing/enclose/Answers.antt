@@ -263,7 +263,7 @@ box_bounds-requires c =
     let b = passed c.before.before.before.before.before.before.before.before.before.before.before in
     let m = small c.before.before.before.before.before.before.before.before.before.before.before.before.before.before.before.before.before.before.before.before.before.before.before.before.before.before.before.before.before.before.before.before in
     let i = in_range_lem c.before.before.before.before.before.before.before.before.before.before.before.before.before.before.before.before.before.before b.sizes b.within in (
-      centred _ _ _ _ _ i (rw (order c.before.before.before.before.before.before.before.before.before.before.before.before.before.before.before.before.before.before.before.before.before.before.before.before.before.before.before.before.before.before.before.before) ((came c.before.before.before.before.before.before.before.before.before.before.before).held c.in_default.is).tables)
+      centred _ _ _ _ _ i (rw (order c.before.before.before.before.before.before.before.before.before.before.before.before.before.before.before.before.before.before.before.before.before.before.before.before.before.before.before.before.before.before.before.before) ((came c.before.before.before.before.before.before.before.before.before.before.before.before).held c.in_default.is).tables)
           (omega (arith, m, c.load_terms.ensures.size))
           (omega (arith, m, c.load_terms-2.ensures.size))
           (omega (arith, m, c.load_terms-3.ensures.size)),
