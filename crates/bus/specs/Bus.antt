@@ -1,5 +1,5 @@
 -- R28 of docs/RULES.md: the four acts on a bus, of any bytes at all: what they answer, and the block and the run area as they leave them.
-use Rattle.std.specs.Prelude.{Bool, true, false, ◌&&◌, List, [], ℕ, ◌*◌, eqb, ℤ, pos, negsuc, nat_abs, length, set}
+use Rattle.std.specs.Prelude.{Bool, true, false, ◌&&◌, List, ℕ, ◌*◌, eqb, ℤ, pos, negsuc, nat_abs, length, set}
 use Rattle.std.specs.Int.Bits.{bit_and}
 use Rattle.std.specs.Int.Signed.{le_z, lt_z}
 use Rattle.std.specs.Int.{w64}
@@ -18,7 +18,6 @@ use Rattle.bus.specs.Registers.{reset_block, is_busy, started_block, refused_blo
 use Rattle.bus.specs.Area.{run_bytes, area_of, area_bytes, blank_bytes, begun_area}
 use Rattle.bus.specs.Running.{Bus, work_of, worked}
 use Rattle.bus.specs.declared.line.Line.{Line}
-use Rattle.bus.specs.declared.line.Line.TheVariants as Line
 
 -- what a write or a tick answers, and the bus as it leaves it
 pub record Moved : Type 0 where

@@ -7,7 +7,6 @@ use Rattle.tables.specs.declared.Checked.TheVariants.{Passed}
 use Rattle.cholesky.specs.Factoring.{Column}
 use Rattle.cholesky.specs.Store.{column_of}
 use Rattle.cholesky.specs.declared.column_step.Step.{Step}
-use Rattle.cholesky.specs.declared.column_step.Step.TheVariants as Step
 
 -- a stop in column j is after at most j rows
 unfoldable pub StopsIn : ℕ → Step → Type 0

@@ -13,7 +13,6 @@ use lib.ListN.{length}
 use Rattle.bus.specs.Registers.{block_bytes, register, flags, mask, is_raised}
 use Rattle.bus.specs.Bus.{line}
 use Rattle.bus.specs.declared.line.Line.{Line}
-use Rattle.bus.specs.declared.line.Line.TheVariants as Line
 use Rattle.bus.specs.Running.{Bus}
 use Rattle.bus_runs.specs.Operations.{Operation, Sized, after}
 use Rattle.bus_runs.specs.Runs.{CommonBit}

@@ -26,7 +26,6 @@ use Rattle.sums.specs.Sums.{sums_checks}
 use Rattle.sums.specs.Required.{front}
 use Rattle.sums.proofs.Fronts.{front_is}
 use Rattle.rides.specs.declared.reading.Reading.{Reading}
-use Rattle.rides.specs.declared.reading.Reading.TheVariants as Reading
 use Rattle.rides.specs.Reading.{limits_in, checked_reading}
 use Rattle.buffers.specs.Buffers.{table_of, vector_of, Terms}
 use Rattle.sums_buffers.specs.SumsBuffers.{read_buffers}

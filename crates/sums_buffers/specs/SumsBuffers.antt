@@ -10,7 +10,6 @@ use Rattle.sums.specs.Sums.{Outcome}
 use Rattle.sums.specs.Lent.{Lent, Left, laid_sums}
 use Rattle.samples.specs.Gathering.{sums_sized}
 use Rattle.rides.specs.declared.reading.Reading.{Reading}
-use Rattle.rides.specs.declared.reading.Reading.TheVariants as Reading
 use Rattle.buffers.specs.Buffers.{table_of, vector_of, number_of, bytes_of_number}
 
 -- the sums of order n that five buffers spell

@@ -36,13 +36,13 @@ store_numbers-requires c =
 
 pub returns-in-Sides : goal.returns-in-Sides
 returns-in-Sides c =
-    given_sides _ _ {b = of c.before.before.before.before.before.before.before.before.before} (rw (clean c.ranges.limit) at c.box_bounds-given.ensures) _ c.in-Sides.is
+    given_sides _ _ {b = of c.before.before.before.before.before.before.before.before.before.before} (rw (clean c.ranges.limit) at c.box_bounds-given.ensures) _ c.in-Sides.is
     (c.store_numbers.ensures ∙ numbers-stored _ (c.args.n + c.args.n) _ c.requires.2)
 
 pub returns-in-Empty : goal.returns-in-Empty
 returns-in-Empty c =
-    given_empty _ _ {b = of c.before.before.before.before} (rw (clean c.ranges.limit) at c.box_bounds-given.ensures) _ c.in-Empty.is
+    given_empty _ _ {b = of c.before.before.before.before.before} (rw (clean c.ranges.limit) at c.box_bounds-given.ensures) _ c.in-Empty.is
 
 pub returns-in-Refused : goal.returns-in-Refused
 returns-in-Refused c =
-    given-refused _ _ {b = of c.before.before.before.before} (rw (clean c.ranges.limit) at c.box_bounds-given.ensures) _ c.in-Refused.r c.in-Refused.is
+    given-refused _ _ {b = of c.before.before.before.before.before} (rw (clean c.ranges.limit) at c.box_bounds-given.ensures) _ c.in-Refused.r c.in-Refused.is

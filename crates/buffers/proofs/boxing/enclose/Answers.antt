@@ -38,7 +38,7 @@ abbrev After-check_laid : Type 0
 After-check_laid = lts.After-check_laid tie.the-claims reads.Pre reads.Post
 
 abbrev After-enum_told : Type 0
-After-enum_told = lts.After-enum_told tie.the-claims reads.Pre reads.Post
+After-enum_told = lts.Past-After-enum_told tie.the-claims reads.Pre reads.Post
 
 abbrev After-order_of : Type 0
 After-order_of = lts.After-order_of tie.the-claims reads.Pre reads.Post
@@ -119,7 +119,7 @@ came : (c : After-check_laid) → Entered c.args.n (sizes c.before.before.before
 came c =
     entered-sized _ _ _ _ _
     (entered_by refl refl (asked c.before.before.before.before.before.before)
-    (came-sized _ _ (order c.before.before.before.before.before.before.before.before.before.before.before.before.before.before.before.before.before.before.before.before) c.if-m-eq0.false (sized c.before.before.before.before.before.before.before.before.before.before.before.before.before.before.before.before.before) c.if-not-sized.false c.load_bounds.ensures c.check_laid-checked.ensures))
+    (came-sized _ _ (order c.before.before.before.before.before.before.before.before.before.before.before.before.before.before.before.before.before.before.before.before) c.if-m-eq0.false (sized c.before.before.before.before.before.before.before.before.before.before.before.before.before.before.before.before.before) c.if-not-sized.false-raw c.load_bounds.ensures c.check_laid-checked.ensures))
 
 passed : (c : After-enum_told) → Behind c.args.n (sizes c.before.before.before.before.before.before.before.before.before.before.before.before.before.before.before.before.before.before.before.before.before.before.before.before.before.before.before.before) (others c.before.before.before.before.before.before.before.before.before.before.before.before.before.before.before.before.before.before.before.before.before.before.before.before.before.before.before.before) (posed c.before.before.before.before.before.before.before.before.before.before.before.before.before.before.before.before.before.before.before.before.before.before.before.before.before.before.before.before).low (posed c.before.before.before.before.before.before.before.before.before.before.before.before.before.before.before.before.before.before.before.before.before.before.before.before.before.before.before.before).high
 passed c = came-through _ _ _ _ _ (came c.before) c.in_default.is
@@ -141,47 +141,47 @@ given s b = stored_sides (order_of s.args.n) b s.args.sides.now
 
 pub returns-then-m-eq0 : goal.returns-then-m-eq0
 unfolding boxing problem_box constraint_entered
-returns-then-m-eq0 c = ap (given c.before.before.before.before.before.before.before.before) (no-order _ _ _ _ _ refused _ (sym (order c.before) ∙ c.if-m-eq0.true))
+returns-then-m-eq0 c = ap (given c.before.before.before.before.before.before.before.before.before) (no-order _ _ _ _ _ refused _ (sym (order c.before.before) ∙ c.if-m-eq0.true))
 
 pub overflow_mul-sizes : goal.overflow_mul-sizes
 unfolding boxing problem_box constraint_entered
-overflow_mul-sizes c = record { fits = omega (arith, order_fits _ (order c.before)) }
+overflow_mul-sizes c = record { fits = omega (arith, order_fits _ (order c.before.before)) }
 
 pub overflow_mul-sizes-2 : goal.overflow_mul-sizes-2
 unfolding boxing problem_box constraint_entered
-overflow_mul-sizes-2 c = record { fits = omega (arith, order_fits _ (order c.before)) }
+overflow_mul-sizes-2 c = record { fits = omega (arith, order_fits _ (order c.before.before)) }
 
 pub overflow_mul-sizes-3 : goal.overflow_mul-sizes-3
 unfolding boxing problem_box constraint_entered
-overflow_mul-sizes-3 c = record { fits = omega (arith, small c.before) }
+overflow_mul-sizes-3 c = record { fits = omega (arith, small c.before.before) }
 
 pub overflow_add-m : goal.overflow_add-m
 unfolding boxing problem_box constraint_entered
-overflow_add-m c = record { fits = omega (arith, small c.before.before) }
+overflow_add-m c = record { fits = omega (arith, small c.before.before.before) }
 
 pub overflow_mul-m : goal.overflow_mul-m
 unfolding boxing problem_box constraint_entered
-overflow_mul-m c = record { fits = omega (arith, small c.before.before) }
+overflow_mul-m c = record { fits = omega (arith, small c.before.before.before) }
 
 pub returns-then-not-sized : goal.returns-then-not-sized
 unfolding boxing problem_box constraint_entered
 returns-then-not-sized c =
-    ap (given c.before.before.before.before.before.before.before.before.before.before.before) (no-sizes _ _ _ _ _ refused (act c.before.before.before.before.before.before.before.before.before.before.before) (λ e. c.if-m-eq0.false (order c.before.before.before.before ∙ e)) (call_false (sized c.before) c.if-not-sized.true-raw))
+    ap (given c.before.before.before.before.before.before.before.before.before.before.before.before) (no-sizes _ _ _ _ _ refused (act c.before.before.before.before.before.before.before.before.before.before.before.before) (λ e. c.if-m-eq0.false (order c.before.before.before.before.before ∙ e)) (call_false (sized c.before.before) c.if-not-sized.true-raw))
 
 pub load_terms-requires : goal.load_terms-requires
 unfolding boxing problem_box constraint_entered
 load_terms-requires c =
-    rw (order c.before.before.before.before.before) (order_small _, (λ s. let z = lent c.before.before s in omega (arith, z.linear_low)), refl)
+    rw (order c.before.before.before.before.before.before) (order_small _, (λ s. let z = lent c.before.before.before s in omega (arith, z.linear_low)), refl)
 
 pub load_terms-requires-2 : goal.load_terms-requires-2
 unfolding boxing problem_box constraint_entered
 load_terms-requires-2 c =
-    rw (order c.before.before.before.before.before.before.before) (order_small _, (λ s. let z = lent c.before.before.before.before s in omega (arith, z.linear_high)), refl)
+    rw (order c.before.before.before.before.before.before.before.before) (order_small _, (λ s. let z = lent c.before.before.before.before.before s in omega (arith, z.linear_high)), refl)
 
 pub load_terms-requires-3 : goal.load_terms-requires-3
 unfolding boxing problem_box constraint_entered
 load_terms-requires-3 c =
-    rw (order c.before.before.before.before.before.before.before.before.before) (order_small _, (λ s. let z = lent c.before.before.before.before.before.before s in omega (arith, z.centre)), refl)
+    rw (order c.before.before.before.before.before.before.before.before.before.before) (order_small _, (λ s. let z = lent c.before.before.before.before.before.before.before s in omega (arith, z.centre)), refl)
 
 pub slice_bounds-sized_within-end : goal.slice_bounds-sized_within-end
 unfolding boxing problem_box constraint_entered
@@ -197,29 +197,26 @@ slice_bounds-sized_within-end-3 c = sym c.load_terms-3.ensures.size
 
 pub sized_within-within-requires : goal.sized_within-within-requires
 unfolding boxing problem_box constraint_entered
-sized_within-within-requires c = (λ c κs e.
-    let t = c.before.before.before in
-    let u = t.before.before in
-    let v = u.before.before in
-    let m = small (ordering v.before.before.before) in (
-      omega (arith, m, v.load-terms.ensures.size),
-      omega (arith, m, u.load-terms2.ensures.size),
-      omega (arith, m, t.load-terms3.ensures.size),
-    )) c
+sized_within-within-requires c = λ e.
+    let m = small c.before.before.before.before.before.before.before.before.before.before.before.before.before.before in (
+      omega (arith, m, c.load_terms.ensures.size),
+      omega (arith, m, c.load_terms-2.ensures.size),
+      omega (arith, m, c.load_terms-3.ensures.size),
+    )
 
 pub load_bounds-requires : goal.load_bounds-requires
 unfolding boxing problem_box constraint_entered
 load_bounds-requires c =
-    rw (order c.before.before.before.before.before.before.before.before.before.before.before.before.before.before.before.before) (order_small _, (λ s. let z = lent c.before.before.before.before.before.before.before.before.before.before.before.before.before s in (omega (arith, z.low), omega (arith, z.high))), refl, refl)
+    rw (order c.before.before.before.before.before.before.before.before.before.before.before.before.before.before.before.before.before) (order_small _, (λ s. let z = lent c.before.before.before.before.before.before.before.before.before.before.before.before.before.before s in (omega (arith, z.low), omega (arith, z.high))), refl, refl)
 
 pub check_laid-checked-requires : goal.check_laid-checked-requires
 unfolding boxing problem_box constraint_entered
-check_laid-checked-requires c = rw (order c.before.before.before.before.before.before.before.before.before.before.before.before.before.before.before.before.before.before.before) (order_small _, order_fits _ refl, c.load_bounds.ensures.rooms)
+check_laid-checked-requires c = rw (order c.before.before.before.before.before.before.before.before.before.before.before.before.before.before.before.before.before.before.before.before) (order_small _, order_fits _ refl, c.load_bounds.ensures.rooms)
 
 pub returns-in-Refused : goal.returns-in-Refused
 unfolding boxing problem_box constraint_entered
 returns-in-Refused c =
-    ap (given c.before.before.before.before.before.before.before.before.before.before.before.before.before.before.before.before.before.before.before.before.before.before.before.before.before.before.before.before) (door-refused refused _ _ _ (posed c.before.before.before.before.before.before.before.before.before.before.before.before.before.before.before.before.before.before.before.before.before.before.before.before.before.before.before.before) _ (came c.before) c.in-Refused.is)
+    ap (given c.before.before.before.before.before.before.before.before.before.before.before.before.before.before.before.before.before.before.before.before.before.before.before.before.before.before.before.before.before) (door-refused refused _ _ _ (posed c.before.before.before.before.before.before.before.before.before.before.before.before.before.before.before.before.before.before.before.before.before.before.before.before.before.before.before.before.before) _ (came c.before.before) c.in-Refused.is)
 
 pub slice_bounds-check_ends-end : goal.slice_bounds-check_ends-end
 unfolding boxing problem_box constraint_entered
@@ -232,21 +229,21 @@ slice_bounds-check_ends-end-2 c = sym c.load_terms-2.ensures.size
 pub check_ends-ordered-requires : goal.check_ends-ordered-requires
 unfolding boxing problem_box constraint_entered
 check_ends-ordered-requires c =
-    let m = small c.before.before.before.before.before.before.before.before.before.before.before.before.before.before.before.before.before.before.before.before.before.before.before in
+    let m = small c.before.before.before.before.before.before.before.before.before.before.before.before.before.before.before.before.before.before.before.before.before.before.before.before in
     (omega (arith, m, c.load_terms.ensures.size), omega (arith, m, c.load_terms-2.ensures.size))
 
 pub returns-in-Refused-ordered : goal.returns-in-Refused-ordered
 unfolding boxing problem_box constraint_entered
 returns-in-Refused-ordered c =
-    ap (given c.before.before.before.before.before.before.before.before.before.before.before.before.before.before.before.before.before.before.before.before.before.before.before.before.before.before.before.before.before.before.before.before) (ends-refused refused _ _ _ (posed c.before.before.before.before.before.before.before.before.before.before.before.before.before.before.before.before.before.before.before.before.before.before.before.before.before.before.before.before.before.before.before.before) _ (came c.before.before.before.before.before) c.in_default.is (sym (ends c.before) ∙ c.in-Refused-ordered.is))
+    ap (given c.before.before.before.before.before.before.before.before.before.before.before.before.before.before.before.before.before.before.before.before.before.before.before.before.before.before.before.before.before.before.before.before.before) (ends-refused refused _ _ _ (posed c.before.before.before.before.before.before.before.before.before.before.before.before.before.before.before.before.before.before.before.before.before.before.before.before.before.before.before.before.before.before.before.before.before) _ (came c.before.before.before.before.before.before) c.in_default.is (sym (ends c.before.before) ∙ c.in-Refused-ordered.is))
 
 pub slice_bounds-box_bounds-end : goal.slice_bounds-box_bounds-end
 unfolding boxing problem_box constraint_entered
-slice_bounds-box_bounds-end c = sym (came c.before.before.before.before.before.before).rooms.low-size
+slice_bounds-box_bounds-end c = sym (came c.before.before.before.before.before.before.before).rooms.low-size
 
 pub slice_bounds-box_bounds-end-2 : goal.slice_bounds-box_bounds-end-2
 unfolding boxing problem_box constraint_entered
-slice_bounds-box_bounds-end-2 c = sym (came c.before.before.before.before.before.before.before).rooms.high-size
+slice_bounds-box_bounds-end-2 c = sym (came c.before.before.before.before.before.before.before.before).rooms.high-size
 
 pub slice_bounds-box_bounds-end-3 : goal.slice_bounds-box_bounds-end-3
 unfolding boxing problem_box constraint_entered
@@ -263,22 +260,22 @@ slice_bounds-box_bounds-end-5 c = sym c.load_terms-3.ensures.size
 pub box_bounds-requires : goal.box_bounds-requires
 unfolding boxing problem_box constraint_entered
 box_bounds-requires c =
-    let b = passed c.before.before.before.before.before.before.before.before.before.before in
-    let m = small c.before.before.before.before.before.before.before.before.before.before.before.before.before.before.before.before.before.before.before.before.before.before.before.before.before.before.before.before.before.before.before in
-    let i = in_range_lem c.before.before.before.before.before.before.before.before.before.before.before.before.before.before.before.before.before b.sizes b.within in (
-      centred _ _ _ _ _ i (rw (order c.before.before.before.before.before.before.before.before.before.before.before.before.before.before.before.before.before.before.before.before.before.before.before.before.before.before.before.before.before.before.before) ((came c.before.before.before.before.before.before.before.before.before.before.before).held c.in_default.is).tables)
+    let b = passed c.before.before.before.before.before.before.before.before.before.before.before in
+    let m = small c.before.before.before.before.before.before.before.before.before.before.before.before.before.before.before.before.before.before.before.before.before.before.before.before.before.before.before.before.before.before.before.before in
+    let i = in_range_lem c.before.before.before.before.before.before.before.before.before.before.before.before.before.before.before.before.before.before b.sizes b.within in (
+      centred _ _ _ _ _ i (rw (order c.before.before.before.before.before.before.before.before.before.before.before.before.before.before.before.before.before.before.before.before.before.before.before.before.before.before.before.before.before.before.before.before) ((came c.before.before.before.before.before.before.before.before.before.before.before.before).held c.in_default.is).tables)
           (omega (arith, m, c.load_terms.ensures.size))
           (omega (arith, m, c.load_terms-2.ensures.size))
           (omega (arith, m, c.load_terms-3.ensures.size)),
       limit-within _ _ _ _ _ i,
-      rw (order c.before.before.before.before.before.before.before.before.before.before.before.before.before.before.before.before.before.before.before.before.before.before.before.before.before.before.before.before.before.before.before) (box_sizes-of _ _ _ _ _ b.sizes).sides,
+      rw (order c.before.before.before.before.before.before.before.before.before.before.before.before.before.before.before.before.before.before.before.before.before.before.before.before.before.before.before.before.before.before.before.before) (box_sizes-of _ _ _ _ _ b.sizes).sides,
     )
 
 pub returns : goal.returns
 unfolding boxing problem_box constraint_entered
 returns c =
     let q = c.in_default.is in
-    let h = (came c.before.before.before.before.before.before.before.before.before.before.before.before.before.before).held q in
-    let z = (passed c.before.before.before.before.before.before.before.before.before.before.before.before.before).sizes in
-    rw (← constraint_passed refused _ _ _ (posed c.before.before.before.before.before.before.before.before.before.before.before.before.before.before.before.before.before.before.before.before.before.before.before.before.before.before.before.before.before.before.before.before.before.before.before.before.before.before.before.before.before) _ (came c.before.before.before.before.before.before.before.before.before.before.before.before.before.before) q (sym (ends c.before.before.before.before.before.before.before.before.before.before) ∙ c.in_default-ordered.is))
-    (rw (order c.before.before.before.before.before.before.before.before.before.before.before.before.before.before.before.before.before.before.before.before.before.before.before.before.before.before.before.before.before.before.before.before.before.before, h.low, h.high, (low-ends c.before.before.before.before.before.before.before.before.before.before.before.before.before.before.before.before.before.before.before.before).numbers z, (high-ends c.before.before.before.before.before.before.before.before.before.before.before.before.before.before.before.before.before.before.before.before).numbers z, (centre c.before.before.before.before.before.before.before.before.before.before.before.before.before.before.before.before.before.before.before.before).numbers z, clean c.ranges.limit) at c.box_bounds.ensures)
+    let h = (came c.before.before.before.before.before.before.before.before.before.before.before.before.before.before.before).held q in
+    let z = (passed c.before.before.before.before.before.before.before.before.before.before.before.before.before.before).sizes in
+    rw (← constraint_passed refused _ _ _ (posed c.before.before.before.before.before.before.before.before.before.before.before.before.before.before.before.before.before.before.before.before.before.before.before.before.before.before.before.before.before.before.before.before.before.before.before.before.before.before.before.before.before.before) _ (came c.before.before.before.before.before.before.before.before.before.before.before.before.before.before.before) q (sym (ends c.before.before.before.before.before.before.before.before.before.before.before) ∙ c.in_default-ordered.is))
+    (rw (order c.before.before.before.before.before.before.before.before.before.before.before.before.before.before.before.before.before.before.before.before.before.before.before.before.before.before.before.before.before.before.before.before.before.before.before, h.low, h.high, (low-ends c.before.before.before.before.before.before.before.before.before.before.before.before.before.before.before.before.before.before.before.before.before).numbers z, (high-ends c.before.before.before.before.before.before.before.before.before.before.before.before.before.before.before.before.before.before.before.before.before).numbers z, (centre c.before.before.before.before.before.before.before.before.before.before.before.before.before.before.before.before.before.before.before.before.before).numbers z, clean c.ranges.limit) at c.box_bounds.ensures)

@@ -19,11 +19,11 @@ room : (s : Start) → length s.args.x.now ≡ greatest_order
 room s = ap length s.requires.2 ∙ length-replicate greatest_order (pos 0)
 
 pub load_numbers-requires : goal.load_numbers-requires
-load_numbers-requires c = (refl, c.requires.1 c.if-sized.true, omega (arith, c.requires.0, room c.before.before.before))
+load_numbers-requires c = (refl, c.requires.1 c.if-sized.true, omega (arith, c.requires.0, room c.before.before.before.before))
 
 pub returns-then-sized : goal.returns-then-sized
 returns-then-sized c =
     record { size = loaded_room _ c.requires.2 c.requires.0 c.load_numbers.ensures; numbers = λ e. padded-nth (loaded _ c.requires.2 c.requires.0 c.load_numbers.ensures) }
 
 pub returns-else-sized : goal.returns-else-sized
-returns-else-sized c = record { size = room c.before.before; numbers = λ e. absurd (false≢true (sym c.if-sized.false ∙ e)) }
+returns-else-sized c = record { size = room c.before.before.before; numbers = λ e. absurd (false≢true (sym c.if-sized.false ∙ e)) }

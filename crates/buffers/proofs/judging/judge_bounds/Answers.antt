@@ -65,20 +65,21 @@ pub returns-in-Definite : goal.returns-in-Definite
 unfolding stated
 returns-in-Definite c =
     let w = c.in-Definite.v in
-    let e = clean_element w c.known_told-1.given.0.1 in
+    let k = rw c.in-Definite.is at c.decide-verdict.type_inv in
+    let e = clean_element w k.1.1.1.1.0.1 in
     rw (e, c.store_numbers.ensures ∙ numbers-stored _ _ _ c.requires.3, number-stored c.args.over.now c.requires.5 e c.store_signed.ensures)
-    (made_of (given c.before.before.before.before.before.before.before.before.before.before.before.before.before.before.before.before.before.before.before) {g = of c.before.before.before.before.before.before.before.before.before.before.before.before.before.before.before.before.before.before.before} c.decide-verdict.ensures (Verdict.Definite w) c.in-Definite.is)
+    (made_of (given c.before.before.before.before.before.before.before.before.before.before.before.before.before.before.before.before.before.before.before.before) {g = of c.before.before.before.before.before.before.before.before.before.before.before.before.before.before.before.before.before.before.before.before} c.decide-verdict.ensures (Verdict.Definite w) c.in-Definite.is)
 
 pub returns-in-NotDefinite : goal.returns-in-NotDefinite
 unfolding stated
 returns-in-NotDefinite c =
-    rw (c.store_numbers-in-NotDefinite.ensures ∙ numbers-stored _ _ _ c.requires.4) (made_of (given c.before.before.before.before.before.before.before.before.before.before.before.before.before.before.before) {g = of c.before.before.before.before.before.before.before.before.before.before.before.before.before.before.before} c.decide-verdict.ensures Verdict.NotDefinite c.in-NotDefinite.is)
+    rw (c.store_numbers-in-NotDefinite.ensures ∙ numbers-stored _ _ _ c.requires.4) (made_of (given c.before.before.before.before.before.before.before.before.before.before.before.before.before.before.before.before) {g = of c.before.before.before.before.before.before.before.before.before.before.before.before.before.before.before.before} c.decide-verdict.ensures Verdict.NotDefinite c.in-NotDefinite.is)
 
 pub returns-in-Undecided : goal.returns-in-Undecided
 unfolding stated
-returns-in-Undecided c = made_of (given c.before.before.before.before.before.before.before.before.before.before) {g = of c.before.before.before.before.before.before.before.before.before.before} c.decide-verdict.ensures Verdict.Undecided c.in-Undecided.is
+returns-in-Undecided c = made_of (given c.before.before.before.before.before.before.before.before.before.before.before) {g = of c.before.before.before.before.before.before.before.before.before.before.before} c.decide-verdict.ensures Verdict.Undecided c.in-Undecided.is
 
 pub returns-in-Refused : goal.returns-in-Refused
 unfolding stated
 returns-in-Refused c =
-    made_of (given c.before.before.before.before.before.before.before.before.before.before) {g = of c.before.before.before.before.before.before.before.before.before.before} c.decide-verdict.ensures (Verdict.Refused c.in-Refused.r) c.in-Refused.is
+    made_of (given c.before.before.before.before.before.before.before.before.before.before.before) {g = of c.before.before.before.before.before.before.before.before.before.before.before} c.decide-verdict.ensures (Verdict.Refused c.in-Refused.r) c.in-Refused.is

@@ -34,13 +34,13 @@ carried s P v h e =
 
 pub returns-in-Accepted : goal.returns-in-Accepted
 returns-in-Accepted c =
-    carried c.before.before.before.before.before.before FactorAnswer.Accepted c.in-Accepted.v c.known_told-1.given.0.1 c.store_signed.ensures
-    ∙ ap (given c.before.before.before.before.before.before) (sym c.in-Accepted.is)
+    carried c.before.before.before.before.before.before.before FactorAnswer.Accepted c.in-Accepted.v c.in-Accepted.known_told-1-own.given.0.1 c.store_signed.ensures
+    ∙ ap (given c.before.before.before.before.before.before.before) (sym c.in-Accepted.is)
 
 pub returns-in-NotAccepted : goal.returns-in-NotAccepted
 returns-in-NotAccepted c =
-    carried c.before.before.before.before.before.before FactorAnswer.NotAccepted c.in-NotAccepted.v c.known_told-in-NotAccepted-1.given.0.1 c.store_signed-in-NotAccepted.ensures
-    ∙ ap (given c.before.before.before.before.before.before) (sym c.in-NotAccepted.is)
+    carried c.before.before.before.before.before.before.before FactorAnswer.NotAccepted c.in-NotAccepted.v c.in-NotAccepted.known_told-in-NotAccepted-1-own.given.0.1 c.store_signed-in-NotAccepted.ensures
+    ∙ ap (given c.before.before.before.before.before.before.before) (sym c.in-NotAccepted.is)
 
 pub returns-in-Refused : goal.returns-in-Refused
-returns-in-Refused c = ap (given c.before.before) (sym c.in-Refused.is)
+returns-in-Refused c = ap (given c.before.before.before) (sym c.in-Refused.is)

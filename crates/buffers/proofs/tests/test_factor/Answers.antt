@@ -65,59 +65,59 @@ given s r = stored_over r s.args.over.now
 
 pub returns-then-m-eq0 : goal.returns-then-m-eq0
 unfolding factor_tested
-returns-then-m-eq0 c = ap (given c.before.before.before.before.before.before) (no-order _ _ _ _ _ FactorAnswer.Refused _ (sym (order c.before) ∙ c.if-m-eq0.true))
+returns-then-m-eq0 c = ap (given c.before.before.before.before.before.before.before) (no-order _ _ _ _ _ FactorAnswer.Refused _ (sym (order c.before.before) ∙ c.if-m-eq0.true))
 
 pub factor_sizes_ok-sized-requires : goal.factor_sizes_ok-sized-requires
 unfolding factor_tested
-factor_sizes_ok-sized-requires c = rw (order c.before) (order_small _)
+factor_sizes_ok-sized-requires c = rw (order c.before.before) (order_small _)
 
 pub returns-then-not-sized : goal.returns-then-not-sized
 unfolding factor_tested
-returns-then-not-sized c = ap (given c.before.before.before.before.before.before.before.before) (no-sizes _ _ _ _ _ FactorAnswer.Refused _ (λ e. c.if-m-eq0.false (order c.before.before.before ∙ e)) (call_false (sized c.before) c.if-not-sized.true-raw))
+returns-then-not-sized c = ap (given c.before.before.before.before.before.before.before.before.before) (no-sizes _ _ _ _ _ FactorAnswer.Refused _ (λ e. c.if-m-eq0.false (order c.before.before.before.before ∙ e)) (call_false (sized c.before.before) c.if-not-sized.true-raw))
 
 pub load_bounds-requires : goal.load_bounds-requires
 unfolding factor_tested
 load_bounds-requires c =
-    rw (order c.before.before.before.before.before) (order_small _, (λ s. let z = factor_buffers_of _ _ _ _ _ (sym (sized c.before.before.before) ∙ s) in (omega (arith, z.0), omega (arith, z.1))), refl, refl)
+    rw (order c.before.before.before.before.before.before) (order_small _, (λ s. let z = factor_buffers_of _ _ _ _ _ (sym (sized c.before.before.before.before) ∙ s) in (omega (arith, z.0), omega (arith, z.1))), refl, refl)
 
 pub check_laid-checked-requires : goal.check_laid-checked-requires
 unfolding factor_tested
-check_laid-checked-requires c = rw (order c.before.before.before.before.before.before.before.before) (order_small _, order_fits _ refl, c.load_bounds.ensures.rooms)
+check_laid-checked-requires c = rw (order c.before.before.before.before.before.before.before.before.before) (order_small _, order_fits _ refl, c.load_bounds.ensures.rooms)
 
 pub returns-in-Refused : goal.returns-in-Refused
 unfolding factor_tested
 returns-in-Refused c = let a = c.args in let k = order_of a.n in
-    ap (given c.before.before.before.before.before.before.before.before.before.before.before.before.before.before.before) (entered-refused _ _ _ _ _ FactorAnswer.Refused (factor_answer k (low_bounds k (table_of k a.low.now)) (high_bounds k (table_of k a.high.now)) (at k (table_of k a.factor.now))) (came c.before) c.in-Refused.is)
+    ap (given c.before.before.before.before.before.before.before.before.before.before.before.before.before.before.before.before) (entered-refused _ _ _ _ _ FactorAnswer.Refused (factor_answer k (low_bounds k (table_of k a.low.now)) (high_bounds k (table_of k a.high.now)) (at k (table_of k a.factor.now))) (came c.before.before) c.in-Refused.is)
 
 pub overflow_mul-m : goal.overflow_mul-m
 unfolding factor_tested
-overflow_mul-m c = record { fits = omega (arith, order_fits _ (order c.before.before.before.before.before.before.before.before.before.before.before)) }
+overflow_mul-m c = record { fits = omega (arith, order_fits _ (order c.before.before.before.before.before.before.before.before.before.before.before.before)) }
 
 pub load_numbers-requires : goal.load_numbers-requires
 unfolding factor_tested
 load_numbers-requires c =
-    let z = factor_buffers_of _ _ _ _ _ (came-through _ _ _ _ _ (came c.before.before) c.in_default.is).sizes in
-    rw (order c.before.before.before.before.before.before.before.before.before.before.before) (refl, omega (arith, z.2), table_fits (order_small _))
+    let z = factor_buffers_of _ _ _ _ _ (came-through _ _ _ _ _ (came c.before.before.before) c.in_default.is).sizes in
+    rw (order c.before.before.before.before.before.before.before.before.before.before.before.before) (refl, omega (arith, z.2), table_fits (order_small _))
 
 pub slice_bounds-answer-end : goal.slice_bounds-answer-end
 unfolding factor_tested
-slice_bounds-answer-end c = sym (room c.before.before.before.before)
+slice_bounds-answer-end c = sym (room c.before.before.before.before.before)
 
 pub answer-requires : goal.answer-requires
 unfolding factor_tested
 answer-requires c =
     let q = c.in_default.is in
-    rw (order c.before.before.before.before.before.before.before.before.before.before.before.before.before.before.before.before) (((came c.before.before.before.before.before.before.before).held q).tables, (came c.before.before.before.before.before.before.before).rooms, omega (arith, room c.before.before.before.before, table_fits (order_small c.args.n)), order-positive _ (came-through _ _ _ _ _ (came c.before.before.before.before.before.before.before) q).ordered)
+    rw (order c.before.before.before.before.before.before.before.before.before.before.before.before.before.before.before.before.before) (((came c.before.before.before.before.before.before.before.before).held q).tables, (came c.before.before.before.before.before.before.before.before).rooms, omega (arith, room c.before.before.before.before.before, table_fits (order_small c.args.n)), order-positive _ (came-through _ _ _ _ _ (came c.before.before.before.before.before.before.before.before) q).ordered)
 
 pub store_over-requires : goal.store_over-requires
 unfolding factor_tested
 store_over-requires c =
-    (factor_buffers_of _ _ _ _ _ (came-through _ _ _ _ _ (came c.before.before.before.before.before.before.before.before.before) c.in_default.is).sizes).3
+    (factor_buffers_of _ _ _ _ _ (came-through _ _ _ _ _ (came c.before.before.before.before.before.before.before.before.before.before) c.in_default.is).sizes).3
 
 pub returns : goal.returns
 unfolding factor_tested
 returns c =
     let q = c.in_default.is in
-    let h = (came c.before.before.before.before.before.before.before.before.before.before.before.before).held q in
+    let h = (came c.before.before.before.before.before.before.before.before.before.before.before.before.before).held q in
     c.store_over.ensures
-    ∙ ap (given c.before.before.before.before.before.before.before.before.before.before.before.before.before.before.before.before.before.before.before.before.before.before.before.before.before.before) ((rw (order c.before.before.before.before.before.before.before.before.before.before.before.before.before.before.before.before.before.before.before.before.before, h.low, h.high, padded-at (offered c.before.before.before.before.before.before.before.before.before) _) at c.answer.ensures) ∙ entered-passed _ _ _ _ _ FactorAnswer.Refused _ (came c.before.before.before.before.before.before.before.before.before.before.before.before) q)
+    ∙ ap (given c.before.before.before.before.before.before.before.before.before.before.before.before.before.before.before.before.before.before.before.before.before.before.before.before.before.before.before) ((rw (order c.before.before.before.before.before.before.before.before.before.before.before.before.before.before.before.before.before.before.before.before.before.before, h.low, h.high, padded-at (offered c.before.before.before.before.before.before.before.before.before.before) _) at c.answer.ensures) ∙ entered-passed _ _ _ _ _ FactorAnswer.Refused _ (came c.before.before.before.before.before.before.before.before.before.before.before.before.before) q)

@@ -58,65 +58,65 @@ room c = loaded_room _ refl (order_small _) (rw (order c.before.before.before.be
 
 pub returns-then-m-eq0 : goal.returns-then-m-eq0
 unfolding vector_tested
-returns-then-m-eq0 c = no-order _ _ _ _ _ Answer.Refused _ (sym (order c.before) ∙ c.if-m-eq0.true)
+returns-then-m-eq0 c = no-order _ _ _ _ _ Answer.Refused _ (sym (order c.before.before) ∙ c.if-m-eq0.true)
 
 pub overflow_mul-m : goal.overflow_mul-m
 unfolding vector_tested
-overflow_mul-m c = record { fits = omega (arith, order_fits _ (order c.before)) }
+overflow_mul-m c = record { fits = omega (arith, order_fits _ (order c.before.before)) }
 
 pub overflow_mul-m-2 : goal.overflow_mul-m-2
 unfolding vector_tested
-overflow_mul-m-2 c = record { fits = omega (arith, order_fits _ (order c.before)) }
+overflow_mul-m-2 c = record { fits = omega (arith, order_fits _ (order c.before.before)) }
 
 pub overflow_mul-m-3 : goal.overflow_mul-m-3
 unfolding vector_tested
-overflow_mul-m-3 c = record { fits = omega (arith, order_small c.args.n, order c.before) }
+overflow_mul-m-3 c = record { fits = omega (arith, order_small c.args.n, order c.before.before) }
 
 pub returns-then-not-sized : goal.returns-then-not-sized
 unfolding vector_tested
-returns-then-not-sized c = no-sizes _ _ _ _ _ Answer.Refused _ (λ e. c.if-m-eq0.false (order c.before.before.before ∙ e)) (call_false (sized c.before) c.if-not-sized.true-raw)
+returns-then-not-sized c = no-sizes _ _ _ _ _ Answer.Refused _ (λ e. c.if-m-eq0.false (order c.before.before.before.before ∙ e)) (call_false (sized c.before.before) c.if-not-sized.true-raw)
 
 pub load_bounds-requires : goal.load_bounds-requires
 unfolding vector_tested
 load_bounds-requires c =
-    rw (order c.before.before.before.before.before) (order_small _, (λ s. let z = sizes-of _ _ _ _ _ (sym (sized c.before.before.before) ∙ s) in (omega (arith, z.0), omega (arith, z.1))), refl, refl)
+    rw (order c.before.before.before.before.before.before) (order_small _, (λ s. let z = sizes-of _ _ _ _ _ (sym (sized c.before.before.before.before) ∙ s) in (omega (arith, z.0), omega (arith, z.1))), refl, refl)
 
 pub check_laid-checked-requires : goal.check_laid-checked-requires
 unfolding vector_tested
-check_laid-checked-requires c = rw (order c.before.before.before.before.before.before.before.before) (order_small _, order_fits _ refl, c.load_bounds.ensures.rooms)
+check_laid-checked-requires c = rw (order c.before.before.before.before.before.before.before.before.before) (order_small _, order_fits _ refl, c.load_bounds.ensures.rooms)
 
 pub returns-in-Refused : goal.returns-in-Refused
 unfolding vector_tested
 returns-in-Refused c = let a = c.args in let k = order_of a.n in
-    entered-refused _ _ _ _ _ Answer.Refused (vector_answer k (low_bounds k (table_of k a.low.now)) (high_bounds k (table_of k a.high.now)) (nth (vector_of k a.vector.now))) (came c.before) c.in-Refused.is
+    entered-refused _ _ _ _ _ Answer.Refused (vector_answer k (low_bounds k (table_of k a.low.now)) (high_bounds k (table_of k a.high.now)) (nth (vector_of k a.vector.now))) (came c.before.before) c.in-Refused.is
 
 pub load_numbers-requires : goal.load_numbers-requires
 unfolding vector_tested
 load_numbers-requires c =
-    let z = sizes-of _ _ _ _ _ (came-through _ _ _ _ _ (came c.before.before) c.in_default.is).sizes in
-    rw (order c.before.before.before.before.before.before.before.before.before.before.before) (refl, omega (arith, z.2), order_small _)
+    let z = sizes-of _ _ _ _ _ (came-through _ _ _ _ _ (came c.before.before.before) c.in_default.is).sizes in
+    rw (order c.before.before.before.before.before.before.before.before.before.before.before.before) (refl, omega (arith, z.2), order_small _)
 
 pub slice_bounds-answer-end : goal.slice_bounds-answer-end
 unfolding vector_tested
-slice_bounds-answer-end c = sym (came c.before.before.before.before.before).rooms.low-size
+slice_bounds-answer-end c = sym (came c.before.before.before.before.before.before).rooms.low-size
 
 pub slice_bounds-answer-end-2 : goal.slice_bounds-answer-end-2
 unfolding vector_tested
-slice_bounds-answer-end-2 c = sym (came c.before.before.before.before.before.before).rooms.high-size
+slice_bounds-answer-end-2 c = sym (came c.before.before.before.before.before.before.before).rooms.high-size
 
 pub slice_bounds-answer-end-3 : goal.slice_bounds-answer-end-3
 unfolding vector_tested
-slice_bounds-answer-end-3 c = sym (room c.before.before.before.before)
+slice_bounds-answer-end-3 c = sym (room c.before.before.before.before.before)
 
 pub answer-requires : goal.answer-requires
 unfolding vector_tested
 answer-requires c =
-    let h = (came c.before.before.before.before.before.before.before).held c.in_default.is in
-    rw (order c.before.before.before.before.before.before.before.before.before.before.before.before.before.before.before.before) (h.tables, omega (arith, room c.before.before.before.before, order_small c.args.n))
+    let h = (came c.before.before.before.before.before.before.before.before).held c.in_default.is in
+    rw (order c.before.before.before.before.before.before.before.before.before.before.before.before.before.before.before.before.before) (h.tables, omega (arith, room c.before.before.before.before.before, order_small c.args.n))
 
 pub returns : goal.returns
 unfolding vector_tested
 returns c =
     let q = c.in_default.is in
-    let h = (came c.before.before.before.before.before.before.before.before).held q in
-    (rw (order c.before.before.before.before.before.before.before.before.before.before.before.before.before.before.before.before.before, h.low, h.high, padded-nth (offered c.before.before.before.before.before)) at c.answer.ensures) ∙ entered-passed _ _ _ _ _ Answer.Refused _ (came c.before.before.before.before.before.before.before.before) q
+    let h = (came c.before.before.before.before.before.before.before.before.before).held q in
+    (rw (order c.before.before.before.before.before.before.before.before.before.before.before.before.before.before.before.before.before.before, h.low, h.high, padded-nth (offered c.before.before.before.before.before.before)) at c.answer.ensures) ∙ entered-passed _ _ _ _ _ Answer.Refused _ (came c.before.before.before.before.before.before.before.before.before) q

@@ -1,13 +1,7 @@
 use mathlib.Core.Path.{◌≡◌, refl, ◌∙◌}
-use Prim.Native.Nat.{◌+◌, ◌-◌, ◌*◌, ◌≤◌}
 use native.Mathlib.Omega.{arith}
 use native.Mathlib.Numerals.{add-one}
-use lib.ListN.{length}
-use mir.Syntax.{w64}
-use mir.Val.{bytes}
 use Rattle.integers.proofs.Machine.{clean_result}
-use Rattle.words.specs.Numbers.{signed_at}
-use Rattle.tables.specs.Buffers.{Filled}
 use Rattle.tables.proofs.Buffers.{filled_none, filled_more}
 use Rattle.pool_buffers.proofs.pooling.load_part.Goals as goal
 

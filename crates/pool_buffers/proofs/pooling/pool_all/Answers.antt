@@ -1,12 +1,8 @@
 use mathlib.Core.Path.{refl, sym, ◌∙◌}
-use mathlib.Core.List.{List}
-use Prim.Native.Nat.{ℕ, ◌-◌, ◌≤◌}
 use native.Mathlib.Omega.{arith}
 use Rattle.integers.proofs.Machine.{clean, clean_element}
-use Rattle.tables.specs.declared.problem.Constraint.{Constraint}
-use Rattle.pool_buffers.specs.PoolBuffers.{spelled_problems}
 use Rattle.pool.specs.Passing.{passing}
-use Rattle.pool.proofs.Going.{Scratch, scratch_rooms, Begun, Going, going_none, going_next, going_rooms, going_ready, going_whole}
+use Rattle.pool.proofs.Going.{Scratch, scratch_rooms, Begun, going_none, going_next, going_rooms, going_ready, going_whole}
 use Rattle.pool_buffers.proofs.pooling.pool_all.Invariants.{problems}
 use Rattle.pool_buffers.proofs.pooling.pool_all.Goals as goal
 use Rattle.pool_buffers.proofs.pooling.pool_all.Goals.{After-begin-done, After-load_problem-limit}
@@ -71,8 +67,7 @@ overflow_add-k c = omega (arith, c.loop-k-test.true, c.requires.1)
 pub loop-k-preserved : goal.loop-k-preserved
 loop-k-preserved c =
     let m = c.add_problem-done.auto in
-    let w = scratch (goal.at.loop-k-preserved c).After-load_problem-limit in
-    (
+    let w = scratch (goal.at.loop-k-preserved c).After-load_problem-limit in (
       omega (arith, c.loop-k-test.true),
       record { low = m.pl ∙ w.low; high = m.pu ∙ w.high; from = w.from; to = w.to },
       going_next c.loop-k.invariant.2 c.load_problem-limit.ensures.sums (record { low = m.l; high = m.u; from = m.a; to = m.b })

@@ -1,13 +1,9 @@
 -- The loop's invariant: k problems are done, and the scratch lists have their lengths.
-use mathlib.Core.Path.{refl, sym, ◌∙◌}
 use mathlib.Core.List.{List}
 use Prim.Native.Nat.{ℕ, ◌-◌, ◌≤◌}
-use native.Mathlib.Omega.{arith}
-use Rattle.integers.proofs.Machine.{clean, clean_result}
 use Rattle.tables.specs.declared.problem.Constraint.{Constraint}
 use Rattle.pool_buffers.specs.PoolBuffers.{spelled_problems}
-use Rattle.pool.specs.Passing.{passing}
-use Rattle.pool.proofs.Going.{Scratch, scratch_rooms, Begun, Going, going_none, going_next, going_rooms, going_ready, going_whole}
+use Rattle.pool.proofs.Going.{Scratch, Going}
 use Rattle.pool_buffers.proofs.pooling.pool_all.Given as goal
 
 abbrev pub problems : ℕ → ℕ → List ℕ → List ℕ → List ℕ → List ℕ → List ℕ → ℕ → Constraint

@@ -2,7 +2,6 @@ use mathlib.Core.Path.{refl, ap, ◌∙◌}
 use mathlib.Core.List.{List}
 use Prim.Native.Nat.{ℕ, ◌*◌}
 use native.Mathlib.Omega.{arith}
-use borrow.Author.Rules.{rules}
 use mir.Syntax.{w64}
 use Rattle.integers.proofs.Machine.{clean_element}
 use Rattle.words.specs.Numbers.{bytes_of}
@@ -46,8 +45,7 @@ load_sums-requires c =
 pub pool_all-summed-requires : goal.pool_all-summed-requires
 pool_all-summed-requires c =
     let k = c.load_sums.auto in
-    let p = c.requires in
-    (
+    let p = c.requires in (
       p.0,
       p.1,
       record {

@@ -54,42 +54,42 @@ given s g = let a = s.args in stored_stiffness (order_of a.n) g a.step.now a.bou
 
 pub returns-then-m-eq0 : goal.returns-then-m-eq0
 unfolding bracketing
-returns-then-m-eq0 c = ap (given c.before.before.before.before.before.before.before) (no-order _ _ _ _ _ refused _ (sym (order c.before) ∙ c.if-m-eq0.true))
+returns-then-m-eq0 c = ap (given c.before.before.before.before.before.before.before.before) (no-order _ _ _ _ _ refused _ (sym (order c.before.before) ∙ c.if-m-eq0.true))
 
 pub sizes_ok-sized-requires : goal.sizes_ok-sized-requires
 unfolding bracketing
-sizes_ok-sized-requires c = rw (order c.before) (order_small _)
+sizes_ok-sized-requires c = rw (order c.before.before) (order_small _)
 
 pub returns-then-not-sized : goal.returns-then-not-sized
 unfolding bracketing
-returns-then-not-sized c = ap (given c.before.before.before.before.before.before.before.before.before) (no-sizes _ _ _ _ _ refused _ (λ e. c.if-m-eq0.false (order c.before.before.before ∙ e)) (call_false (sized c.before) c.if-not-sized.true-raw))
+returns-then-not-sized c = ap (given c.before.before.before.before.before.before.before.before.before.before) (no-sizes _ _ _ _ _ refused _ (λ e. c.if-m-eq0.false (order c.before.before.before.before ∙ e)) (call_false (sized c.before.before) c.if-not-sized.true-raw))
 
 pub load_bounds-requires : goal.load_bounds-requires
 unfolding bracketing
 load_bounds-requires c =
-    rw (order c.before.before.before.before.before) (order_small _, (λ s. let z = stiffness_buffers_of _ _ _ _ _ _ (sym (sized c.before.before.before) ∙ s) in (omega (arith, z.0), omega (arith, z.1))), refl, refl)
+    rw (order c.before.before.before.before.before.before) (order_small _, (λ s. let z = stiffness_buffers_of _ _ _ _ _ _ (sym (sized c.before.before.before.before) ∙ s) in (omega (arith, z.0), omega (arith, z.1))), refl, refl)
 
 pub check_laid-checked-requires : goal.check_laid-checked-requires
 unfolding bracketing
-check_laid-checked-requires c = rw (order c.before.before.before.before.before.before.before.before) (order_small _, order_fits _ refl, c.load_bounds.ensures.rooms)
+check_laid-checked-requires c = rw (order c.before.before.before.before.before.before.before.before.before) (order_small _, order_fits _ refl, c.load_bounds.ensures.rooms)
 
 pub returns-in-Refused : goal.returns-in-Refused
 unfolding bracketing
 returns-in-Refused c =
-    ap (given c.before.before.before.before.before.before.before.before.before.before.before.before.before.before.before.before) (entered-refused _ _ _ _ _ refused _ (came c.before) c.in-Refused.is)
+    ap (given c.before.before.before.before.before.before.before.before.before.before.before.before.before.before.before.before.before) (entered-refused _ _ _ _ _ refused _ (came c.before.before) c.in-Refused.is)
 
 pub bracket_bounds-requires : goal.bracket_bounds-requires
 unfolding bracketing
 bracket_bounds-requires c =
     let q = c.in_default.is in
-    let b = came-through _ _ _ _ _ (came c.before.before.before.before.before.before) q in
+    let b = came-through _ _ _ _ _ (came c.before.before.before.before.before.before.before) q in
     let z = stiffness_buffers_of _ _ _ _ _ _ b.sizes in
-    rw (order c.before.before.before.before.before.before.before.before.before.before.before.before.before.before.before) (((came c.before.before.before.before.before.before).held q).tables, order-positive _ b.ordered, z.2, z.3, z.4)
+    rw (order c.before.before.before.before.before.before.before.before.before.before.before.before.before.before.before.before) (((came c.before.before.before.before.before.before.before).held q).tables, order-positive _ b.ordered, z.2, z.3, z.4)
 
 pub returns : goal.returns
 unfolding bracketing
 returns c =
     let q = c.in_default.is in
-    let h = (came c.before.before.before.before.before.before.before.before.before.before.before.before.before).held q in
-    rw (← entered-passed _ _ _ _ _ refused _ (came c.before.before.before.before.before.before.before.before.before.before.before.before.before) q)
-    (rw (order c.before.before.before.before.before.before.before.before.before.before.before.before.before.before.before.before.before.before.before.before.before.before, h.low, h.high) at c.bracket_bounds.ensures)
+    let h = (came c.before.before.before.before.before.before.before.before.before.before.before.before.before.before).held q in
+    rw (← entered-passed _ _ _ _ _ refused _ (came c.before.before.before.before.before.before.before.before.before.before.before.before.before.before) q)
+    (rw (order c.before.before.before.before.before.before.before.before.before.before.before.before.before.before.before.before.before.before.before.before.before.before.before, h.low, h.high) at c.bracket_bounds.ensures)

@@ -37,19 +37,19 @@ unfolding stated
 returns-in-Between c =
     let t = c.in-Between.t in
     let v = c.in-Between.v in
-    let e = clean_element t c.known_told-1.given.0.1 in
-    let h = clean_element v c.known_told-1.given.1.0.1 in
+    let e = clean_element t c.in-Between.known_told-1-own.given.0.1 in
+    let h = clean_element v c.in-Between.known_told-1-own.given.1.0.1 in
     rw (c.store_bound.ensures.0, c.store_bound.ensures.1, e, h, number-stored c.args.step.now c.requires.2 e c.store_signed.ensures)
-    (made (given c.before.before.before.before.before.before.before.before.before.before.before.before.before.before.before.before.before.before) {g = of c.before.before.before.before.before.before.before.before.before.before.before.before.before.before.before.before.before.before} c.find-found.ensures (Stiffness.Between t v) c.in-Between.is)
+    (made (given c.before.before.before.before.before.before.before.before.before.before.before.before.before.before.before.before.before.before.before) {g = of c.before.before.before.before.before.before.before.before.before.before.before.before.before.before.before.before.before.before.before} c.find-found.ensures (Stiffness.Between t v) c.in-Between.is)
 
 pub returns-in-AtMost : goal.returns-in-AtMost
 unfolding stated
 returns-in-AtMost c =
     let v = c.in-AtMost.v in
-    rw (c.store_bound-in-AtMost.ensures.0, c.store_bound-in-AtMost.ensures.1, clean_element v c.known_told-in-AtMost-1.given.0.1)
-    (made (given c.before.before.before.before.before.before.before.before.before.before.before.before.before.before) {g = of c.before.before.before.before.before.before.before.before.before.before.before.before.before.before} c.find-found.ensures (Stiffness.AtMost v) c.in-AtMost.is)
+    rw (c.store_bound-in-AtMost.ensures.0, c.store_bound-in-AtMost.ensures.1, clean_element v c.in-AtMost.known_told-in-AtMost-1-own.given.0.1)
+    (made (given c.before.before.before.before.before.before.before.before.before.before.before.before.before.before.before) {g = of c.before.before.before.before.before.before.before.before.before.before.before.before.before.before.before} c.find-found.ensures (Stiffness.AtMost v) c.in-AtMost.is)
 
 pub returns-in-Refused : goal.returns-in-Refused
 unfolding stated
 returns-in-Refused c =
-    made (given c.before.before.before.before.before.before) {g = of c.before.before.before.before.before.before} c.find-found.ensures (Stiffness.Refused c.in-Refused.r) c.in-Refused.is
+    made (given c.before.before.before.before.before.before.before) {g = of c.before.before.before.before.before.before.before} c.find-found.ensures (Stiffness.Refused c.in-Refused.r) c.in-Refused.is

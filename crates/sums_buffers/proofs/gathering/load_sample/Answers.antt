@@ -1,6 +1,5 @@
 use mathlib.Core.Path.{ap, ◌∙◌}
 use Prim.Native.Nat.{◌*◌}
-use borrow.Author.Rules.{rules}
 use Rattle.sums.specs.Required.{front}
 use Rattle.samples.specs.Samples.{factor_count}
 use Rattle.sums_buffers.proofs.Sums.{loaded-front}

@@ -1,4 +1,3 @@
-use borrow.Author.Rules.{rules}
 use Rattle.sums_buffers.proofs.reading.read_sized.Goals as goal
 
 pub returns-then-constraint_sized : goal.returns-then-constraint_sized

@@ -16,12 +16,11 @@ use Rattle.tables.specs.declared.Refusal.TheVariants.{Order, Length}
 use Rattle.tables.specs.declared.problem.Constraint.{Constraint}
 use Rattle.tables.proofs.Admission.{order_small, order_fits, order-given, no-order, no-sizes}
 use Rattle.rides.specs.declared.reading.Reading.{Reading}
-use Rattle.rides.specs.declared.reading.Reading.TheVariants as Reading
 use Rattle.sums.specs.Sums.{terms_in}
 use Rattle.rides.specs.Reading.{limits_in, read_limit, read_sums}
 use Rattle.rides.proofs.Readings.{reading-sized}
 use Rattle.buffers.specs.Buffers.{table_of, vector_of}
-use Rattle.sums_buffers.specs.SumsBuffers.{read_buffers, ReadOut, stored_limit}
+use Rattle.sums_buffers.specs.SumsBuffers.{read_buffers, stored_limit}
 use Rattle.buffers.proofs.Loading.{terms_by}
 use Rattle.buffers.proofs.Stores.{number-stored}
 use Rattle.sums_buffers.proofs.Sums.{read-sizes-of, reading-spelled, laid_by}

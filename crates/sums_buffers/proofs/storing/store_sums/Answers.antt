@@ -1,6 +1,5 @@
 use mathlib.Core.Path.{◌∙◌}
 use Prim.Native.Nat.{◌*◌}
-use borrow.Author.Rules.{rules}
 use Rattle.buffers.proofs.Stores.{numbers-stored}
 use Rattle.sums_buffers.proofs.storing.store_sums.Goals as goal
 
