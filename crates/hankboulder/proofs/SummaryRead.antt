@@ -77,7 +77,7 @@ module _ (s : List ℕ) (b : Parts) (v : AllBytes s) where
 
   -- so does that of an answer that is the definition's
   pub read_summary_exactly : {h : Handed} → h ≡ read_summary s b →
-      (record { number = checked_code h.answer; parts = h.parts } ≡ read_summary_entry s b) × ReadSummaryMeaning s h.parts (checked_code h.answer)
+      record { exact : ◌≡◌ {A = ReadSummaryResult} (record { number = checked_code h.answer; parts = h.parts }) (read_summary_entry s b); meaning : ReadSummaryMeaning s h.parts (checked_code h.answer) }
   unfolding read_summary_entry
   read_summary_exactly {h} e =
       exactly (λ (j : ReadSummaryResult). ReadSummaryMeaning s j.parts j.number) read_summary_means (record { number = checked_code h.answer; parts = h.parts })

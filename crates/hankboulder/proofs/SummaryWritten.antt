@@ -47,7 +47,7 @@ module _ (n : ℤ) (l u a b : List ℕ) (α : ℤ) (c s : List ℕ) (v : Bytes a
 
   -- so does that of an answer that is the definition's
   pub write_summary_exactly : {h : Written} → h ≡ write_summary n l u a b α c s →
-      (record { number = checked_code h.answer; file = h.file } ≡ write_summary_entry n l u a b α c s) × WriteSummaryMeaning n l u a b α c (checked_code h.answer) h.file
+      record { exact : ◌≡◌ {A = WriteSummaryResult} (record { number = checked_code h.answer; file = h.file }) (write_summary_entry n l u a b α c s); meaning : WriteSummaryMeaning n l u a b α c (checked_code h.answer) h.file }
   unfolding write_summary_entry
   write_summary_exactly {h} e =
       exactly (λ (j : WriteSummaryResult). WriteSummaryMeaning n l u a b α c j.number j.file) write_summary_means (record { number = checked_code h.answer; file = h.file })

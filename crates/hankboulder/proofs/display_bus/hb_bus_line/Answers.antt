@@ -7,4 +7,4 @@ use Rattle.hankboulder.proofs.display_bus.hb_bus_line.Goals as goal
 
 pub returns : goal.returns
 unfolding bus_line_entry
-returns c = rw (clean_element c.line_code.result c.line_code.type_inv) (c.line_code.ensures ∙ ap line_code c.line.ensures)
+returns c = record { exact = rw (clean_element c.line_code.result c.line_code.type_inv) (c.line_code.ensures ∙ ap line_code c.line.ensures.exact) }

@@ -6,5 +6,4 @@ use Rattle.hankboulder.proofs.display_bus.hb_bus_write.Goals as goal
 
 pub returns : goal.returns
 unfolding bus_write_entry
-returns c =
-    rw (clean_element c.checked_code.result c.checked_code.type_inv, c.checked_code.ensures) (ap moved_result (rw (clean c.ranges.address) at c.write.ensures))
+returns c = record { exact = rw (clean_element c.checked_code.result c.checked_code.type_inv, c.checked_code.ensures) (ap moved_result (rw (clean c.ranges.address) at c.write.ensures.exact)) }

@@ -9,24 +9,7 @@ use Rattle.pool.specs.Pool.{Problems}
 use Rattle.hankboulder.specs.Entries.{GatherResult, pool_stored, pool_entry}
 use Rattle.hankboulder.specs.Meanings.{PoolMeaning}
 use Rattle.hankboulder.proofs.SumsPooled.{pooled-means}
-use Rattle.hankboulder.proofs.pooling.hb_pool.Lts as lts
-use Rattle.hankboulder.proofs.pooling.hb_pool.Tie as tie
-use Rattle.hankboulder.proofs.pooling.hb_pool.Reads as reads
 use Rattle.hankboulder.proofs.pooling.hb_pool.Goals as goal
-
-abbrev Start : Type 0
-Start = lts.Start tie.the-claims reads.Pre reads.Post tie.handed_clauses
-
-abbrev lent : Start → Lent (List ℕ)
-lent s = let a = s.args in record { low = a.low.now; high = a.high.now; from = a.linear_low.now; to = a.linear_high.now; limit = a.running-limit.now }
-
-abbrev lists : Start → Problems (List ℕ)
-lists s =
-    let a = s.args in
-    record { lows = a.lows.now; highs = a.highs.now; froms = a.linear-lows.now; tos = a.linear-highs.now; limits = a.limits.now }
-
-abbrev means : Start → GatherResult → Type 0
-means s j = PoolMeaning s.args.n s.args.orders.now (lists s) (lent s) j.sums j.number
 
 -- an answer's number, and the buffers
 abbrev numbered : Left (List ℕ) → GatherResult
@@ -35,6 +18,9 @@ numbered j = record { number = gathered_code j.answer; sums = j.sums }
 pub returns : goal.returns
 unfolding pool_entry pool_stored
 returns c =
-    rw (clean_element c.gathered_code.result c.gathered_code.type_inv, c.gathered_code.ensures)
-    (exactly (means c.before.before.before.before.before.before.before.before.before.before.before.before.before.before.before.before.before.before.before.before.before.before.before.before.before.before.before.before) (pooled-means c.args.n c.args.orders.now (lists c.before.before.before.before.before.before.before.before.before.before.before.before.before.before.before.before.before.before.before.before.before.before.before.before.before.before.before.before) (lent c.before.before.before.before.before.before.before.before.before.before.before.before.before.before.before.before.before.before.before.before.before.before.before.before.before.before.before.before)) _
-    (ap numbered (rw (clean c.ranges.n) at c.pool.ensures)))
+    let a = c.args in
+    let lent : Lent (List ℕ) = record { low = a.low.now; high = a.high.now; from = a.linear_low.now; to = a.linear_high.now; limit = a.running_limit.now } in
+    let lists : Problems (List ℕ) =
+    record { lows = a.lows.now; highs = a.highs.now; froms = a.linear_lows.now; tos = a.linear_highs.now; limits = a.limits.now } in
+    exactly (λ (j : GatherResult). PoolMeaning a.n a.orders.now lists lent j.sums j.number) (pooled-means a.n a.orders.now lists lent) _
+    (rw (clean_element c.gathered_code.result c.gathered_code.type_inv, c.gathered_code.ensures) (ap numbered (rw (clean c.ranges.n) at c.pool.ensures)))
