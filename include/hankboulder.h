@@ -308,7 +308,7 @@ extern "C" {
 /*
  * The stack that a call needs, in bytes, at any order, its arguments and return address included. Measured and not proved: bench/stack
  * painted the stack below 2000 calls or more of each function at each order, and what was overwritten is rounded up by a quarter or more
- * (docs/FIRMWARE.md has the figures). That is the archive which rattle-kit-5b compiles with LLVM 22 for x86-64, with memcpy and memset of
+ * (docs/FIRMWARE.md has the figures). That is the archive which rattle-kit-13f compiles with LLVM 22 for x86-64, with memcpy and memset of
  * glibc 2.36: with any other compiler or processor, measure again. hb_gather takes order 4 alone, so its depth is that of its calls of
  * order 4. What an interrupt puts on the same stack comes on top.
  */
