@@ -1,7 +1,7 @@
 # hankboulder for C.
 #
 #   make                              prove the library and write its archive, target/staticlib/libhankboulder.a: needs the Rattle kit, and
-#                                     takes an hour or more the first time
+#                                     takes half an hour or so the first time
 #   make judge                        prove the program and write it, target/bin/judge
 #   make install PREFIX=/usr/local    install the archive, the header and a file for pkg-config (DESTDIR is respected)
 #   make uninstall PREFIX=/usr/local  remove them
