@@ -3,7 +3,7 @@
 
     tools/respell.py [FOLDER]
 
-FOLDER is a checkout in which /opt/rattle/port/port.py has just run; without it, this one. Definitions, lemmas, fields and constructors of
+FOLDER is a checkout in which port.py of the kit has just run; without it, this one. Definitions, lemmas, fields and constructors of
 specs/ and proofs/ whose name is in camel case or has dashes get underscores: rowEntry is row_entry, floor-of-negative is floor_of_negative,
 and sum-ext, where ext is no definition, sum_ext. A dash stays between the names of two definitions, as in length-to_le_bytes. A lemma that
 would get the name of a definition gets _lem behind it. A name turns where a file defines or imports it, in comments where it is in
