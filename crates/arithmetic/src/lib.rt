@@ -23,10 +23,8 @@ pub fn product_sum(n: usize, x: &[i64], y: &[i64]) -> i64
     ensures { result ≡ sum n (λ k. nth x.now k *ℤ nth y.now k) }
 {
     let mut s: i64 = 0;
-    let mut k = 0;
-    while k < n {
+    for k in 0..n {
         s += x[k] * y[k];
-        k += 1;
     }
     s
 }

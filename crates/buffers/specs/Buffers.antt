@@ -1,17 +1,16 @@
 -- R15.2, R15.3 and R15.6 of docs/RULES.md: the numbers that a buffer of bytes spells, and the bytes that an act stores in it.
-use Rattle.std.specs.Prelude.{◌≡◌, Bool, true, ◌&&◌, List, ℕ, ◌+◌, ◌*◌, ◌≤◌, eqb, ℤ, length}
+use Rattle.std.specs.Prelude.{◌≡◌, Bool, true, ◌&&◌, List, ℕ, ◌+◌, ◌*◌, ◌≤◌, eqb, ℤ, length, Result, Ok, Err}
 use Rattle.std.specs.Int.{w64}
 use mir.Val.{bytes, of_z}
 use Rattle.words.specs.Numbers.{to_le_bytes, signed_at, numbers_of, bytes_of}
 use Rattle.tables.specs.Ranges.{greatest_order}
 use Rattle.tables.specs.Matrix.{nth}
 use Rattle.tables.specs.Checks.{sizes_ok}
+use Rattle.tables.specs.declared.Refusal.{Refusal}
 use Rattle.tables.specs.declared.problem.Lengths.{Lengths}
 use Rattle.residual.specs.declared.factor_test.FactorAnswer.{FactorAnswer}
-use Rattle.residual.specs.declared.factor_test.FactorAnswer.TheVariants as FactorAnswer
 use Rattle.verdict.specs.Judge.{Judgement, definite, not_definite, undecided, refused, judge_sizes}
 use Rattle.verdict.specs.declared.judge.Verdict.{Verdict}
-use Rattle.verdict.specs.declared.judge.Verdict.TheVariants as Verdict
 use Rattle.enclosure.specs.Box.{Box}
 use Rattle.enclosure.specs.Act.{Enclosed, box_sizes, laid_sides}
 
@@ -50,18 +49,18 @@ box_buffers n = box_sizes (record { table = n * n * bytes w64; vector = n * byte
 -- ---- what is stored
 -- the factor test's answer, and the buffer of what the rows have over as it is left
 pub record StoredAnswer : Type 0 where
-  pub answer : FactorAnswer
+  pub answer : Result FactorAnswer Refusal
   pub over : List ℕ
 
 -- R15.6: written with 'accepted' and with 'not accepted', and kept on a refusal
-abbrev pub stored_over : FactorAnswer → List ℕ → StoredAnswer
-stored_over (FactorAnswer.Accepted w) o = record { answer = FactorAnswer.Accepted w; over = bytes_of_number w }
-stored_over (FactorAnswer.NotAccepted w) o = record { answer = FactorAnswer.NotAccepted w; over = bytes_of_number w }
-stored_over (FactorAnswer.Refused r) o = record { answer = FactorAnswer.Refused r; over = o }
+abbrev pub stored_over : Result FactorAnswer Refusal → List ℕ → StoredAnswer
+stored_over (Ok (FactorAnswer.Accepted w)) o = record { answer = Ok (FactorAnswer.Accepted w); over = bytes_of_number w }
+stored_over (Ok (FactorAnswer.NotAccepted w)) o = record { answer = Ok (FactorAnswer.NotAccepted w); over = bytes_of_number w }
+stored_over (Err r) o = record { answer = Err r; over = o }
 
 -- the verdict, and the buffers as they are left
 pub record StoredVerdict : Type 0 where
-  pub verdict : Verdict
+  pub verdict : Result Verdict Refusal
   pub factor : List ℕ
   pub vector : List ℕ
   pub over : List ℕ
@@ -69,10 +68,10 @@ pub record StoredVerdict : Type 0 where
 -- 'definite' writes the factor's table and what the rows have over, 'not definite' the vector; the others are kept, and all by a refusal
 abbrev pub stored_verdict : ℕ → Judgement → List ℕ → List ℕ → List ℕ → StoredVerdict
 stored_verdict n (definite t w) f v o =
-    record { verdict = Verdict.Definite w; factor = bytes_of w64 t (n * n); vector = v; over = bytes_of_number w }
-stored_verdict n (not_definite x) f v o = record { verdict = Verdict.NotDefinite; factor = f; vector = bytes_of w64 x n; over = o }
-stored_verdict n undecided f v o = record { verdict = Verdict.Undecided; factor = f; vector = v; over = o }
-stored_verdict n (refused r) f v o = record { verdict = Verdict.Refused r; factor = f; vector = v; over = o }
+    record { verdict = Ok (Verdict.Definite w); factor = bytes_of w64 t (n * n); vector = v; over = bytes_of_number w }
+stored_verdict n (not_definite x) f v o = record { verdict = Ok Verdict.NotDefinite; factor = f; vector = bytes_of w64 x n; over = o }
+stored_verdict n undecided f v o = record { verdict = Ok Verdict.Undecided; factor = f; vector = v; over = o }
+stored_verdict n (refused r) f v o = record { verdict = Err r; factor = f; vector = v; over = o }
 
 -- the sides are written, 8 bytes for each number, or the buffer is kept
 abbrev pub stored_sides : ℕ → Box → List ℕ → Enclosed (List ℕ)

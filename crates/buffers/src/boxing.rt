@@ -14,9 +14,9 @@ ghost use Rattle.buffers.specs.Buffers.{table_of, vector_of, box_buffers, stored
 
 use crate::entering::{load_bounds, load_terms};
 use enclosure::enclose::{BoxAnswer, box_sized};
-use tables::entering::{check_laid, order_of};
+use tables::entering::{check_laid, order};
 use tables::problem::{Sizes, lengths_of};
-use tables::{Checked, GREATEST_ORDER, Refusal, SIDES_ROOM, TABLE_ROOM, check_ends};
+use tables::{GREATEST_ORDER, Refusal, SIDES_ROOM, TABLE_ROOM, check_ends};
 use words::SIZE;
 
 // Refusals 8 and 9, and the box, of bounds of order n with linear terms, limit and centre in their ranges; the sides go into a buffer of
@@ -30,22 +30,18 @@ fn box_bounds(
     limit: i64,
     centre: &[i64],
     sides: &mut [u8],
-) -> BoxAnswer
+) -> Result<BoxAnswer, Refusal>
     requires { Centred n low.now high.now from.now to.now centre.now × Within limit_range limit × (length sides.old ≡
         (n + n) * bytes w64) }
     ensures { ◌≡◌ {A = Enclosed (List ℕ)} (record { answer = result; sides = sides.new }) (stored_sides n (boxed n
         (at n low.now) (at n high.now) (ends_of from.now to.now) limit (nth centre.now)) sides.old) }
 {
     let mut x = [0i64; SIDES_ROOM];
-    let given = enclosure::enclose::box_bounds(n, low, high, from, to, limit, centre, &mut x);
-    match given {
-        BoxAnswer::Sides => {
-            words::store_numbers(&x, sides, n + n, SIZE);
-            BoxAnswer::Sides
-        }
-        BoxAnswer::Empty => BoxAnswer::Empty,
-        BoxAnswer::Refused(r) => BoxAnswer::Refused(r),
+    let given = enclosure::enclose::box_bounds(n, low, high, from, to, limit, centre, &mut x)?;
+    if given == BoxAnswer::Sides {
+        words::store_numbers(&x, sides, n + n, SIZE);
     }
+    Ok(given)
 }
 
 // The box of the numbers that the buffers spell. The linear terms lie between those of from and to.
@@ -58,7 +54,7 @@ pub fn enclose(
     limit: i64,
     centre: &[u8],
     sides: &mut [u8],
-) -> BoxAnswer
+) -> Result<BoxAnswer, Refusal>
     ensures { ◌≡◌ {A = Enclosed (List ℕ)} (record { answer = result; sides = sides.new }) (stored_sides (order_of n)
         (boxing n
         (box_buffers (order_of n) (lengths_of (length low.now) (length high.now) (length from.now)
@@ -67,10 +63,7 @@ pub fn enclose(
         from.now) (vector_of (order_of n) to.now) limit (vector_of (order_of n) centre.now)))
         sides.old) }
 {
-    let m = order_of(n);
-    if m == 0 {
-        return BoxAnswer::Refused(Refusal::Order);
-    }
+    let m = order(n)?;
     let sizes = Sizes {
         table: m * m * SIZE,
         vector: m * SIZE,
@@ -78,7 +71,7 @@ pub fn enclose(
     let lengths = lengths_of(low.len(), high.len(), from.len(), to.len());
     let sized = box_sized(sizes, (m + m) * SIZE, lengths, centre.len(), sides.len());
     if !sized {
-        return BoxAnswer::Refused(Refusal::Length);
+        return Err(Refusal::Length);
     }
     let mut a = [0i64; GREATEST_ORDER];
     load_terms(m, sized, from, &mut a);
@@ -90,13 +83,7 @@ pub fn enclose(
     let mut l = [0i64; TABLE_ROOM];
     let mut u = [0i64; TABLE_ROOM];
     load_bounds(m, sized, low, high, &mut l, &mut u);
-    let checked = check_laid(m, within, &mut l, &mut u);
-    if let Checked::Refused(r) = checked {
-        return BoxAnswer::Refused(r);
-    }
-    let ordered = check_ends(m, &a, &b);
-    if let Checked::Refused(r) = ordered {
-        return BoxAnswer::Refused(r);
-    }
+    check_laid(m, within, &mut l, &mut u)?;
+    check_ends(m, &a, &b)?;
     box_bounds(m, &l, &u, &a, &b, limit, &c, sides)
 }

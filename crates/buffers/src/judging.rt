@@ -1,5 +1,5 @@
 // The judge on buffers of bytes.
-ghost use Rattle.std.specs.Prelude.{◌≡◌, ◌*◌, ◌≤◌, ◌<◌, length};
+ghost use Rattle.std.specs.Prelude.{◌≡◌, ◌*◌, ◌≤◌, ◌<◌, length, Ok};
 ghost use Rattle.std.specs.Int.{w64};
 ghost use mir.Val.{bytes};
 ghost use Rattle.tables.specs.Ranges.{greatest_order};
@@ -11,8 +11,8 @@ ghost use Rattle.verdict.specs.Judge.{judged, judging};
 ghost use Rattle.buffers.specs.Buffers.{table_of, judge_buffers, StoredVerdict, stored_verdict};
 
 use crate::entering::load_bounds;
-use tables::entering::{check_laid, order_of};
-use tables::{Checked, GREATEST_ORDER, Refusal, TABLE_ROOM, Table};
+use tables::entering::{check_laid, order};
+use tables::{GREATEST_ORDER, Refusal, TABLE_ROOM, Table};
 use verdict::judge::Verdict;
 use words::SIZE;
 
@@ -28,7 +28,7 @@ fn judge_bounds(
     requires { CheckedTables n low.old high.old × Rooms low.old high.old × (0 < n) × (length factor.old ≡ n * n * bytes
         w64) × (length vector.old ≡ n * bytes w64) × (length over.old ≡ bytes w64) }
     ensures { ◌≡◌ {A = StoredVerdict} (record {
-      verdict = result;
+      verdict = Ok result;
       factor = factor.new;
       vector = vector.new;
       over = over.new;
@@ -49,7 +49,6 @@ fn judge_bounds(
             Verdict::NotDefinite
         }
         Verdict::Undecided => Verdict::Undecided,
-        Verdict::Refused(r) => Verdict::Refused(r),
     }
 }
 
@@ -69,7 +68,7 @@ pub fn judge(
     factor: &mut [u8],
     vector: &mut [u8],
     over: &mut [u8],
-) -> Verdict
+) -> Result<Verdict, Refusal>
     ensures { ◌≡◌ {A = StoredVerdict} (record {
       verdict = result;
       factor = factor.new;
@@ -80,10 +79,7 @@ pub fn judge(
         (table_of (order_of n) low.now) (table_of (order_of n) high.now))
         factor.old vector.old over.old) }
 {
-    let m = order_of(n);
-    if m == 0 {
-        return Verdict::Refused(Refusal::Order);
-    }
+    let m = order(n)?;
     let sized = sizes_ok(
         m,
         low.len(),
@@ -93,14 +89,11 @@ pub fn judge(
         over.len(),
     );
     if !sized {
-        return Verdict::Refused(Refusal::Length);
+        return Err(Refusal::Length);
     }
     let mut l = [0i64; TABLE_ROOM];
     let mut u = [0i64; TABLE_ROOM];
     load_bounds(m, sized, low, high, &mut l, &mut u);
-    let checked = check_laid(m, true, &mut l, &mut u);
-    if let Checked::Refused(r) = checked {
-        return Verdict::Refused(r);
-    }
-    judge_bounds(m, &mut l, &mut u, factor, vector, over)
+    check_laid(m, true, &mut l, &mut u)?;
+    Ok(judge_bounds(m, &mut l, &mut u, factor, vector, over))
 }

@@ -1,5 +1,5 @@
 // The factor test and the vector test on buffers of bytes.
-ghost use Rattle.std.specs.Prelude.{◌≡◌, ◌≤◌, length};
+ghost use Rattle.std.specs.Prelude.{◌≡◌, ◌≤◌, length, Ok};
 ghost use Rattle.std.specs.Int.{w64};
 ghost use mir.Val.{bytes};
 ghost use Rattle.tables.specs.Ranges.{greatest_order};
@@ -10,8 +10,8 @@ ghost use Rattle.buffers.specs.Buffers.{table_of, vector_of, factor_buffers, vec
 
 use crate::entering::load_bounds;
 use residual::factor_test::FactorAnswer;
-use tables::entering::{check_laid, order_of};
-use tables::{Answer, Checked, GREATEST_ORDER, Refusal, TABLE_ROOM};
+use tables::entering::{check_laid, order};
+use tables::{GREATEST_ORDER, Refusal, TABLE_ROOM};
 use words::SIZE;
 
 // Whether the buffers of a factor test of order n have their sizes.
@@ -24,73 +24,58 @@ fn factor_sizes_ok(n: usize, low: usize, high: usize, factor: usize, over: usize
 }
 
 // Stores what an answer carries, in a buffer of one number.
-fn store_over(answer: FactorAnswer, over: &mut [u8]) -> FactorAnswer
+fn store_over(answer: FactorAnswer, over: &mut [u8])
     requires { length over.old ≡ bytes w64 }
-    ensures { ◌≡◌ {A = StoredAnswer} (record { answer = result; over = over.new })
-        (stored_over answer over.old) }
+    ensures { over.new ≡ (stored_over (Ok answer) over.old).over }
 {
-    match answer {
-        FactorAnswer::Accepted(v) => {
-            words::store_signed(over, 0, SIZE, v);
-            FactorAnswer::Accepted(v)
-        }
-        FactorAnswer::NotAccepted(v) => {
-            words::store_signed(over, 0, SIZE, v);
-            FactorAnswer::NotAccepted(v)
-        }
-        FactorAnswer::Refused(r) => FactorAnswer::Refused(r),
-    }
+    words::store_signed(over, 0, SIZE, answer.over());
 }
 
 // The factor test of the numbers that the buffers spell.
-pub fn test_factor(n: i64, low: &[u8], high: &[u8], factor: &[u8], over: &mut [u8]) -> FactorAnswer
+pub fn test_factor(
+    n: i64,
+    low: &[u8],
+    high: &[u8],
+    factor: &[u8],
+    over: &mut [u8],
+) -> Result<FactorAnswer, Refusal>
     ensures { ◌≡◌ {A = StoredAnswer} (record { answer = result; over = over.new }) (stored_over (factor_tested n
         (factor_buffers (order_of n) (length low.now) (length high.now) (length factor.now)
         (length over.old))
         (table_of (order_of n) low.now) (table_of (order_of n) high.now) (table_of (order_of n) factor.now))
         over.old) }
 {
-    let m = order_of(n);
-    if m == 0 {
-        return FactorAnswer::Refused(Refusal::Order);
-    }
+    let m = order(n)?;
     let sized = factor_sizes_ok(m, low.len(), high.len(), factor.len(), over.len());
     if !sized {
-        return FactorAnswer::Refused(Refusal::Length);
+        return Err(Refusal::Length);
     }
     let mut l = [0i64; TABLE_ROOM];
     let mut u = [0i64; TABLE_ROOM];
     load_bounds(m, sized, low, high, &mut l, &mut u);
-    let checked = check_laid(m, true, &mut l, &mut u);
-    if let Checked::Refused(r) = checked {
-        return FactorAnswer::Refused(r);
-    }
+    check_laid(m, true, &mut l, &mut u)?;
     let mut f = [0i64; TABLE_ROOM];
     words::load_numbers(factor, &mut f, m * m, SIZE);
-    store_over(residual::factor_test::answer(m, &mut l, &mut u, &f), over)
+    let answer = residual::factor_test::answer(m, &mut l, &mut u, &f)?;
+    store_over(answer, over);
+    Ok(answer)
 }
 
 // The vector test of the numbers that the buffers spell.
-pub fn test_vector(n: i64, low: &[u8], high: &[u8], vector: &[u8]) -> Answer
+pub fn test_vector(n: i64, low: &[u8], high: &[u8], vector: &[u8]) -> Result<bool, Refusal>
     ensures { result ≡ vector_tested n (vector_buffers (order_of n) (length low.now) (length high.now) (length
         vector.now)) (table_of (order_of n) low.now) (table_of (order_of n) high.now) (vector_of (order_of n)
         vector.now) }
 {
-    let m = order_of(n);
-    if m == 0 {
-        return Answer::Refused(Refusal::Order);
-    }
+    let m = order(n)?;
     let sized = tables::sizes_ok(m * m * SIZE, m * SIZE, low.len(), high.len(), vector.len());
     if !sized {
-        return Answer::Refused(Refusal::Length);
+        return Err(Refusal::Length);
     }
     let mut l = [0i64; TABLE_ROOM];
     let mut u = [0i64; TABLE_ROOM];
     load_bounds(m, sized, low, high, &mut l, &mut u);
-    let checked = check_laid(m, true, &mut l, &mut u);
-    if let Checked::Refused(r) = checked {
-        return Answer::Refused(r);
-    }
+    check_laid(m, true, &mut l, &mut u)?;
     let mut x = [0i64; GREATEST_ORDER];
     words::load_numbers(vector, &mut x, m, SIZE);
     vectors::vector_test::answer(m, &l, &u, &x)

@@ -15,7 +15,7 @@ use Rattle.tables.specs.Checks.{all, same, first_refusal, order_ok, order_of, wi
 use Rattle.tables.specs.Answers.{after}
 use Rattle.tables.specs.Entering.{entered}
 use Rattle.tables.specs.declared.Refusal.TheVariants.{Length, Busy}
-use Rattle.tables.specs.declared.Checked.TheVariants.{Refused}
+use Rattle.std.specs.Prelude.{Ok, Err}
 use Rattle.cholesky.specs.Scale.{scaled_by, take_off}
 use Rattle.cholesky.specs.Factoring.{entries, next_entry, goes_on, rows, next_column}
 use Rattle.cholesky.specs.Store.{upper, column_of, columns_of}
@@ -64,12 +64,12 @@ worked_cases :
     -- W76 and W77
     × (shown (begun 0 (1 ∷ [])) ≡ 0 ∷ 4 ∷ 1 ∷ 0 ∷ 0 ∷ 4 ∷ 0 ∷ []) × (shown (begun 2 (1 ∷ [])) ≡ 0 ∷ 4 ∷ 2 ∷ 0 ∷ 0 ∷ 4 ∷ 2 ∷ [])
     -- W78
-    × (written one (pos 0) 1 (spelled (0 ∷ [])) (spelled (0 ∷ [])) ≡ record { answer = Refused Busy; bus = one })
+    × (written one (pos 0) 1 (spelled (0 ∷ [])) (spelled (0 ∷ [])) ≡ record { answer = Err Busy; bus = one })
     -- W80 and W81
     × (shown (put_in (ticked one) (pos 5) 0) ≡ 0 ∷ 2 ∷ 0 ∷ 1 ∷ 0 ∷ 3 ∷ 1 ∷ [])
     × (shown (put_in (ticked one) (pos 5) 1) ≡ 0 ∷ 2 ∷ 0 ∷ 1 ∷ 0 ∷ 2 ∷ 1 ∷ [])
-    × (line (put_in (ticked one) (pos 4) 2).block ≡ Line.Raised)
-    × (line (put_in (put_in (ticked one) (pos 4) 2) (pos 5) 2).block ≡ Line.Low)
+    × (line (put_in (ticked one) (pos 4) 2).block ≡ Ok Line.Raised)
+    × (line (put_in (put_in (ticked one) (pos 4) 2) (pos 5) 2).block ≡ Ok Line.Low)
     -- W82 and W84
     × (put_in (ticked two) (pos 0) 2 ≡ reset_bus) × (ticked (put_in reset_bus (pos 1) 1) ≡ reset_bus)
     -- W85 and W86
@@ -77,7 +77,7 @@ worked_cases :
     × (shown (put_in (put_in (begun 0 (1 ∷ [])) (pos 5) 4) (pos 0) 1) ≡ 0 ∷ 4 ∷ 1 ∷ 0 ∷ 0 ∷ 4 ∷ 0 ∷ [])
     × (shown (written (put_in (ticked one) (pos 4) 2) (pos 0) 1 (spelled (1 ∷ [])) (spelled (1 ∷ []))).bus ≡ 0 ∷ 1 ∷ 0 ∷ 0 ∷ 2 ∷ 3 ∷ 1 ∷ [])
     -- W87 and W88
-    × ((write (take 31 one.block) one.run (pos 0) 1 [] []).answer ≡ Refused Length)
+    × ((write (take 31 one.block) one.run (pos 0) 1 [] []).answer ≡ Err Length)
     × (shown (ticked (put_in two (pos 5) 1)) ≡ 0 ∷ 1 ∷ 0 ∷ 0 ∷ 0 ∷ 0 ∷ 2 ∷ [])
 unfolding write where_sized bus_sized written written_at commanded writable put start is_busy reset_bus reset_block started entered tables_sized refused_start begun_start
     started_block refused_block settled_block cleared raised is_raised line ticked work_of work_at column_work search_work factor_columns column_safe

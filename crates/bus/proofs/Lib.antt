@@ -1,4 +1,3 @@
-pub mod Filling
 pub mod Areas
 pub mod Tables
 pub mod Sizes

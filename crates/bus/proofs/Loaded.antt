@@ -17,7 +17,7 @@ use Rattle.tables.specs.Ranges.{greatest_order, table_room, factor_range}
 use Rattle.tables.specs.Matrix.{Matrix, tabulate}
 use Rattle.tables.specs.Checks.{all, within, order_ok, order_of, entry_checks, table_checks}
 use Rattle.tables.specs.Entering.{Over, Mended, Entered}
-use Rattle.tables.specs.declared.Checked.{Checked}
+use Rattle.tables.specs.Checks.{Checked}
 use Rattle.tables.proofs.Checks.{and_of, more-checks}
 use Rattle.tables.proofs.Matrix.{table_fits}
 use Rattle.tables.proofs.Admission.{Padded, padded-nth, over-padded, over_room, entry-passes, order-known, mended-after, entered-laid}

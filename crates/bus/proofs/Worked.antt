@@ -20,8 +20,8 @@ use Rattle.cholesky.specs.Factoring.{Column, next_entry, rows, next_column}
 use Rattle.cholesky.specs.Store.{stride, upper, column_of, SmallColumn}
 use Rattle.cholesky.specs.Rows.{product_range}
 use Rattle.cholesky.specs.Columns.{ColumnReady, step_of, ColumnWorked}
-use Rattle.cholesky.specs.declared.column_step.Step.{Step}
-use Rattle.cholesky.specs.declared.column_step.Step.TheVariants.{Done, Stops}
+use Rattle.cholesky.specs.Columns.{Step}
+use Rattle.cholesky.specs.Columns.{Done, Stops}
 use Rattle.cholesky.proofs.Lists.{length_snoc}
 use Rattle.cholesky.proofs.Loops.{rows_by, column_ind}
 use Rattle.cholesky.proofs.Store.{length-column_of}

@@ -1,25 +1,23 @@
 -- What the code of a tick asks and leaves.
-use Rattle.std.specs.Prelude.{◌≡◌, true, false, List, ℕ, suc, ◌≤◌, ℤ}
-use Rattle.tables.specs.Checks.{first_refusal, table_checks}
+use Rattle.std.specs.Prelude.{◌≡◌, true, false, List, ℕ, suc, ◌≤◌, ℤ, Ok, Err}
+use Rattle.tables.specs.Checks.{Checked, first_refusal, table_checks}
 use Rattle.tables.specs.Entering.{Rooms, Held}
-use Rattle.tables.specs.declared.Checked.{Checked}
-use Rattle.tables.specs.declared.Checked.TheVariants.{Passed}
 use Rattle.cholesky.specs.Factoring.{Column}
 use Rattle.cholesky.specs.Store.{column_of}
-use Rattle.cholesky.specs.declared.column_step.Step.{Step}
+use Rattle.cholesky.specs.Columns.{Step}
 
 -- a stop in column j is after at most j rows
 unfoldable pub StopsIn : ℕ → Step → Type 0
-StopsIn j Step.Done = Unit
-StopsIn j (Step.Stops m) = m ≤ j
+StopsIn j (Ok _) = Unit
+StopsIn j (Err m) = m ≤ j
 
 -- the column that a step tells of, as it stands in column j of t
 unfoldable pub column_in : List ℤ → ℕ → Step → Column
-column_in t j Step.Done = record { done = true; column = column_of t j (suc j) }
-column_in t j (Step.Stops m) = record { done = false; column = column_of t j m }
+column_in t j (Ok _) = record { done = true; column = column_of t j (suc j) }
+column_in t j (Err m) = record { done = false; column = column_of t j m }
 
 -- the answer r of checks 3 to 5 of the tables l and u of order n, and where nothing is refused their bounds in scratch tables
 pub record TablesLoaded (n : ℕ) (l u : List ℤ) (r : Checked) (l' u' : List ℤ) : Type 0 where
   pub answered : r ≡ first_refusal (table_checks n l u)
   pub rooms : Rooms l' u'
-  pub held : r ≡ Passed → Held n l u l' u'
+  pub held : r ≡ Ok tt → Held n l u l' u'

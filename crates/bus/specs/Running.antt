@@ -4,9 +4,8 @@ use Rattle.std.proofs.Math.Option.{Option, none, some}
 use Rattle.std.specs.Int.Signed.{le_z, lt_z}
 use Rattle.tables.specs.Ranges.{factor_range}
 use Rattle.tables.specs.Matrix.{Matrix, nth}
-use Rattle.tables.specs.Checks.{all, within, order_of, first_refusal, table_checks}
-use Rattle.tables.specs.declared.Checked.{Checked}
-use Rattle.tables.specs.declared.Checked.TheVariants.{Passed, Refused}
+use Rattle.tables.specs.Checks.{Checked, all, within, order_of, first_refusal, table_checks}
+use Rattle.std.specs.Prelude.{Ok, Err}
 use Rattle.tables.specs.Entering.{low_bounds, high_bounds}
 use Rattle.cholesky.specs.Factoring.{Column, next_column}
 use Rattle.cholesky.specs.Store.{upper, columns_of}
@@ -30,8 +29,8 @@ pub data Work : Type 0 where
   search : ℕ → ℕ → ℕ → Work
 
 unfoldable pub passes : Checked → Bool
-passes Passed = true
-passes (Refused r) = false
+passes (Ok _) = true
+passes (Err r) = false
 
 -- the columns before j are in the range of a factor, and at least 1 on the diagonal
 unfoldable pub factor_columns : List ℤ → ℕ → Bool

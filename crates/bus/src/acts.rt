@@ -8,7 +8,7 @@ use crate::area::{RUN_BYTES, blank};
 use crate::line::Line;
 use crate::registers::{BLOCK_BYTES, is_busy};
 use crate::{registers, starting, ticking};
-use tables::{Checked, Refusal};
+use tables::Refusal;
 
 // The commands.
 const START: u8 = 1;
@@ -23,7 +23,7 @@ fn bus_sized(block: &[u8], run: &[u8]) -> bool
 }
 
 // A start, refused by 20 where the bus is busy.
-fn start(block: &mut [u8], run: &mut [u8], low: &[u8], high: &[u8]) -> Checked
+fn start(block: &mut [u8], run: &mut [u8], low: &[u8], high: &[u8]) -> Result<(), Refusal>
     requires { (length block.old ≡ block_bytes) × (length run.old ≡ run_bytes) }
     ensures { ◌≡◌ {A = Moved} (record {
       answer = result;
@@ -31,14 +31,20 @@ fn start(block: &mut [u8], run: &mut [u8], low: &[u8], high: &[u8]) -> Checked
     }) (start (record { block = block.entry.now; run = run.old }) low.now high.now) }
 {
     if is_busy(block) {
-        return Checked::Refused(Refusal::Busy);
+        return Err(Refusal::Busy);
     }
     starting::start(block, run, low, high);
-    Checked::Passed
+    Ok(())
 }
 
 // A command.
-fn obey(block: &mut [u8], run: &mut [u8], command: u8, low: &[u8], high: &[u8]) -> Checked
+fn obey(
+    block: &mut [u8],
+    run: &mut [u8],
+    command: u8,
+    low: &[u8],
+    high: &[u8],
+) -> Result<(), Refusal>
     requires { (length block.old ≡ block_bytes) × (length run.old ≡ run_bytes) }
     ensures { ◌≡◌ {A = Moved} (record {
       answer = result;
@@ -52,7 +58,7 @@ fn obey(block: &mut [u8], run: &mut [u8], command: u8, low: &[u8], high: &[u8]) 
         registers::reset(block);
         blank(run);
     }
-    Checked::Passed
+    Ok(())
 }
 
 // A write to register k.
@@ -63,7 +69,7 @@ fn write_at(
     value: u8,
     low: &[u8],
     high: &[u8],
-) -> Checked
+) -> Result<(), Refusal>
     requires { (length block.old ≡ block_bytes) × (length run.old ≡ run_bytes) × (k < block_bytes) }
     ensures { ◌≡◌ {A = Moved} (record {
       answer = result;
@@ -75,7 +81,7 @@ fn write_at(
         return obey(block, run, command, low, high);
     }
     block[k] = registers::put(k, block[k], value);
-    Checked::Passed
+    Ok(())
 }
 
 // Writes a value to an address; a start takes the tables that low and high spell, and nothing else looks at them.
@@ -87,64 +93,64 @@ pub fn write(
     value: u8,
     low: &[u8],
     high: &[u8],
-) -> Checked
+) -> Result<(), Refusal>
     ensures exact { ◌≡◌ {A = Moved} (record {
       answer = result;
       bus = record { block = block.exit.now; run = run.new };
     }) (write block.entry.now run.old address value low.now high.now) }
 {
     if !bus_sized(block, run) {
-        return Checked::Refused(Refusal::Length);
+        return Err(Refusal::Length);
     }
     if address < 0 {
-        return Checked::Passed;
+        return Ok(());
     }
     if address < (BLOCK_BYTES as i64) {
         return write_at(block, run, address as usize, value, low, high);
     }
-    Checked::Passed
+    Ok(())
 }
 
 // A tick: one column of the run, or the search, or nothing where there is no run.
-pub fn tick(block: &mut [u8], run: &mut [u8]) -> Checked
+pub fn tick(block: &mut [u8], run: &mut [u8]) -> Result<(), Refusal>
     ensures exact { ◌≡◌ {A = Moved} (record {
       answer = result;
       bus = record { block = block.exit.now; run = run.new };
     }) (tick block.entry.now run.old) }
 {
     if !bus_sized(block, run) {
-        return Checked::Refused(Refusal::Length);
+        return Err(Refusal::Length);
     }
     if is_busy(block) {
         ticking::step(block, run);
     }
-    Checked::Passed
+    Ok(())
 }
 
 // Reads the register at an address into a buffer of one byte.
-pub fn read(block: &[u8], address: i64, value: &mut [u8]) -> Checked
+pub fn read(block: &[u8], address: i64, value: &mut [u8]) -> Result<(), Refusal>
     ensures exact { ◌≡◌ {A = ReadBack} (record { answer = result; value = value.new }) (read block.now address
         value.old) }
 {
     if block.len() != BLOCK_BYTES {
-        return Checked::Refused(Refusal::Length);
+        return Err(Refusal::Length);
     }
     if value.len() != 1 {
-        return Checked::Refused(Refusal::Length);
+        return Err(Refusal::Length);
     }
     value[0] = registers::read_at(block, address);
-    Checked::Passed
+    Ok(())
 }
 
 // Whether the line is raised.
-pub fn line(block: &[u8]) -> Line
+pub fn line(block: &[u8]) -> Result<Line, Refusal>
     ensures exact { result ≡ line block.now }
 {
     if block.len() != BLOCK_BYTES {
-        return Line::Refused(Refusal::Length);
+        return Err(Refusal::Length);
     }
     if registers::is_raised(block) {
-        return Line::Raised;
+        return Ok(Line::Raised);
     }
-    Line::Low
+    Ok(Line::Low)
 }

@@ -38,11 +38,8 @@ pub fn load_part(run: &[u8], first: usize, count: usize, out: &mut [i64])
     requires { (length run.now ≡ run_bytes) × (first + count ≤ run_numbers) × (count ≤ length out.old) }
     ensures { out.new ≡ take count (drop first (area_of run.now)) ++ drop count out.old }
 {
-    let mut i = 0;
-    while i < count {
-        let v = load_signed(run, (first + i) * SIZE, SIZE);
-        out[i] = v;
-        i += 1;
+    for i in 0..count {
+        out[i] = load_signed(run, (first + i) * SIZE, SIZE);
     }
 }
 
@@ -59,11 +56,8 @@ pub fn store_part(run: &mut [u8], first: usize, count: usize, x: &[i64])
     requires { (length run.old ≡ run_bytes) × (first + count ≤ run_numbers) × (count ≤ length x.now) }
     ensures { run.new ≡ area_bytes (laid_over (area_of run.old) first (take count x.now)) }
 {
-    let mut i = 0;
-    while i < count {
-        let v = x[i];
-        store_signed(run, (first + i) * SIZE, SIZE, v);
-        i += 1;
+    for i in 0..count {
+        store_signed(run, (first + i) * SIZE, SIZE, x[i]);
     }
 }
 
@@ -72,11 +66,9 @@ pub fn store_column(run: &mut [u8], j: usize, count: usize, t: &Table)
     requires { (length run.old ≡ run_bytes) × (j < greatest_order) × (count ≤ suc j) × (length t.now ≡ table_room) }
     ensures { run.new ≡ area_bytes (laid_column (area_of run.old) j (column_of t.now j count)) }
 {
-    let mut i = 0;
-    while i < count {
+    for i in 0..count {
         let v = t[STRIDE * j + i];
         store_signed(run, (COLUMNS_AT + STRIDE * j + i) * SIZE, SIZE, v);
-        i += 1;
     }
 }
 
@@ -85,9 +77,5 @@ pub fn blank(run: &mut [u8])
     requires { length run.old ≡ run_bytes }
     ensures { run.new ≡ blank_bytes }
 {
-    let mut k = 0;
-    while k < RUN_BYTES {
-        run[k] = 0;
-        k += 1;
-    }
+    run.fill(0);
 }

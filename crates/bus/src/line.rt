@@ -1,24 +1,24 @@
 // R28.11 of docs/RULES.md: what the line answers.
 ghost use Rattle.std.specs.Prelude.{◌≡◌};
-ghost use Rattle.bus.specs.Bus.{line_code};
+ghost use Rattle.bus.specs.Bus.{line_number};
 
-use tables::Refusal;
+use tables::Answer;
 
 // The line is low or raised.
-#[derive(Drop)]
+#[derive(Clone, Copy, Debug, PartialEq, Eq)]
 pub enum Line {
     Low,
     Raised,
-    Refused(Refusal),
 }
 
-// Its number at a C entry (R15.8): 0 low, -1 raised, else the refusal's.
-pub fn line_code(l: Line) -> i64
-    ensures { result ≡ line_code l }
-{
-    match l {
-        Line::Low => 0,
-        Line::Raised => -1,
-        Line::Refused(r) => tables::refusal_number(r) as i64,
+// At a C entry low is 0, and raised -1 (R15.8).
+impl Answer for Line {
+    ghost code = { line_number };
+
+    fn code(self) -> i64 {
+        match self {
+            Line::Low => 0,
+            Line::Raised => -1,
+        }
     }
 }

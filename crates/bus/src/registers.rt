@@ -83,10 +83,8 @@ pub fn reset(block: &mut [u8])
     requires { length block.old ≡ block_bytes }
     ensures { block.new ≡ reset_block }
 {
-    let mut k = 0;
-    while k < BLOCK_BYTES {
-        block[k] = reset_value(k);
-        k += 1;
+    for (k, x) in block.iter_mut().enumerate() {
+        *x = reset_value(k);
     }
 }
 

@@ -6,7 +6,7 @@ ghost use Rattle.cholesky.specs.Store.{upper};
 ghost use Rattle.bus.specs.Running.{factor_columns, column_safe, stop_safe};
 
 use cholesky::STRIDE;
-use tables::{FACTOR_RANGE, Table, within};
+use tables::{FACTOR_RANGE, Table, all_within};
 
 // An entry of H, and a product of two entries of a factor.
 const PRODUCT_RANGE: i64 = FACTOR_RANGE * FACTOR_RANGE;
@@ -19,14 +19,7 @@ fn column_within(t: &Table, j: usize, count: usize, bound: i64) -> bool
     requires { (j < greatest_order) × (count ≤ suc j) × (length t.now ≡ table_room) × (pos 0 ≤ℤ bound) }
     ensures { result ≡ all count (λ k. within (nat_abs bound) (upper t.now k j)) }
 {
-    let mut k = 0;
-    while k < count {
-        if !within(t[STRIDE * j + k], bound) {
-            return false;
-        }
-        k += 1;
-    }
-    true
+    all_within(&t[STRIDE * j..], count, bound)
 }
 
 // Whether the columns before j are those of a factor.
@@ -34,15 +27,13 @@ fn factor_columns(t: &Table, j: usize) -> bool
     requires { (j < greatest_order) × (length t.now ≡ table_room) }
     ensures { result ≡ factor_columns t.now j }
 {
-    let mut l = 0;
-    while l < j {
+    for l in 0..j {
         if !column_within(t, l, l + 1, FACTOR_RANGE) {
             return false;
         }
         if t[STRIDE * l + l] < 1 {
             return false;
         }
-        l += 1;
     }
     true
 }

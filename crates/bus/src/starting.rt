@@ -17,7 +17,7 @@ use crate::registers;
 use buffers::entering::load_bounds;
 use cholesky::scaling::scale;
 use tables::entering::{check_entry, check_laid, order_of};
-use tables::{Checked, TABLE_ROOM, Table};
+use tables::{Refusal, TABLE_ROOM, Table};
 use words::SIZE;
 
 // The matrix H of order n, of the mended tables in l and u: its columns, each down to the diagonal.
@@ -28,10 +28,8 @@ fn store_matrix(run: &mut [u8], n: usize, l: &Table, u: &Table)
 {
     let mut h = [0i64; TABLE_ROOM];
     scale(n, l, u, &mut h);
-    let mut j = 0;
-    while j < n {
+    for j in 0..n {
         store_column(run, j, j + 1, &h);
-        j += 1;
     }
 }
 
@@ -48,17 +46,20 @@ fn begin(run: &mut [u8], n: usize, l: &Table, u: &Table)
 }
 
 // The judge's checks of an order n and the tables that two buffers spell; what passes stands in l and u, mended.
-fn check_tables(n: i64, low: &[u8], high: &[u8], l: &mut Table, u: &mut Table) -> Checked
+fn check_tables(
+    n: i64,
+    low: &[u8],
+    high: &[u8],
+    l: &mut Table,
+    u: &mut Table,
+) -> Result<(), Refusal>
     requires { Blank l.old × Blank u.old }
     ensures { Entered n (tables_sized (order_of n) low.now high.now) true (table_of (order_of n) low.now) (table_of (order_of n) high.now) result l.new u.new }
 {
     let m = order_of(n);
     let size = m * m * SIZE;
     let sized = low.len() == size && high.len() == size;
-    let checked = check_entry(n, sized);
-    if let Checked::Refused(r) = checked {
-        return Checked::Refused(r);
-    }
+    check_entry(n, sized)?;
     load_bounds(m, sized, low, high, l, u);
     check_laid(m, true, l, u)
 }
@@ -71,15 +72,14 @@ pub fn start(block: &mut [u8], run: &mut [u8], low: &[u8], high: &[u8])
     let n = block[registers::ORDER] as i64;
     let mut l = [0i64; TABLE_ROOM];
     let mut u = [0i64; TABLE_ROOM];
-    let checked = check_tables(n, low, high, &mut l, &mut u);
-    match checked {
-        Checked::Passed => {
+    match check_tables(n, low, high, &mut l, &mut u) {
+        Ok(()) => {
             begin(run, order_of(n), &l, &u);
             registers::start(block);
         }
-        Checked::Refused(r) => {
+        Err(refusal) => {
             blank(run);
-            registers::refuse(block, tables::refusal_number(r));
+            registers::refuse(block, refusal.number());
         }
     }
 }

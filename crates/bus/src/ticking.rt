@@ -16,9 +16,10 @@ use crate::area::{
 use crate::registers;
 use crate::safety::{column_safe, stop_safe};
 use cholesky::STRIDE;
-use cholesky::column_step::{Step, work_column};
+use cholesky::column_step::work_column;
+use cholesky::factoring::Stop;
 use tables::entering::{check_laid, order_of};
-use tables::{Checked, GREATEST_ORDER, TABLE_ROOM, Table};
+use tables::{GREATEST_ORDER, Refusal, TABLE_ROOM, Table};
 use verdict::listed::first_listed;
 
 // The verdicts' numbers in register 3.
@@ -49,21 +50,28 @@ fn put_column(run: &mut [u8], k: usize, v: usize, j: usize, count: usize, t: &Ta
 }
 
 // Column j of a run of order n, whose columns to j stand in t, was worked out there.
-fn keep_column(block: &mut [u8], run: &mut [u8], n: usize, j: usize, t: &Table, step: Step)
+fn keep_column(
+    block: &mut [u8],
+    run: &mut [u8],
+    n: usize,
+    j: usize,
+    t: &Table,
+    step: Result<(), usize>,
+)
     requires { (length block.old ≡ block_bytes) × (length run.old ≡ run_bytes) × (n ≤ greatest_order) × (j < n)
         × (length t.now ≡ table_room) × StopsIn j step }
     ensures { ◌≡◌ {A = Bus} (record { block = block.exit.now; run = run.new }) (column_taken block.entry.now
         (area_of run.old) n j (column_in t.now j step)) }
 {
     match step {
-        Step::Done => {
+        Ok(()) => {
             if j + 1 == n {
                 settle(block, run, DEFINITE);
             } else {
                 put_column(run, COLUMN_AT, j + 1, j, j + 1, t);
             }
         }
-        Step::Stops(m) => {
+        Err(m) => {
             put_column(run, STOP_AT, m + 1, j, m, t);
         }
     }
@@ -83,7 +91,7 @@ fn take_column(block: &mut [u8], run: &mut [u8], n: usize, j: usize)
 }
 
 // The tables of a run of order n, into l and u: checks 3 to 5 of them, and then these tables mended.
-fn load_tables(run: &[u8], n: usize, l: &mut Table, u: &mut Table) -> Checked
+fn load_tables(run: &[u8], n: usize, l: &mut Table, u: &mut Table) -> Result<(), Refusal>
     requires { (length run.now ≡ run_bytes) × (0 < n) × (n ≤ greatest_order) × Blank l.old × Blank u.old }
     ensures { TablesLoaded n (table_at n (area_of run.now) low_at) (table_at n (area_of run.now) high_at) result
         l.new u.new }
@@ -106,12 +114,12 @@ fn search(block: &mut [u8], run: &mut [u8], n: usize, j: usize, m: usize)
     }
     let mut l = [0i64; TABLE_ROOM];
     let mut u = [0i64; TABLE_ROOM];
-    let checked = load_tables(run, n, &mut l, &mut u);
-    if let Checked::Refused(_) = checked {
+    if load_tables(run, n, &mut l, &mut u).is_err() {
         return;
     }
+    let stop = Stop { column: j, rows: m };
     let mut x = [0i64; GREATEST_ORDER];
-    if first_listed(n, &l, &u, &t, j, m, &mut x) {
+    if first_listed(n, &l, &u, &t, stop, &mut x) {
         settle(block, run, NOT_DEFINITE);
     } else {
         settle(block, run, UNDECIDED);

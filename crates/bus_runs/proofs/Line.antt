@@ -12,6 +12,8 @@ use lib.Bits.{bit_and, and_shr, and_step}
 use lib.ListN.{length}
 use Rattle.bus.specs.Registers.{block_bytes, register, flags, mask, is_raised}
 use Rattle.bus.specs.Bus.{line}
+use Rattle.std.specs.Prelude.{Result, Ok}
+use Rattle.tables.specs.declared.Refusal.{Refusal}
 use Rattle.bus.specs.declared.line.Line.{Line}
 use Rattle.bus.specs.Running.{Bus}
 use Rattle.bus_runs.specs.Operations.{Operation, Sized, after}
@@ -56,19 +58,19 @@ pub line-means : (b : List ℕ) → (is_raised b ≡ true) ↔ CommonBit (regist
 line-means b = (raised_bit b, bit_raised b)
 
 -- the same of the act
-line-raised : (b : List ℕ) → length b ≡ block_bytes → line b ≡ elim (is_raised b) [ true ↦ Line.Raised | false ↦ Line.Low ]
+line-raised : (b : List ℕ) → length b ≡ block_bytes → line b ≡ elim (is_raised b) [ true ↦ Ok Line.Raised | false ↦ Ok Line.Low ]
 unfolding line
 line-raised b e = rw (line, eq-eqb _ _ e) refl
 
-raised-only : (x : Bool) → ◌≡◌ {A = Line} (elim x [ true ↦ Line.Raised | false ↦ Line.Low ]) Line.Raised → x ≡ true
+raised-only : (x : Bool) → ◌≡◌ {A = Result Line Refusal} (elim x [ true ↦ Ok Line.Raised | false ↦ Ok Line.Low ]) (Ok Line.Raised) → x ≡ true
 raised-only true e = refl
 raised-only false e = cc
 
-pub line-act-means : (b : List ℕ) → length b ≡ block_bytes → (line b ≡ Line.Raised) ↔ CommonBit (register b flags) (register b mask)
+pub line-act-means : (b : List ℕ) → length b ≡ block_bytes → (line b ≡ Ok Line.Raised) ↔ CommonBit (register b flags) (register b mask)
 line-act-means b e =
     (λ h. raised_bit b (raised-only (is_raised b) (sym (line-raised b e) ∙ h)), λ c. line-raised b e ∙ rw (bit_raised b c) refl)
 
 -- and of the bus after any operations
 pub line_after : (os : List Operation) (s : Bus) → Sized s →
-    (line (after os s).block ≡ Line.Raised) ↔ CommonBit (register (after os s).block flags) (register (after os s).block mask)
+    (line (after os s).block ≡ Ok Line.Raised) ↔ CommonBit (register (after os s).block flags) (register (after os s).block mask)
 line_after os s z = line-act-means (after os s).block (sizes-kept-after os s z).block_size

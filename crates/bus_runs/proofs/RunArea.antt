@@ -18,7 +18,7 @@ use Rattle.tables.specs.Matrix.{nth, at}
 use Rattle.tables.specs.Bounds.{Bounds}
 use Rattle.tables.specs.Mending.{mended_low, mended_high}
 use Rattle.tables.specs.Checks.{first_refusal, table_checks}
-use Rattle.tables.specs.declared.Checked.TheVariants.{Passed}
+use Rattle.std.specs.Prelude.{Ok, Err}
 use Rattle.tables.proofs.Checks.{passed-bounds}
 use Rattle.tables.proofs.Buffers.{filled-whole}
 use Rattle.tables.proofs.Matrix.{table_fits, nth-at, row_inside, column_inside}
@@ -105,7 +105,7 @@ pub record Tables (n : ℕ) (l u : List ℤ) : Type 0 where
   pub high : length u ≡ n * n
   pub low-mended : mended_low n l ≡ l
   pub high-mended : mended_high n u ≡ u
-  pub checked : first_refusal (table_checks n l u) ≡ Passed
+  pub checked : first_refusal (table_checks n l u) ≡ Ok tt
 
 table_fit : {n : ℕ} {x : List ℤ} → length x ≡ n * n → ((i j : ℕ) → i < n → j < n → nat_abs (at n x i j) ≤ entry_range) → AllFit w64 x
 table_fit {n} {x} e f =

@@ -20,8 +20,8 @@ use Rattle.tables.specs.Checks.{order_of, first_refusal}
 use Rattle.tables.specs.Entering.{low_bounds, high_bounds, door_checks, entered}
 use Rattle.tables.specs.Refusals.{refusal_number}
 use Rattle.tables.specs.declared.Refusal.{Refusal}
-use Rattle.tables.specs.declared.Checked.{Checked}
-use Rattle.tables.specs.declared.Checked.TheVariants.{Passed, Refused}
+use Rattle.tables.specs.Checks.{Checked}
+use Rattle.std.specs.Prelude.{Ok, Err}
 use Rattle.tables.specs.declared.Refusal.TheVariants.{Order, Length, Range, Crossed, Lopsided, Factor, Vector, Flat}
 use Rattle.tables.specs.declared.Refusal.TheVariants.{Far, Cut, Tag, Again, Absent, Size, Long, Reversed, Sample, Full, Falling, Busy}
 use Rattle.tables.proofs.Checks.{mended-passed}
@@ -59,7 +59,7 @@ after-append (o ∷ os) ps s = after-append os ps (applied o s)
 
 -- ---- a reset, whatever was there and whatever is lent with it
 pub reset_answers : (s : Bus) (l u : List ℕ) → Sized s →
-    Acts.write s.block s.run (pos command) reset_command l u ≡ record { answer = Passed; bus = reset_bus }
+    Acts.write s.block s.run (pos command) reset_command l u ≡ record { answer = Ok tt; bus = reset_bus }
 unfolding written written_at commanded writable
 reset_answers s l u z = write-act z (pos command) reset_command l u
 
@@ -78,21 +78,21 @@ module _ (s : Bus) (l u : List ℕ) where
   unfolding written written_at commanded writable
   start-written = refl
 
-  start_idle : is_busy s.block ≡ false → start s l u ≡ record { answer = Passed; bus = started s.block l u }
+  start_idle : is_busy s.block ≡ false → start s l u ≡ record { answer = Ok tt; bus = started s.block l u }
   unfolding start
   start_idle e = rw (start, e) refl
 
-  start-busy : is_busy s.block ≡ true → start s l u ≡ record { answer = Refused Busy; bus = s }
+  start-busy : is_busy s.block ≡ true → start s l u ≡ record { answer = Err Busy; bus = s }
   unfolding start
   start-busy e = rw (start, e) refl
 
   -- the same of the act, on any bus that has its sizes
   pub start-answers : Sized s → is_busy s.block ≡ false →
-      Acts.write s.block s.run (pos command) start_command l u ≡ record { answer = Passed; bus = started s.block l u }
+      Acts.write s.block s.run (pos command) start_command l u ≡ record { answer = Ok tt; bus = started s.block l u }
   start-answers z e = write-act z (pos command) start_command l u ∙ start-written ∙ start_idle e
 
   pub busy-answers : Sized s → is_busy s.block ≡ true →
-      Acts.write s.block s.run (pos command) start_command l u ≡ record { answer = Refused Busy; bus = s }
+      Acts.write s.block s.run (pos command) start_command l u ≡ record { answer = Err Busy; bus = s }
   busy-answers z e = write-act z (pos command) start_command l u ∙ start-written ∙ start-busy e
 
 -- ---- a write but a reset, and a start where it does, keeps the run, and status x, refusal number y and verdict w
@@ -288,7 +288,7 @@ module _ (s : Bus) (l u : List ℕ) (sizes : Sized s) (idle : is_busy s.block �
   starts_as = ap (λ (m : Moved). m.bus) (start-answers s l u sizes idle)
 
   -- refused
-  module _ (r : Refusal) (e : door ≡ Refused r) where
+  module _ (r : Refusal) (e : door ≡ Err r) where
     refused-judgement : judgement s l u ≡ refused r
     unfolding judging entered
     refused-judgement = sym (after-refused refused r _ e)
@@ -301,7 +301,7 @@ module _ (s : Bus) (l u : List ℕ) (sizes : Sized s) (idle : is_busy s.block �
     start-refused = starts_as ∙ refused-start
 
   -- let through
-  module _ (e : door ≡ Passed) where
+  module _ (e : door ≡ Ok tt) where
     passed-judgement : judgement s l u ≡ judged k (low_bounds k (table_of k l)) (high_bounds k (table_of k u))
     unfolding judging entered
     passed-judgement = sym (after-passed refused _ e)
@@ -338,7 +338,7 @@ module _ (s : Bus) (l u : List ℕ) (sizes : Sized s) (idle : is_busy s.block �
           phase = begun k low high tables;
         })
 
-  answered : (Acts.write s.block s.run (pos command) start_command l u).answer ≡ Passed
+  answered : (Acts.write s.block s.run (pos command) start_command l u).answer ≡ Ok tt
   answered = ap (λ (m : Moved). m.answer) (start-answers s l u sizes idle)
 
   pub start-means : StartMeaning s l u
@@ -346,7 +346,7 @@ module _ (s : Bus) (l u : List ℕ) (sizes : Sized s) (idle : is_busy s.block �
   start-means = go door refl
     where
       go : (c : Checked) → door ≡ c → StartMeaning s l u
-      go (Refused r) e =
+      go (Err r) e =
           let q = refused-judgement r e in
           let only : (i : Refusal) → judgement s l u ≡ refused i → r ≡ i = λ i f. let same : refused r ≡ refused i = sym q ∙ f in cc in
           let shown : Shows (applied (starts l u) s) Registers.refused (refusal_number r) 0 =
@@ -364,7 +364,7 @@ module _ (s : Bus) (l u : List ℕ) (sizes : Sized s) (idle : is_busy s.block �
             stays = λ f. absurd (f r q);
             soon = λ f. absurd (f r q);
           }
-      go Passed e =
+      go (Ok tt) e =
           let a = tables e in
           let on : (os : List Operation) → any_reset os ≡ false → ticks os < last_tick k low high → Running k low high a (ticks os) (after os (applied (starts l u) s)) =
           λ os g h. run_on k low high a os g (ticks os) (running e) (omega arith) h in

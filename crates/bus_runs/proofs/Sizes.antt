@@ -13,7 +13,7 @@ use mir.Syntax.{w64}
 use Rattle.integers.proofs.Parts.{choice_by}
 use Rattle.words.proofs.Laws.{length-bytes_of}
 use Rattle.tables.specs.Entering.{entered}
-use Rattle.tables.specs.declared.Checked.TheVariants.{Passed}
+use Rattle.std.specs.Prelude.{Ok, Err}
 use Rattle.tables.proofs.Answers.{after-means}
 use Rattle.cholesky.specs.Factoring.{Column}
 use Rattle.bus.specs.Registers.{block_bytes, command, start_command, reset_command, writable, reset_block, is_busy}
@@ -58,7 +58,7 @@ module _ {s : Bus} (z : Sized s) where
 
   pub tick_works : applied tick s ≡ ticked s
   unfolding applied Acts.tick
-  tick_works = ap (λ (m : Moved). m.bus) (works (record { answer = Passed; bus = ticked s }))
+  tick_works = ap (λ (m : Moved). m.bus) (works (record { answer = Ok tt; bus = ticked s }))
 
   -- ---- a write
   start-sized : (l u : List ℕ) → Sized (start s l u).bus

@@ -7,7 +7,7 @@ use Rattle.tables.specs.Checks.{order_of}
 use Rattle.tables.specs.Entering.{low_bounds, high_bounds}
 use Rattle.tables.specs.declared.Refusal.{Refusal}
 use Rattle.tables.specs.declared.Refusal.TheVariants.{Busy}
-use Rattle.tables.specs.declared.Checked.TheVariants.{Passed, Refused}
+use Rattle.std.specs.Prelude.{Ok, Err}
 use Rattle.cholesky.specs.Factoring.{factored}
 use Rattle.verdict.specs.Judge.{Judgement, definite, not_definite, undecided, refused, judging}
 use Rattle.buffers.specs.Buffers.{table_of}
@@ -61,8 +61,8 @@ module _ (s : Bus) (l u : List ℕ) where
   last_tick = settling_tick k (low_bounds k (table_of k l)) (high_bounds k (table_of k u))
 
   pub record StartMeaning : Type 0 where
-    -- it is answered by Passed, whatever the judge says of it
-    pub answers : (Acts.write s.block s.run (pos Registers.command) Registers.start_command l u).answer ≡ Passed
+    -- it is answered by Ok, whatever the judge says of it
+    pub answers : (Acts.write s.block s.run (pos Registers.command) Registers.start_command l u).answer ≡ Ok tt
     -- a start that the judge refuses: refused alone is up, with the judge's number, and its flag
     pub refuses : (r : Refusal) → judgement ≡ refused r →
         Shows (after (starts l u ∷ []) s) Registers.refused (refusal_number r) 0
@@ -81,7 +81,7 @@ module _ (s : Bus) (l u : List ℕ) where
         (os : List Operation) → any_reset os ≡ false → ticks os < last_tick → (l' u' : List ℕ) →
         Acts.write (after (starts l u ∷ os) s).block (after (starts l u ∷ os) s).run
         (pos Registers.command) Registers.start_command l' u' ≡
-        record { answer = Refused Busy; bus = after (starts l u ∷ os) s }
+        record { answer = Err Busy; bus = after (starts l u ∷ os) s }
     -- in the last tick done alone is up, with the judge's verdict, and its flag
     pub settles : ((r : Refusal) → judgement ≡ refused r → ⊥) →
         (os : List Operation) → any_reset os ≡ false → suc (ticks os) ≡ last_tick →

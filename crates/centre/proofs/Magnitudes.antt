@@ -43,21 +43,6 @@ picked pick n l u c k j = pick (at n l k j *ℤ nth c j) (at n u k j *ℤ nth c 
 -- ---- the linear terms
 module _ {n : ℕ} {a b c : List ℤ} (q : LinearTerms n a b c) where
   module _ {k : ℕ} (h : k < n) where
-    factors-of : {x : List ℤ} → n ≤ length x → Within linear_range (nth x k) → TermFactors x c k
-    factors-of s w = record {
-      row = omega (arith, q.order);
-      linear_length = omega arith;
-      centre-length = omega (arith, q.centre-length);
-      linear = w;
-      centre = q.centre k h;
-    }
-
-    pub low_term : TermFactors a c k
-    low_term = factors-of q.low-length (q.low k h)
-
-    pub high_term : TermFactors b c k
-    high_term = factors-of q.high-length (q.high k h)
-
     least-within : Within linear_term_range (min_ℤ (nth a k *ℤ nth c k) (nth b k *ℤ nth c k))
     least-within = within_min (within-* (q.low k h) (q.centre k h)) (within-* (q.high k h) (q.centre k h))
 
@@ -85,10 +70,10 @@ module _ {n : ℕ} {l u a b c : List ℤ} (q : Centred n l u a b c) where
       centre = q.terms.centre j m;
     }
 
-    pub low_factors : {j : ℕ} → j < n → Factors n l c k j
+    low_factors : {j : ℕ} → j < n → Factors n l c k j
     low_factors {j} m = factors q.tables.low-length m (low-within q.tables h m)
 
-    pub high_factors : {j : ℕ} → j < n → Factors n u c k j
+    high_factors : {j : ℕ} → j < n → Factors n u c k j
     high_factors {j} m = factors q.tables.high-length m (high-within q.tables h m)
 
     module _ (pick : ℤ → ℤ → ℤ) (sized : (x y : ℤ) → Within row_term_range x → Within row_term_range y → Within row_term_range (pick x y)) where

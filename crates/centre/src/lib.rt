@@ -33,13 +33,11 @@ fn gradient(n: usize, low: &[i64], high: &[i64], a: &[i64], b: &[i64], c: &[i64]
 {
     let mut least: i64 = 0;
     let mut greatest: i64 = 0;
-    let mut j = 0;
-    while j < n {
+    for j in 0..n {
         let l = product(n, low, c, k, j);
         let u = product(n, high, c, k, j);
         least += smaller(l, u);
         greatest += greater(l, u);
-        j += 1;
     }
     let from = a[k];
     let to = b[k];
@@ -62,10 +60,8 @@ pub fn gradients(
     ensures { Filled greatest_order n
         (gradient n (at n low.now) (at n high.now) (ends_of a.now b.now) (nth c.now)) g.new }
 {
-    let mut k = 0;
-    while k < n {
+    for k in 0..n {
         g[k] = gradient(n, low, high, a, b, c, k);
-        k += 1;
     }
 }
 
@@ -74,12 +70,10 @@ pub fn near(n: usize, g: &Vector) -> bool
     requires { n ≤ greatest_order }
     ensures { result ≡ all n (λ k. le_z (nth g.now k) (pos gradient_range)) }
 {
-    let mut k = 0;
-    while k < n {
-        if GRADIENT_RANGE < g[k] {
+    for x in &g[..n] {
+        if GRADIENT_RANGE < *x {
             return false;
         }
-        k += 1;
     }
     true
 }
@@ -98,10 +92,8 @@ fn least_terms(n: usize, a: &[i64], b: &[i64], c: &[i64]) -> i64
     ensures { result ≡ least_sum n (nth a.now) (nth b.now) (nth c.now) }
 {
     let mut least: i64 = 0;
-    let mut k = 0;
-    while k < n {
+    for k in 0..n {
         least += smaller(term(a, c, k), term(b, c, k));
-        k += 1;
     }
     least
 }

@@ -122,9 +122,6 @@ pub record Filling (n : ℕ) (L U : Matrix) (h : List ℤ) (j i : ℕ) : Type 0 
   pub here : (k : ℕ) → k < i → upper h k j ≡ scaled n L U k j
 
 module _ {n : ℕ} {L U : Matrix} {h : List ℤ} {j : ℕ} where
-  pub filling_start : Scaled n L U h j → Filling n L U h j 0
-  filling_start s = record { before = s; here = λ k l. absurd (omega arith) }
-
   pub filling_row : {i : ℕ} {v : ℤ} → i ≤ j → j < greatest_order → v ≡ scaled n L U i j → Filling n L U h j i → Filling n L U (set h (stride * j + i) v) j (suc i)
   filling_row {i} {v} l m e f =
       record {

@@ -9,7 +9,7 @@ use native.Mathlib.Decide.{ℕ_discrete}
 use lib.Dec.{T}
 use lib.IntN.{ℤ, pos, ◌-ℤ◌, ◌*ℤ◌}
 use lib.Signed.{◌≤ℤ◌, le_z}
-use lib.ListN.{length, set, length-set}
+use lib.ListN.{set, length-set}
 use mir.Syntax.{w64}
 use mir.Val.{SFits}
 use Rattle.integers.specs.Numbers.{Within}
@@ -18,7 +18,7 @@ use Rattle.integers.specs.Root.{whole_root}
 use Rattle.integers.proofs.Parts.{≤ℤ_trans}
 use Rattle.integers.proofs.Solver.{order, solver}
 use Rattle.integers.proofs.Machine.{within_more, within--, within-*, within_in, fits_within}
-use Rattle.tables.specs.Ranges.{greatest_order, table_room, factor_range}
+use Rattle.tables.specs.Ranges.{greatest_order, factor_range}
 use Rattle.tables.specs.Matrix.{Matrix}
 use Rattle.tables.specs.Checks.{within}
 use Rattle.tables.proofs.Checks.{of_true, and_first_false}
@@ -32,9 +32,6 @@ use Rattle.cholesky.proofs.Reduced.{reduced-≤}
 
 -- ---- entries of a column, one by one
 module _ {s : List ℤ} {i j : ℕ} {r : ℤ} where
-  pub taken_start : length s ≡ table_room → Subtracted s i j r (suc i) s
-  taken_start h = record { size = h; taken = λ k l m. absurd (omega arith); kept = λ k l h f. refl }
-
   module _ {m : ℕ} {s' : List ℤ} (w : Subtracted s i j r m s') where
     -- entry (m,j) and r(i,m) are as they were
     pub taken_reads : i < m → m < greatest_order → upper s' m j -ℤ upper s' i m *ℤ r ≡ upper s m j -ℤ upper s i m *ℤ r
@@ -131,19 +128,6 @@ pub record RowGoing (s : List ℤ) (i e j : ℕ) (s' : List ℤ) : Type 0 where
 module _ {s : List ℤ} {e i : ℕ} (z : Factorable s e i) where
   abbrev S : Matrix
   S = upper s
-
-  pub going_start : RowGoing s i e (suc i) s
-  going_start =
-      record {
-        done = record {
-          size = z.size;
-          row = λ k p q. absurd (omega arith);
-          tests = λ k p q. absurd (omega arith);
-          left = λ a b p q r. absurd (omega arith);
-          above = λ k l p. refl;
-        };
-        todo = λ a b p q r t. refl;
-      }
 
   -- the entries of a row that goes on
   small : {j k : ℕ} {s' : List ℤ} → RowDone s i j s' → i < k → k < j → Within factor_range (row_entry S i k)

@@ -12,9 +12,8 @@ use lib.Seq.{get_or-set_same, get_or-set_other}
 use Rattle.tables.specs.Matrix.{nth}
 use Rattle.tables.proofs.Matrix.{length-tabulate, get_d_tabulate, nth-tabulate, tabulate_suc, tabulate_ext}
 use Rattle.cholesky.specs.Factoring.{Factoring, entries}
-use Rattle.cholesky.specs.declared.factoring.Outcome.{Outcome}
-use Rattle.cholesky.specs.declared.factoring.Outcome.TheVariants.{Ends, Stops}
-use Rattle.cholesky.specs.Store.{upper, triangle, column_of, columns_of, outcome_of, stride}
+use Rattle.std.specs.Prelude.{is_ok}
+use Rattle.cholesky.specs.Store.{upper, triangle, column_of, columns_of, outcome_of, stride, Outcome, Ends, Stops}
 
 -- ---- what is read
 pub triangle_on : (t : List ℤ) (i j : ℕ) → i ≤ j → triangle t i j ≡ upper t i j
@@ -64,18 +63,10 @@ module _ (t : List ℤ) (i j : ℕ) (v : ℤ) where
   upper_other k l h = get_or-set_other t (stride * j + i) (stride * l + k) v (pos 0) h
 
 -- ---- the outcome tells whether factoring ended
-pub outcome-ends : (f : Factoring) → outcome_of f ≡ Ends → true ≡ f.ends
+pub outcome_ends : (f : Factoring) → is_ok (outcome_of f) ≡ f.ends
 unfolding outcome_of
-outcome-ends f e = go f.ends e
+outcome_ends f = go f.ends
   where
-    go : (b : Bool) → ◌≡◌ {A = Outcome} (elim b [ true ↦ Ends | false ↦ Stops (length f.columns) (length f.stopped) ]) Ends → true ≡ b
-    go true e = refl
-    go false e = cc
-
-pub outcome_stops : (f : Factoring) (j m : ℕ) → outcome_of f ≡ Stops j m → false ≡ f.ends
-unfolding outcome_of
-outcome_stops f j m e = go f.ends e
-  where
-    go : (b : Bool) → ◌≡◌ {A = Outcome} (elim b [ true ↦ Ends | false ↦ Stops (length f.columns) (length f.stopped) ]) (Stops j m) → false ≡ b
-    go true e = cc
-    go false e = refl
+    go : (b : Bool) → is_ok (elim b as (λ z. Outcome) [ true ↦ Ends | false ↦ Stops (length f.columns) (length f.stopped) ]) ≡ b
+    go true = refl
+    go false = refl

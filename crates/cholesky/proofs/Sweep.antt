@@ -10,9 +10,8 @@ use Rattle.integers.specs.Division.{floor_div}
 use Rattle.integers.specs.Root.{whole_root}
 use Rattle.tables.specs.Matrix.{Matrix, tabulate}
 use Rattle.tables.proofs.Checks.{true_of}
-use Rattle.cholesky.specs.declared.factoring.Outcome.TheVariants.{Ends, Stops}
 use Rattle.cholesky.specs.Factoring.{Column, goes_on, next_column, columns_from, factoring}
-use Rattle.cholesky.specs.Store.{upper, column_of, columns_of, outcome_of, Stored}
+use Rattle.cholesky.specs.Store.{upper, column_of, columns_of, outcome_of, Stored, Ends, Stops}
 use Rattle.cholesky.specs.Reduced.{row_entry}
 use Rattle.cholesky.specs.Columns.{left_by, IsNext, ColumnGoes}
 use Rattle.cholesky.proofs.Loops.{goes_on_lem, columns_on, columns_stop}

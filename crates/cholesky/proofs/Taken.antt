@@ -22,8 +22,7 @@ use Rattle.tables.proofs.Checks.{of_true}
 use Rattle.cholesky.specs.Factoring.{Column, goes_on, next_column}
 use Rattle.cholesky.specs.Store.{upper, column_of, columns_of, stride}
 use Rattle.cholesky.specs.Rows.{product_range, Rowed, ColumnTaken}
-use Rattle.cholesky.specs.Columns.{ColumnReady, left_by, IsNext, ColumnGoes, RowsTaken, step_of, ColumnWorked}
-use Rattle.cholesky.specs.declared.column_step.Step.TheVariants.{Done, Stops}
+use Rattle.cholesky.specs.Columns.{ColumnReady, left_by, IsNext, ColumnGoes, RowsTaken, step_of, ColumnWorked, Done, Stops}
 use Rattle.cholesky.proofs.Loops.{passes}
 use Rattle.cholesky.proofs.Store.{length-column_of, columns_of_ext, upper-same, upper_other}
 use Rattle.cholesky.proofs.Unrolled.{left_by-none, left_by_suc, left_by_ext, goes_less, goes_some, goes_ext, unrolled_none, unrolled_stop, unrolled_done}
@@ -50,17 +49,6 @@ module _ {s : List ℤ} {j : ℕ} (z : ColumnReady s j) where
         kept = λ k l h f. refl;
         off = λ a h k. within_more (omega arith) (z.off a k);
         on = within_in (order (H j j ∷ []) one (search solver depth 40 fits 20000) (omega arith)) z.top;
-      }
-
-  pub taking_end : {s' : List ℤ} → RowsTaking s j j s' → RowsTaken s j j s'
-  taking_end w =
-      record {
-        bound = omega arith;
-        size = w.size;
-        above = w.above;
-        stop = λ h. absurd (omega arith);
-        rest = λ h. w.left j (omega arith) (omega arith);
-        kept = w.kept;
       }
 
   module _ {i : ℕ} (p : i < j) {s' : List ℤ} (w : RowsTaking s j i s') where

@@ -1,6 +1,6 @@
 -- The column step on a table of entry (i, j) at stride j + i: the columns before j are those of a factor, column j is that of the
 -- matrix, and becomes the factor's.
-use Rattle.std.specs.Prelude.{◌≡◌, true, false, List, ℕ, suc, ◌≤◌, ◌<◌, ℤ, pos, ◌-ℤ◌, ◌*ℤ◌, ◌≤ℤ◌, length}
+use Rattle.std.specs.Prelude.{◌≡◌, true, false, List, ℕ, suc, ◌≤◌, ◌<◌, ℤ, pos, ◌-ℤ◌, ◌*ℤ◌, ◌≤ℤ◌, length, Result, Ok, Err, ⊤}
 use Rattle.integers.specs.Numbers.{Within}
 use Rattle.integers.specs.Sum.{sum}
 use Rattle.integers.specs.Division.{floor_div}
@@ -9,7 +9,6 @@ use Rattle.tables.specs.Matrix.{Matrix}
 use Rattle.cholesky.specs.Factoring.{Column, goes_on}
 use Rattle.cholesky.specs.Store.{upper, column_of, SmallColumn}
 use Rattle.cholesky.specs.Rows.{product_range}
-use Rattle.cholesky.specs.declared.column_step.Step.{Step}
 
 -- so small that 64 bits hold the step
 pub record ColumnReady (s : List ℤ) (j : ℕ) : Type 0 where
@@ -45,9 +44,19 @@ pub record RowsTaken (s : List ℤ) (j r : ℕ) (s' : List ℤ) : Type 0 where
   pub kept : (k l : ℕ) → k < greatest_order → (l ≡ j → ⊥) → upper s' k l ≡ upper s k l
 
 -- ---- the column
+-- it is done, or it stops after m rows
+abbrev pub Step : Type 0
+Step = Result ⊤ ℕ
+
+abbrev pub Done : Step
+Done = Ok tt
+
+abbrev pub Stops : ℕ → Step
+Stops m = Err m
+
 -- how it came out
 unfoldable pub step_of : Column → Step
-step_of c = elim c.done [ true ↦ Step.Done | false ↦ Step.Stops (length c.column) ]
+step_of c = elim c.done [ true ↦ Done | false ↦ Stops (length c.column) ]
 
 -- the column c is the one that the answer tells of, and its entries stand in column j
 pub record ColumnWorked (c : Column) (j : ℕ) (r : Step) (s : List ℤ) : Type 0 where

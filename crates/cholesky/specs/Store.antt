@@ -1,11 +1,10 @@
 -- How the code keeps an upper triangular matrix: entry (i, j) at stride j + i, so that a column lies in one piece.
-use Rattle.std.specs.Prelude.{true, false, ◌≡◌, List, ℕ, suc, ◌+◌, ◌*◌, ◌<◌, leb, ℤ, pos, length}
+use Rattle.std.specs.Prelude.{true, false, ◌≡◌, List, ℕ, suc, ◌+◌, ◌*◌, ◌<◌, leb, ℤ, pos, length, Result, Ok, Err, ⊤}
 use Rattle.integers.specs.Numbers.{Within}
 use Rattle.tables.specs.Ranges.{greatest_order, factor_range}
 use Rattle.tables.specs.Matrix.{Matrix, nth, tabulate}
 use Rattle.cholesky.specs.Factoring.{Factoring}
-use Rattle.cholesky.specs.declared.factoring.Outcome.{Outcome}
-use Rattle.cholesky.specs.declared.factoring.Outcome.TheVariants.{Ends, Stops}
+use Rattle.cholesky.specs.declared.factoring.Stop.{Stop}
 
 abbrev pub stride : ℕ
 stride = greatest_order
@@ -24,6 +23,16 @@ column_of t j m = tabulate m (λ k. upper t k j)
 -- the first j columns, each down to the diagonal
 unfoldable pub columns_of : List ℤ → ℕ → List (List ℤ)
 columns_of t j = tabulate j (λ l. column_of t l (suc l))
+
+-- a factoring ends, or it stops in column j after m rows
+abbrev pub Outcome : Type 0
+Outcome = Result ⊤ Stop
+
+abbrev pub Ends : Outcome
+Ends = Ok tt
+
+abbrev pub Stops : ℕ → ℕ → Outcome
+Stops j m = Err (record { column = j; rows = m })
 
 -- the end of a factoring, or the column and the number of rows at its stop, columns counted from 0
 unfoldable pub outcome_of : Factoring → Outcome

@@ -9,41 +9,32 @@ use crate::STRIDE;
 use crate::row_step::take_column;
 use tables::Table;
 
-// The end of a column: it is done, or it stops after some rows.
-#[derive(Drop)]
-pub enum Step {
-    Done,
-    Stops(usize),
-}
-
 // The rows of column j above the diagonal, one after the other. Answers the row that stopped, or j.
 fn take_rows(s: &mut Table, j: usize) -> usize
     requires { ColumnReady s.old j × (pos 1 ≤ℤ upper s.old j j) }
     ensures { RowsTaken s.old j result s.new }
 {
-    let mut i = 0;
-    while i < j {
+    for i in 0..j {
         let d = s[STRIDE * i + i];
         if !take_column(s, i, j, d) {
             return i;
         }
-        i += 1;
     }
     j
 }
 
-// Works out column j, after the columns before it.
-pub fn work_column(s: &mut Table, j: usize) -> Step
+// Works out column j, after the columns before it. Where it stops, the error is how many of its rows were worked out.
+pub fn work_column(s: &mut Table, j: usize) -> Result<(), usize>
     requires { ColumnReady s.old j }
     ensures { ColumnWorked (next_column (upper s.old) (columns_of s.old j)) j result s.new }
 {
     if s[STRIDE * j + j] < 1 {
-        return Step::Stops(0);
+        return Err(0);
     }
     let stop = take_rows(s, j);
     if stop < j {
-        return Step::Stops(stop + 1);
+        return Err(stop + 1);
     }
     s[STRIDE * j + j] = integers::whole_root(s[STRIDE * j + j]);
-    Step::Done
+    Ok(())
 }

@@ -6,12 +6,12 @@ ghost use Rattle.cholesky.specs.Factoring.{factored};
 ghost use Rattle.cholesky.specs.Store.{Stored};
 ghost use Rattle.tables.specs.Bounds.{CheckedTables};
 
-use crate::factoring::{Outcome, factor};
+use crate::factoring::{Stop, factor};
 use crate::scaling::scale;
 use tables::{TABLE_ROOM, Table};
 
 // Factors H of the tables of L and U, of order n, into the columns of t.
-pub fn factor_tables(n: usize, low: &[i64], high: &[i64], t: &mut Table) -> Outcome
+pub fn factor_tables(n: usize, low: &[i64], high: &[i64], t: &mut Table) -> Result<(), Stop>
     requires { CheckedTables n low.now high.now × (length t.old ≡ table_room) }
     ensures { Stored (factored n (at n low.now) (at n high.now)) result t.new }
 {
@@ -25,9 +25,5 @@ pub fn ends(n: usize, low: &[i64], high: &[i64]) -> bool
     ensures { result ≡ (factored n (at n low.now) (at n high.now)).ends }
 {
     let mut t = [0i64; TABLE_ROOM];
-    let outcome = factor_tables(n, low, high, &mut t);
-    match outcome {
-        Outcome::Ends => true,
-        Outcome::Stops(_, _) => false,
-    }
+    factor_tables(n, low, high, &mut t).is_ok()
 }

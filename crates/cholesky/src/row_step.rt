@@ -18,10 +18,8 @@ fn subtract_products(s: &mut Table, i: usize, j: usize, r: i64)
     requires { Rowed s.old i j (suc j) × Within factor_range r }
     ensures { Subtracted s.old i j r (suc j) s.new }
 {
-    let mut a = i + 1;
-    while a <= j {
+    for a in i + 1..j + 1 {
         s[STRIDE * j + a] -= s[STRIDE * a + i] * r;
-        a += 1;
     }
 }
 
@@ -45,12 +43,10 @@ fn take_columns(s: &mut Table, i: usize, end: usize, d: i64) -> usize
     requires { Factorable s.old end i × (i < end) × (pos 1 ≤ℤ d) × (d ≡ whole_root (upper s.old i i)) }
     ensures { ColumnsTaken s.old i end result s.new }
 {
-    let mut j = i + 1;
-    while j < end {
+    for j in i + 1..end {
         if !take_column(s, i, j, d) {
             return j;
         }
-        j += 1;
     }
     end
 }
@@ -71,12 +67,10 @@ pub fn ends_from(s: &mut Table, n: usize, first: usize) -> bool
     requires { Factorable s.old n first × (first < n) × (pos 1 ≤ℤ upper s.old first first) }
     ensures { result ≡ ends_from (n - first) (upper s.old) first }
 {
-    let mut i = first;
-    while i + 1 < n {
+    for i in first..n - 1 {
         if take_row(s, i, n) < n {
             return false;
         }
-        i += 1;
     }
     true
 }

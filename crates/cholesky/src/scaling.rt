@@ -32,10 +32,8 @@ fn row_width(n: usize, low: &[i64], high: &[i64], i: usize) -> i64
 {
     let start = i * n;
     let mut w: i64 = 0;
-    let mut k = 0;
-    while k < n {
+    for k in 0..n {
         w += high[start + k] - low[start + k];
-        k += 1;
     }
     w
 }
@@ -62,10 +60,8 @@ fn scale_column(n: usize, low: &[i64], high: &[i64], j: usize, h: &mut Table)
     requires { Lent n low.now high.now × (j < n) × Scaled n (at n low.now) (at n high.now) h.old j }
     ensures { Scaled n (at n low.now) (at n high.now) h.new (suc j) }
 {
-    let mut i = 0;
-    while i < j {
+    for i in 0..j {
         h[STRIDE * j + i] = middle(n, low, high, i, j);
-        i += 1;
     }
     h[STRIDE * j + j] = diagonal(n, low, high, j);
 }
@@ -75,9 +71,7 @@ pub fn scale(n: usize, low: &[i64], high: &[i64], h: &mut Table)
     requires { Lent n low.now high.now × (length h.old ≡ table_room) }
     ensures { Scaled n (at n low.now) (at n high.now) h.new n }
 {
-    let mut j = 0;
-    while j < n {
+    for j in 0..n {
         scale_column(n, low, high, j, h);
-        j += 1;
     }
 }

@@ -8,6 +8,7 @@ use lib.Signed.{le_z}
 use lib.ListN.{length}
 use borrow.Author.Tests.{eqb-true}
 use lib.Dec.{eqb}
+use Rattle.std.specs.Prelude.{Result, Ok, Err}
 use Rattle.integers.specs.Numbers.{Within}
 use Rattle.tables.specs.Ranges.{sides_room, limit_range, centre_range, gradient_range}
 use Rattle.tables.specs.Matrix.{Matrix, nth, tabulate}
@@ -25,14 +26,13 @@ use Rattle.tables.proofs.Matrix.{nth-tabulate}
 use Rattle.steps.specs.Steps.{step, step_at}
 use Rattle.centre.specs.Centre.{gradient, at_centre}
 use Rattle.sides.specs.Sides.{box_of}
-use Rattle.enclosure.specs.Box.{Box, sides, refused, boxed}
+use Rattle.enclosure.specs.Box.{Box, refused, boxed}
 use Rattle.sides.proofs.SameBox.{box_same}
 use Rattle.centre.specs.Required.{Centred}
 use Rattle.sides.specs.Required.{box_in, SidesAnswered}
 use Rattle.enclosure.specs.Act.{Enclosed, laid_sides, box_sizes}
 use Rattle.enclosure.specs.Stating.{stated, Stated}
 use Rattle.enclosure.specs.declared.enclose.BoxAnswer.{BoxAnswer}
-use Rattle.enclosure.specs.declared.enclose.BoxAnswer.TheVariants as BoxAnswer
 
 -- ---- the cases
 -- 8, then 9
@@ -69,15 +69,15 @@ module _ (n : ℕ) (L U : Matrix) (a : Ends) (α : ℤ) (c : ℕ → ℤ) where
 
 -- ---- what the code states
 module _ {b o : Box} {n : ℕ} {x : List ℤ} (e : b ≡ o) where
-  pub stated_sides : SidesAnswered o n true x → Stated b n BoxAnswer.Sides x
+  pub stated_sides : SidesAnswered o n true x → Stated b n (Ok BoxAnswer.Sides) x
   unfolding stated box_in
   stated_sides a = record { box = e ∙ a.answer; size = a.size }
 
-  pub stated_empty : SidesAnswered o n false x → Stated b n BoxAnswer.Empty x
+  pub stated_empty : SidesAnswered o n false x → Stated b n (Ok BoxAnswer.Empty) x
   unfolding stated box_in
   stated_empty a = record { box = e ∙ a.answer; size = a.size }
 
-pub stated-refused : {b : Box} {r : Refusal} (n : ℕ) {x : List ℤ} → b ≡ refused r → length x ≡ sides_room → Stated b n (BoxAnswer.Refused r) x
+pub stated-refused : {b : Box} {r : Refusal} (n : ℕ) {x : List ℤ} → b ≡ refused r → length x ≡ sides_room → Stated b n (Err r) x
 unfolding stated
 stated-refused n e h = record { box = e; size = h }
 
@@ -111,21 +111,27 @@ module _ (n : ℕ) (a b : List ℤ) (α : ℤ) (c : List ℤ) (e : terms_within 
   }
 
 -- ---- what is handed out with it, in a buffer of any kind
-module _ {A : Type 0} (F : List ℤ → A) (n : ℕ) {b : Box} {r : BoxAnswer} {x : List ℤ} (st : Stated b n r x) (s : A) where
-  given_by : (q : BoxAnswer) → r ≡ q → laid_sides F (stated n q x) s ≡ laid_sides F b s
-  given_by q e = sym (ap (λ (g : Box). laid_sides F g s) (st.box ∙ ap (λ (r : BoxAnswer). stated n r x) e))
+module _ {A : Type 0} (F : List ℤ → A) (n : ℕ) {b : Box} {r : Result BoxAnswer Refusal} {x : List ℤ} (st : Stated b n r x) (s : A) where
+  given_by : (q : Result BoxAnswer Refusal) → r ≡ q → laid_sides F (stated n q x) s ≡ laid_sides F b s
+  given_by q e = sym (ap (λ (g : Box). laid_sides F g s) (st.box ∙ ap (λ (r : Result BoxAnswer Refusal). stated n r x) e))
 
-  pub given_sides : {s' : A} → r ≡ BoxAnswer.Sides → s' ≡ F (tabulate (n + n) (nth x)) → ◌≡◌ {A = Enclosed A} (record { answer = BoxAnswer.Sides; sides = s' }) (laid_sides F b s)
+  pub given_sides : {s' : A} → r ≡ Ok BoxAnswer.Sides → s' ≡ F (tabulate (n + n) (nth x)) → ◌≡◌ {A = Enclosed A} (record { answer = Ok BoxAnswer.Sides; sides = s' }) (laid_sides F b s)
   unfolding stated
-  given_sides e w = rw w (given_by BoxAnswer.Sides e)
+  given_sides e w = rw w (given_by (Ok BoxAnswer.Sides) e)
 
-  pub given_empty : r ≡ BoxAnswer.Empty → ◌≡◌ {A = Enclosed A} (record { answer = BoxAnswer.Empty; sides = s }) (laid_sides F b s)
+  pub given_empty : r ≡ Ok BoxAnswer.Empty → ◌≡◌ {A = Enclosed A} (record { answer = Ok BoxAnswer.Empty; sides = s }) (laid_sides F b s)
   unfolding stated
-  given_empty e = given_by BoxAnswer.Empty e
+  given_empty e = given_by (Ok BoxAnswer.Empty) e
 
-  pub given-refused : (k : Refusal) → r ≡ BoxAnswer.Refused k → ◌≡◌ {A = Enclosed A} (record { answer = BoxAnswer.Refused k; sides = s }) (laid_sides F b s)
+  -- s' has the sides where there are some, and else is s
+  pub given_answer : {s' : A} (a : BoxAnswer) → r ≡ Ok a → (a ≡ BoxAnswer.Sides → s' ≡ F (tabulate (n + n) (nth x))) → (a ≡ BoxAnswer.Empty → s' ≡ s) →
+      ◌≡◌ {A = Enclosed A} (record { answer = Ok a; sides = s' }) (laid_sides F b s)
+  given_answer BoxAnswer.Sides e f g = given_sides e (f refl)
+  given_answer BoxAnswer.Empty e f g = rw (g refl) (given_empty e)
+
+  pub given-refused : (k : Refusal) → r ≡ Err k → ◌≡◌ {A = Enclosed A} (record { answer = Err k; sides = s }) (laid_sides F b s)
   unfolding stated
-  given-refused k e = given_by (BoxAnswer.Refused k) e
+  given-refused k e = given_by (Err k) e
 
 -- ---- checks 1 and 2 passed
 pub record BoxSized (z : Sizes) (pairs : ℕ) (b : Lengths) (c s : ℕ) : Type 0 where

@@ -6,6 +6,7 @@ use Prim.Native.Nat.{ℕ}
 use native.Mathlib.Omega.{arith}
 use lib.IntN.{ℤ, pos, ◌+ℤ◌, ◌-ℤ◌, ◌*ℤ◌}
 use lib.Signed.{◌≤ℤ◌, ≤ℤ_refl, le_z}
+use Rattle.std.specs.Prelude.{Ok}
 use Rattle.integers.specs.Numbers.{abs_ℤ, min_ℤ, max_ℤ}
 use Rattle.integers.specs.Sum.{sum}
 use Rattle.integers.proofs.Parts.{≤ℤ_antisym, le_z_true}
@@ -17,7 +18,6 @@ use Rattle.tables.specs.Matrix.{Matrix, nth, tabulate, form}
 use Rattle.tables.specs.Members.{Member}
 use Rattle.tables.specs.Checks.{all, nowhere_crossed, ends_checks, first_refusal}
 use Rattle.tables.specs.declared.Refusal.TheVariants.{Flat, Far}
-use Rattle.tables.specs.declared.Checked.TheVariants.{Passed}
 use Rattle.tables.proofs.Checks.{all_of, first_passes, first-none}
 use Rattle.vectors.specs.Least.{least_value}
 use Rattle.steps.specs.Steps.{step, step_at}
@@ -78,7 +78,7 @@ module _ {n : ℕ} {L U : Matrix} {a : ℕ → ℤ} {α : ℤ} {X : ℕ → ℤ}
       }
 
 -- ---- 16 passes
-pub ends_equal : (n : ℕ) (a : List ℤ) → first_refusal (ends_checks n a a) ≡ Passed
+pub ends_equal : (n : ℕ) (a : List ℤ) → first_refusal (ends_checks n a a) ≡ Ok tt
 unfolding ends_checks nowhere_crossed
 ends_equal n a = first_passes _ _ (all_of _ n (λ k h. le_z_true (≤ℤ_refl (nth a k)))) ∙ first-none
 

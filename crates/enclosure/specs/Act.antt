@@ -1,26 +1,26 @@
 -- The box act, R5.5 and R14 of docs/RULES.md: what it answers, what it writes, and what its answer means (D3.3, D3.4).
-use Rattle.std.specs.Prelude.{◌≡◌, Bool, ◌&&◌, List, ℕ, ◌+◌, ◌*◌, eqb, ℤ, pos, negsuc, length}
-use Rattle.tables.specs.Refusals.{refusal_number}
+use Rattle.std.specs.Prelude.{◌≡◌, Bool, ◌&&◌, List, ℕ, ◌+◌, ◌*◌, eqb, ℤ, pos, negsuc, length, Result, Ok, Err}
 use Rattle.tables.specs.Checks.{order_of}
+use Rattle.tables.specs.Answers.{answer_code}
 use Rattle.tables.specs.Problem.{problem_of, lengths_of, constraint_sized}
+use Rattle.tables.specs.declared.Refusal.{Refusal}
 use Rattle.tables.specs.declared.problem.Constraint.{Constraint}
 use Rattle.tables.specs.declared.problem.Sizes.{Sizes}
 use Rattle.tables.specs.declared.problem.Lengths.{Lengths}
 use Rattle.enclosure.specs.Box.{Box, sides, empty, refused, boxing}
 use Rattle.enclosure.specs.Points.{Allowed, Contains}
 use Rattle.enclosure.specs.declared.enclose.BoxAnswer.{BoxAnswer}
-use Rattle.enclosure.specs.declared.enclose.BoxAnswer.TheVariants as BoxAnswer
 
 -- ---- the answer, and the buffer as it is left: a list of numbers, or of their bytes
 pub record Enclosed (A : Type 0) : Type 0 where
-  pub answer : BoxAnswer
+  pub answer : Result BoxAnswer Refusal
   pub sides : A
 
 -- R14.4, D1.3: only a box is written, and nothing on 'empty' and on a refusal. F lays the sides into a buffer.
 abbrev pub laid_sides : {A : Type 0} → (List ℤ → A) → Box → A → Enclosed A
-laid_sides F (sides s) b = record { answer = BoxAnswer.Sides; sides = F s }
-laid_sides F empty b = record { answer = BoxAnswer.Empty; sides = b }
-laid_sides F (refused r) b = record { answer = BoxAnswer.Refused r; sides = b }
+laid_sides F (sides s) b = record { answer = Ok BoxAnswer.Sides; sides = F s }
+laid_sides F empty b = record { answer = Ok BoxAnswer.Empty; sides = b }
+laid_sides F (refused r) b = record { answer = Err r; sides = b }
 
 -- 2, R4.2: each lent buffer has the size that belongs to n: the constraint's, the centre's of a vector, and that of the sides
 unfoldable pub box_sizes : Sizes → ℕ → Lengths → ℕ → ℕ → Bool
@@ -35,14 +35,16 @@ enclose n l u a b α c s =
     laid_sides (λ x. x) (boxing n (box_sizes z (k + k) lengths (length c) (length s)) (problem_of k l u a b α c)) s
 
 -- R15.4: the number at the C entry, 0, -1, or the refusal's
-unfoldable pub box_code : BoxAnswer → ℤ
-box_code BoxAnswer.Sides = pos 0
-box_code BoxAnswer.Empty = negsuc 0
-box_code (BoxAnswer.Refused r) = pos (refusal_number r)
+abbrev pub box_number : BoxAnswer → ℤ
+box_number BoxAnswer.Sides = pos 0
+box_number BoxAnswer.Empty = negsuc 0
+
+abbrev pub box_code : Result BoxAnswer Refusal → ℤ
+box_code r = answer_code box_number r
 
 -- ---- what an answer means of a constraint c; s is the buffer as it is left
-pub record Meaning (r : BoxAnswer) (c : Constraint) (s : List ℤ) : Type 0 where
+pub record Meaning (r : Result BoxAnswer Refusal) (c : Constraint) (s : List ℤ) : Type 0 where
   -- D3.3: a box contains every point
-  pub holds : r ≡ BoxAnswer.Sides → (X : ℕ → ℤ) (p : ℤ) → Allowed c X p → Contains c.order s X p
+  pub holds : r ≡ Ok BoxAnswer.Sides → (X : ℕ → ℤ) (p : ℤ) → Allowed c X p → Contains c.order s X p
   -- D3.4: 'empty', there is no point
-  pub none : r ≡ BoxAnswer.Empty → (X : ℕ → ℤ) (p : ℤ) → Allowed c X p → ⊥
+  pub none : r ≡ Ok BoxAnswer.Empty → (X : ℕ → ℤ) (p : ℤ) → Allowed c X p → ⊥

@@ -7,31 +7,31 @@ ghost use Rattle.tables.specs.Checks.{order_of};
 ghost use Rattle.tables.specs.Problem.{constraint_of, ends_of};
 ghost use Rattle.centre.specs.Required.{Centred};
 ghost use Rattle.enclosure.specs.Box.{boxed};
-ghost use Rattle.enclosure.specs.Act.{Enclosed, laid_sides, box_sizes, enclose, box_code, Meaning};
+ghost use Rattle.enclosure.specs.Act.{Enclosed, laid_sides, box_sizes, enclose, box_number, Meaning};
 ghost use Rattle.enclosure.specs.Stating.{Stated};
 
 use centre::{at_centre, gradients, near};
 use sides::box_of;
-use tables::entering::{enter, order_of};
+use tables::entering::{enter, order};
 use tables::problem::{Lengths, Sizes, constraint_sized, lengths_of};
-use tables::{Checked, GREATEST_ORDER, Refusal, SIDES_ROOM, Sides, TABLE_ROOM, check_ends};
+use tables::{Answer, GREATEST_ORDER, Refusal, SIDES_ROOM, Sides, TABLE_ROOM, check_ends};
 
 // What the box act answers: sides, or that there is no point.
-#[derive(Drop)]
+#[derive(Clone, Copy, Debug, PartialEq, Eq)]
 pub enum BoxAnswer {
     Sides,
     Empty,
-    Refused(Refusal),
 }
 
-// An answer's number at a C entry: 0 sides, -1 empty, else the refusal's.
-pub fn box_code(a: BoxAnswer) -> i64
-    ensures { result ≡ box_code a }
-{
-    match a {
-        BoxAnswer::Sides => 0,
-        BoxAnswer::Empty => -1,
-        BoxAnswer::Refused(r) => tables::refusal_number(r) as i64,
+// At a C entry sides are 0, and 'empty' is -1.
+impl Answer for BoxAnswer {
+    ghost code = { box_number };
+
+    fn code(self) -> i64 {
+        match self {
+            BoxAnswer::Sides => 0,
+            BoxAnswer::Empty => -1,
+        }
     }
 }
 
@@ -46,7 +46,7 @@ pub fn box_bounds(
     limit: i64,
     centre: &[i64],
     out: &mut Sides,
-) -> BoxAnswer
+) -> Result<BoxAnswer, Refusal>
     requires { Centred n low.now high.now from.now to.now centre.now × Within limit_range limit × (length
         out.old ≡ sides_room) }
     ensures { Stated (boxed n (at n low.now) (at n high.now) (ends_of from.now to.now) limit (nth centre.now)) n result out.new }
@@ -56,18 +56,18 @@ pub fn box_bounds(
     gradients(n, low, high, from, to, centre, &mut g);
     let close = near(n, &g);
     if t <= 0 {
-        return BoxAnswer::Refused(Refusal::Flat);
+        return Err(Refusal::Flat);
     }
     if !close {
-        return BoxAnswer::Refused(Refusal::Far);
+        return Err(Refusal::Far);
     }
     let mut tk = [0i64; GREATEST_ORDER];
     steps::steps_at(n, low, high, &mut tk);
     let d = at_centre(n, low, high, from, to, limit, centre);
     if box_of(n, centre, d, t, &tk, &g, out) {
-        return BoxAnswer::Sides;
+        return Ok(BoxAnswer::Sides);
     }
-    return BoxAnswer::Empty;
+    Ok(BoxAnswer::Empty)
 }
 
 // The same with the sides in a buffer of the size that n calls for.
@@ -80,7 +80,7 @@ fn enclose_bounds(
     limit: i64,
     centre: &[i64],
     sides: &mut [i64],
-) -> BoxAnswer
+) -> Result<BoxAnswer, Refusal>
     requires { Centred n low.now high.now from.now to.now centre.now × Within limit_range limit × (length
         sides.old ≡ n + n) }
     ensures { ◌≡◌ {A = Enclosed (List ℤ)} (record { answer = result; sides = sides.new }) (laid_sides (λ s. s) (boxed n
@@ -88,15 +88,11 @@ fn enclose_bounds(
         centre.now)) sides.old) }
 {
     let mut x = [0i64; SIDES_ROOM];
-    let given = box_bounds(n, low, high, from, to, limit, centre, &mut x);
-    match given {
-        BoxAnswer::Sides => {
-            tables::copy_numbers(n + n, &x, sides);
-            BoxAnswer::Sides
-        }
-        BoxAnswer::Empty => BoxAnswer::Empty,
-        BoxAnswer::Refused(r) => BoxAnswer::Refused(r),
+    let given = box_bounds(n, low, high, from, to, limit, centre, &mut x)?;
+    if given == BoxAnswer::Sides {
+        tables::copy_numbers(n + n, &x, sides);
     }
+    Ok(given)
 }
 
 // Whether the buffers of a call have their sizes: those of the constraint, the centre of a vector, and the sides of so many pairs.
@@ -119,14 +115,11 @@ pub fn enclose(
     limit: i64,
     centre: &[i64],
     sides: &mut [i64],
-) -> BoxAnswer
+) -> Result<BoxAnswer, Refusal>
     ensures exact { ◌≡◌ {A = Enclosed (List ℤ)} (record { answer = result; sides = sides.new }) (enclose n low.now high.now from.now to.now limit centre.now sides.old) }
     ensures meaning { Meaning result (constraint_of (order_of n) low.now high.now from.now to.now limit) sides.new }
 {
-    let m = order_of(n);
-    if m == 0 {
-        return BoxAnswer::Refused(Refusal::Order);
-    }
+    let m = order(n)?;
     let sizes = Sizes {
         table: m * m,
         vector: m,
@@ -136,13 +129,7 @@ pub fn enclose(
     let within = tables::sized_within(m, sized, from, to, limit, centre);
     let mut l = [0i64; TABLE_ROOM];
     let mut u = [0i64; TABLE_ROOM];
-    let checked = enter(n, sized, within, low, high, &mut l, &mut u);
-    if let Checked::Refused(r) = checked {
-        return BoxAnswer::Refused(r);
-    }
-    let ordered = check_ends(m, from, to);
-    if let Checked::Refused(r) = ordered {
-        return BoxAnswer::Refused(r);
-    }
+    enter(n, sized, within, low, high, &mut l, &mut u)?;
+    check_ends(m, from, to)?;
     enclose_bounds(m, &l, &u, from, to, limit, centre, sides)
 }

@@ -7,12 +7,11 @@ ghost use Rattle.tables.specs.Matrix.{at};
 ghost use Rattle.tables.specs.Members.{PositiveDefinite};
 
 use residual::factor_test::FactorAnswer;
-use rides::reading::Reading as SumsReading;
 use samples::sample::Sample;
 use std::io;
 use stiffness::bracket::Stiffness;
-use summary::problem::Reading;
-use tables::Checked;
+use tables::problem::Problem;
+use tables::{Refusal, answer_code};
 use verdict::judge::Verdict;
 
 // The first size bytes of a text, to standard output.
@@ -53,22 +52,20 @@ fn print_four(rt: &impl Print, word: &[u8], x: &[i64; 4]) -> io::Result<()>
 }
 
 // The number of a verdict, and where it is 'definite' what the rows of the residual have over.
-fn print_verdict(rt: &impl Print, verdict: Verdict) -> io::Result<()> {
-    print_number(rt, b"judge", verdict::judge::verdict_code(verdict))?;
-    if let Verdict::Definite(over) = verdict {
+fn print_verdict(rt: &impl Print, verdict: Result<Verdict, Refusal>) -> io::Result<()> {
+    print_number(rt, b"judge", answer_code(verdict))?;
+    if let Ok(Verdict::Definite(over)) = verdict {
         print_number(rt, b"over", over)?;
     }
     Ok(())
 }
 
 // The number of the factor test's answer, and where nothing is refused what the rows of the residual have over.
-fn print_tested(rt: &impl Print, answer: FactorAnswer) -> io::Result<()> {
-    let number = residual::factor_test::factor_code(answer);
-    print_number(rt, b"test_factor", number)?;
+fn print_tested(rt: &impl Print, answer: Result<FactorAnswer, Refusal>) -> io::Result<()> {
+    print_number(rt, b"test_factor", answer_code(answer))?;
     match answer {
-        FactorAnswer::Accepted(over) => print_number(rt, b"over", over),
-        FactorAnswer::NotAccepted(over) => print_number(rt, b"over", over),
-        FactorAnswer::Refused(_) => Ok(()),
+        Ok(tested) => print_number(rt, b"over", tested.over()),
+        Err(_) => Ok(()),
     }
 }
 
@@ -105,13 +102,10 @@ fn offered(rt: &impl Print) -> io::Result<()> {
 }
 
 // The number of a refusal, or 0 where nothing is refused.
-fn print_checked(rt: &impl Print, word: &[u8], checked: Checked) -> io::Result<()>
+fn print_checked(rt: &impl Print, word: &[u8], checked: Result<(), Refusal>) -> io::Result<()>
     requires { length word.now ≤ 16 }
 {
-    match checked {
-        Checked::Passed => print_number(rt, word, 0),
-        Checked::Refused(r) => print_number(rt, word, tables::refusal_number(r) as i64),
-    }
+    print_number(rt, word, answer_code(checked))
 }
 
 // The residual of [2 1; 1 2] to [3 1; 1 3] and a factor; and of one that is refused by 6, with both tables kept.
@@ -251,7 +245,7 @@ fn not_definite(rt: &impl Print) -> io::Result<()> {
     print_four(rt, b"factor", &factor)?;
     print_two(rt, b"vector", &vector)?;
     let answer = vectors::vector_test::test_vector(2, &table, &table, &vector);
-    print_number(rt, b"test_vector", tables::answer_code(answer))
+    print_number(rt, b"test_vector", answer_code(answer))
 }
 
 // A table that is too short: refused by 2, with both buffers kept.
@@ -266,15 +260,15 @@ fn refused(rt: &impl Print) -> io::Result<()> {
 }
 
 // The number of the bracket's answer, with the step and the bound that it gives.
-fn print_stiffness(rt: &impl Print, stiffness: Stiffness) -> io::Result<()> {
-    print_number(rt, b"bracket", stiffness::bracket::bracket_code(stiffness))?;
+fn print_stiffness(rt: &impl Print, stiffness: Result<Stiffness, Refusal>) -> io::Result<()> {
+    print_number(rt, b"bracket", answer_code(stiffness))?;
     match stiffness {
-        Stiffness::Between(step, bound) => {
+        Ok(Stiffness::Between(step, bound)) => {
             let both = [step, bound];
             print_two(rt, b"between", &both)
         }
-        Stiffness::AtMost(bound) => print_number(rt, b"at most", bound),
-        Stiffness::Refused(_) => Ok(()),
+        Ok(Stiffness::AtMost(bound)) => print_number(rt, b"at most", bound),
+        Err(_) => Ok(()),
     }
 }
 
@@ -307,7 +301,7 @@ fn boxed(rt: &impl Print) -> io::Result<()> {
     let answer = enclosure::enclose::enclose(
         1, &matrix, &matrix, &from, &to, 0, &centre, &mut sides,
     );
-    print_number(rt, b"enclose", enclosure::enclose::box_code(answer))?;
+    print_number(rt, b"enclose", answer_code(answer))?;
     print_two(rt, b"sides", &sides)
 }
 
@@ -329,7 +323,7 @@ fn gathered(rt: &impl Print) -> io::Result<()> {
     let taken = rides::gather::gather(
         sample, 4, &mut low, &mut high, &mut from, &mut to, &mut limit,
     );
-    print_number(rt, b"gather", sums::gathered_code(taken))?;
+    print_number(rt, b"gather", answer_code(taken))?;
     let beyond = Sample {
         rolling: 1.0,
         climb: 0.03125,
@@ -340,14 +334,14 @@ fn gathered(rt: &impl Print) -> io::Result<()> {
     let refused = rides::gather::gather(
         beyond, 4, &mut low, &mut high, &mut from, &mut to, &mut limit,
     );
-    print_number(rt, b"gather", sums::gathered_code(refused))?;
+    print_number(rt, b"gather", answer_code(refused))?;
     print_four(rt, b"from", &from)?;
     print_four(rt, b"to", &to)?;
     print_number(rt, b"running", limit[0])?;
     let reading = rides::reading::read_sums(4, &low, &high, &from, &to, limit[0], 2000);
     match reading {
-        SumsReading::Limit(alpha) => print_number(rt, b"read_sums", alpha),
-        SumsReading::Refused(r) => print_number(rt, b"refused", tables::refusal_number(r) as i64),
+        Ok(alpha) => print_number(rt, b"read_sums", alpha),
+        Err(refusal) => print_number(rt, b"refused", refusal.number() as i64),
     }
 }
 
@@ -367,18 +361,18 @@ fn pooled(rt: &impl Print) -> io::Result<()> {
         1, &mut low, &mut high, &mut from, &mut to, &mut limit, &orders, &matrices, &matrices,
         &linear, &linear, &limits,
     );
-    print_number(rt, b"pool", sums::gathered_code(taken))?;
+    print_number(rt, b"pool", answer_code(taken))?;
     let others = [1i64, 2];
     let refused = pool::pool::pool(
         1, &mut low, &mut high, &mut from, &mut to, &mut limit, &others, &matrices, &matrices,
         &linear, &linear, &limits,
     );
-    print_number(rt, b"pool", sums::gathered_code(refused))?;
+    print_number(rt, b"pool", answer_code(refused))?;
     print_number(rt, b"from", from[0])?;
     let reading = rides::reading::read_sums(1, &low, &high, &from, &to, limit[0], 0);
     match reading {
-        SumsReading::Limit(alpha) => print_number(rt, b"read_sums", alpha),
-        SumsReading::Refused(r) => print_number(rt, b"refused", tables::refusal_number(r) as i64),
+        Ok(alpha) => print_number(rt, b"read_sums", alpha),
+        Err(refusal) => print_number(rt, b"refused", refusal.number() as i64),
     }
 }
 
@@ -405,8 +399,7 @@ fn on_the_bus(rt: &impl Print) -> io::Result<()> {
     let read = bus::acts::read(&block, 3, &mut verdict);
     print_checked(rt, b"bus_read", read)?;
     print_byte(rt, b"verdict", verdict[0])?;
-    let number = bus::line::line_code(bus::acts::line(&block));
-    print_number(rt, b"bus_line", number)
+    print_number(rt, b"bus_line", answer_code(bus::acts::line(&block)))
 }
 
 // Whether the judge calls two bounds of order 2 definite. Where it does, every symmetric matrix between them is positive definite: the
@@ -418,10 +411,11 @@ fn surely_definite(low: [i64; 4], high: [i64; 4]) -> bool
     let mut vector = [0i64; 2];
     let verdict = verdict::judge::judge(2, &low, &high, &mut factor, &mut vector);
     match verdict {
-        Verdict::Definite(_) => true,
-        Verdict::NotDefinite => false,
-        Verdict::Undecided => false,
-        Verdict::Refused(_) => false,
+        Ok(given) => match given {
+            Verdict::Definite(_) => true,
+            _ => false,
+        },
+        Err(_) => false,
     }
 }
 
@@ -466,11 +460,9 @@ fn write_summary(rt: &impl Print) -> io::Result<()> {
 }
 
 // The limit and the ends of the first linear term of a problem that was read, or the number by which its file is refused.
-fn print_reading(rt: &impl Print, reading: Reading) -> io::Result<()> {
-    let checked = reading.checked;
-    match checked {
-        Checked::Passed => {
-            let problem = reading.problem;
+fn print_reading(rt: &impl Print, reading: Result<Problem, Refusal>) -> io::Result<()> {
+    match reading {
+        Ok(problem) => {
             let constraint = problem.constraint;
             let linear = constraint.linear;
             let from = linear.low;
@@ -479,7 +471,7 @@ fn print_reading(rt: &impl Print, reading: Reading) -> io::Result<()> {
             print_number(rt, b"from", from[0])?;
             print_number(rt, b"to", to[0])
         }
-        Checked::Refused(r) => print_number(rt, b"refused", tables::refusal_number(r) as i64),
+        Err(refusal) => print_number(rt, b"refused", refusal.number() as i64),
     }
 }
 

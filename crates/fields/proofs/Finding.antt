@@ -7,13 +7,12 @@ use native.Mathlib.Decide.{dec_le, ℕ_discrete}
 use native.Mathlib.Omega.{arith}
 use lib.ListN.{length, get_or}
 use borrow.Author.Tests.{le-leb, lt-leb, eq-eqb, ne_eqb}
+use Rattle.std.specs.Prelude.{Some, None, Ok, Err}
 use Rattle.words.specs.Numbers.{unsigned_at}
 use Rattle.tables.specs.declared.Refusal.TheVariants.{Cut, Tag}
 use Rattle.fields.specs.declared.field.Kind.{Kind}
-use Rattle.fields.specs.declared.field.Tagged.{Tagged}
 use Rattle.fields.specs.declared.field.Field.{Field}
-use Rattle.fields.specs.declared.field.Found.{Found}
-use Rattle.fields.specs.Fields.{kinds, kind_count, place_of, tag_of, kind_in, kind_of, head, tagged, field_at}
+use Rattle.fields.specs.Fields.{kinds, kind_count, place_of, tag_of, Tagged, kind_in, kind_of, head, tagged, field_at}
 
 -- ---- tags
 -- the number t is none of the tags
@@ -21,13 +20,13 @@ abbrev pub Unlisted : List Kind → ℕ → Type 0
 Unlisted [] t = Unit
 Unlisted (k ∷ ks) t = (t ≡ tag_of k → ⊥) × Unlisted ks t
 
-pub kind_unlisted : (ks : List Kind) (t : ℕ) → Unlisted ks t → kind_in ks t ≡ Tagged.Refused Tag
+pub kind_unlisted : (ks : List Kind) (t : ℕ) → Unlisted ks t → kind_in ks t ≡ Err Tag
 unfolding kind_in
 kind_unlisted [] t u = refl
 kind_unlisted (k ∷ ks) t u = rw (ne_eqb t (tag_of k) u.0, kind_in) (kind_unlisted ks t u.1)
 
 -- each kind is listed, below their number
-pub kind_place : (k : Kind) → (kind_of (tag_of k) ≡ Tagged.Known k) × (place_of k < kind_count)
+pub kind_place : (k : Kind) → (kind_of (tag_of k) ≡ Ok k) × (place_of k < kind_count)
 unfolding kind_of kind_in
 kind_place Kind.Order = (refl, omega arith)
 kind_place Kind.Low = (refl, omega arith)
@@ -37,19 +36,19 @@ kind_place Kind.Limit = (refl, omega arith)
 kind_place Kind.Centre = (refl, omega arith)
 kind_place Kind.LinearHigh = (refl, omega arith)
 
-tag_listed : (ks : List Kind) (t : ℕ) (k : Kind) → kind_in ks t ≡ Tagged.Known k → t ≡ tag_of k
+tag_listed : (ks : List Kind) (t : ℕ) (k : Kind) → kind_in ks t ≡ Ok k → t ≡ tag_of k
 unfolding kind_in
 tag_listed [] t k e = absurd (false≢true (cc))
 tag_listed (x ∷ xs) t k e = go (ℕ_discrete t (tag_of x)) (tag_listed xs t k)
   where
-    go : Dec (t ≡ tag_of x) → (kind_in xs t ≡ Tagged.Known k → t ≡ tag_of k) → t ≡ tag_of k
+    go : Dec (t ≡ tag_of x) → (kind_in xs t ≡ Ok k → t ≡ tag_of k) → t ≡ tag_of k
     go (yes q) rest =
-        let known : kind_in (x ∷ xs) t ≡ Tagged.Known x = rw (eq-eqb t (tag_of x) q, kind_in) in
+        let known : kind_in (x ∷ xs) t ≡ Ok x = rw (eq-eqb t (tag_of x) q, kind_in) in
         let same : x ≡ k = cc in
         q ∙ ap (λ (z : Kind). tag_of z) same
     go (no n) rest = let next : kind_in (x ∷ xs) t ≡ kind_in xs t = rw (ne_eqb t (tag_of x) n, kind_in) in rest (sym next ∙ e)
 
-pub tag_known : (t : ℕ) (k : Kind) → kind_of t ≡ Tagged.Known k → t ≡ tag_of k
+pub tag_known : (t : ℕ) (k : Kind) → kind_of t ≡ Ok k → t ≡ tag_of k
 unfolding kind_of
 tag_known t k e = tag_listed kinds t k e
 
@@ -73,23 +72,23 @@ each_place P f (suc (suc (suc (suc (suc (suc (suc n))))))) h = absurd (omega ari
 
 -- the field f stands at `at`: what its head says, and where its content lies
 pub record Stands (s : List ℕ) (at : ℕ) (f : Field) : Type 0 where
-  pub tag : kind_of (get_or s at 0) ≡ Tagged.Known f.kind
-  pub size : f.length ≡ unsigned_at 2 s (at + 1)
-  pub begins : f.start ≡ at + head
-  pub ends : f.next ≡ f.start + f.length
+  pub tag : kind_of (get_or s at 0) ≡ Ok f.kind
+  pub size : f.part.length ≡ unsigned_at 2 s (at + 1)
+  pub begins : f.part.start ≡ at + head
+  pub ends : f.next ≡ f.part.start + f.part.length
   pub inside : f.next ≤ length s
 
 -- ---- what stands at a place
 module _ (s : List ℕ) (at : ℕ) where
-  pub field_end : length s ≤ at → field_at s at ≡ Found.End
+  pub field_end : length s ≤ at → field_at s at ≡ Ok None
   unfolding field_at
   field_end h = rw (le-leb _ _ h, field_at)
 
-  pub field-head_cut : at < length s → length s < at + head → field_at s at ≡ Found.Refused Cut
+  pub field-head_cut : at < length s → length s < at + head → field_at s at ≡ Err Cut
   unfolding field_at
   field-head_cut h k = rw (lt-leb _ _ h, lt-leb _ _ k, field_at)
 
-  pub field_cut : at + head ≤ length s → length s < at + head + unsigned_at 2 s (at + 1) → field_at s at ≡ Found.Refused Cut
+  pub field_cut : at + head ≤ length s → length s < at + head + unsigned_at 2 s (at + 1) → field_at s at ≡ Err Cut
   unfolding field_at
   field_cut h k = let l : at < length s = omega arith in rw (lt-leb _ _ l, le-leb _ _ h, lt-leb _ _ k, field_at)
 
@@ -102,15 +101,15 @@ module _ (s : List ℕ) (at : ℕ) where
       rw (e, t, lt-leb _ _ l, le-leb _ _ h, le-leb _ _ m, field_at)
 
   -- a field that is found stands there, whole
-  pub found_inside : (f : Field) → field_at s at ≡ Found.Here f → Stands s at f
+  pub found_inside : (f : Field) → field_at s at ≡ Ok (Some f) → Stands s at f
   unfolding tagged
   found_inside f e = go (dec_le (at + head + unsigned_at 2 s (at + 1)) (length s)) (dec_le (at + head) (length s)) (dec_le (length s) at)
     where
-      known : (t : Tagged) → kind_of (get_or s at 0) ≡ t → at + head + unsigned_at 2 s (at + 1) ≤ length s → tagged at (unsigned_at 2 s (at + 1)) t ≡ Found.Here f → Stands s at f
-      known (Tagged.Known k) q h e =
-          let r : record { kind = k; start = at + head; length = unsigned_at 2 s (at + 1); next = at + head + unsigned_at 2 s (at + 1) } ≡ f = cc in
+      known : (t : Tagged) → kind_of (get_or s at 0) ≡ t → at + head + unsigned_at 2 s (at + 1) ≤ length s → tagged at (unsigned_at 2 s (at + 1)) t ≡ Ok (Some f) → Stands s at f
+      known (Ok k) q h e =
+          let r : record { kind = k; part = record { start = at + head; length = unsigned_at 2 s (at + 1) }; next = at + head + unsigned_at 2 s (at + 1) } ≡ f = cc in
           rw (← r) (record { tag = q; size = refl; begins = refl; ends = refl; inside = h })
-      known (Tagged.Refused r) q h e = absurd (false≢true (cc))
+      known (Err r) q h e = absurd (false≢true (cc))
 
       go : Dec (at + head + unsigned_at 2 s (at + 1) ≤ length s) → Dec (at + head ≤ length s) → Dec (length s ≤ at) → Stands s at f
       go (yes h) k l = known (kind_of (get_or s at 0)) refl h (field-whole refl h refl ∙ e)
@@ -119,13 +118,13 @@ module _ (s : List ℕ) (at : ℕ) where
       go (no h) (no k) (no l) = absurd (false≢true (cc (field-head_cut (omega arith) (omega arith))))
 
   -- the file's end is found only there
-  pub found_end : field_at s at ≡ Found.End → length s ≤ at
+  pub found_end : field_at s at ≡ Ok None → length s ≤ at
   unfolding tagged
   found_end e = go (dec_le (length s) at) (dec_le (at + head) (length s)) (dec_le (at + head + unsigned_at 2 s (at + 1)) (length s))
     where
-      never : (t : Tagged) → tagged at (unsigned_at 2 s (at + 1)) t ≡ Found.End → ⊥
-      never (Tagged.Known k) q = false≢true (cc)
-      never (Tagged.Refused r) q = false≢true (cc)
+      never : (t : Tagged) → tagged at (unsigned_at 2 s (at + 1)) t ≡ Ok None → ⊥
+      never (Ok k) q = false≢true (cc)
+      never (Err r) q = false≢true (cc)
 
       go : Dec (length s ≤ at) → Dec (at + head ≤ length s) → Dec (at + head + unsigned_at 2 s (at + 1) ≤ length s) → length s ≤ at
       go (yes l) k h = l

@@ -3,35 +3,34 @@
 use mathlib.Core.Path.{◌≡◌, refl, sym, ap, ◌∙◌}
 use mathlib.Core.Bool.{Bool, true, false, false≢true}
 use mathlib.Core.List.{List, [], ◌∷◌, map}
-use mathlib.Core.Option.{none, some}
 use Prim.Native.Nat.{ℕ, ◌+◌, ◌*◌, ◌^◌, ◌≤◌, ◌<◌}
 use native.Mathlib.Omega.{arith}
 use lib.ListN.{length, length-append}
 use Rattle.words.specs.Numbers.{to_le_bytes}
 use Rattle.words.proofs.Laws.{AllBytes, length-to_le_bytes}
-use Rattle.tables.specs.declared.Checked.TheVariants as Checked
+use Rattle.std.specs.Prelude.{Some, None, Ok}
 use Rattle.fields.specs.declared.field.Kind.{Kind}
 use Rattle.fields.specs.declared.layout.Layout.{Layout}
 use Rattle.fields.specs.Fields.{kinds, kind_count, place_of, tag_of, head}
-use Rattle.fields.specs.Layouts.{seen, walked, content}
+use Rattle.fields.specs.Layouts.{seen, walked, layout_of, content}
 use Rattle.fields.specs.Entries.{Entry, entry_bytes, bytes_of_entries, entry_of, Writable, content_seen, Written, entry_with, all_entries, whole_file}
 use Rattle.fields.proofs.Finding.{place-below, same_kind}
-use Rattle.fields.proofs.Parts.{kind_discrete}
+use Rattle.fields.proofs.Parts.{kind_discrete, layout_is}
 use Rattle.fields.proofs.Entries.{entry_here, entry_next, none_below, written-passes, written_contents, passed-written}
 
 -- ---- the contents that are seen
 module _ (s : List ℕ) (l : Layout) (k : Kind) where
-  seen-content : seen l k ≡ true → content_seen s l k ≡ some (content s l k)
+  seen-content : seen l k ≡ true → content_seen s l k ≡ Some (content s l k)
   unfolding content_seen
   seen-content e = rw (e, content_seen)
 
-  content-seen : (b : List ℕ) → content_seen s l k ≡ some b → (seen l k ≡ true) × (content s l k ≡ b)
+  content-seen : (b : List ℕ) → content_seen s l k ≡ Some b → (seen l k ≡ true) × (content s l k ≡ b)
   unfolding content_seen
   content-seen b e = go (seen l k) refl
     where
       go : (x : Bool) → seen l k ≡ x → (seen l k ≡ true) × (content s l k ≡ b)
       go true q = (q, cc (seen-content q))
-      go false q = let n : content_seen s l k ≡ none = rw (q, content_seen) in absurd (false≢true (cc))
+      go false q = let n : content_seen s l k ≡ None = rw (q, content_seen) in absurd (false≢true (cc))
 
 -- ---- entries with rising tags, of all kinds above t
 -- ks are the kinds with tags above t
@@ -42,7 +41,7 @@ From t (k ∷ ks) = (tag_of k ≡ t + 1) × From (t + 1) ks
 module _ (c : Kind → List ℕ) where
   -- each kind above t has its content among the entries
   abbrev Has : ℕ → List Entry → Type 0
-  Has t es = (k : Kind) → t < tag_of k → entry_of es k ≡ some (c k)
+  Has t es = (k : Kind) → t < tag_of k → entry_of es k ≡ Some (c k)
 
   -- the first of them has the next tag
   first_kind : (t : ℕ) (k : Kind) (e : Entry) (es : List Entry) → tag_of k ≡ t + 1 → Writable t (e ∷ es) → Has t (e ∷ es) → e.kind ≡ k
@@ -79,7 +78,7 @@ module _ (c : Kind → List ℕ) (b : (k : Kind) → length (c k) < 256 ^ 2) whe
   all-writable =
       (b Kind.Order, omega arith, (b Kind.Low, omega arith, (b Kind.High, omega arith, (b Kind.LinearLow, omega arith, (b Kind.Limit, omega arith, (b Kind.Centre, omega arith, (b Kind.LinearHigh, omega arith, tt)))))))
 
-  all_have : (k : Kind) → entry_of (all_entries c) k ≡ some (c k)
+  all_have : (k : Kind) → entry_of (all_entries c) k ≡ Some (c k)
   unfolding entry_of
   all_have Kind.Order = refl
   all_have Kind.Low = refl
@@ -94,11 +93,11 @@ module _ (c : Kind → List ℕ) (b : (k : Kind) → length (c k) < 256 ^ 2) whe
   whole-written = record { entries = all_entries c; writable = all-writable; file = refl }
 
   -- it passes
-  pub whole-passes : (walked (whole_file c)).checked ≡ Checked.Passed
+  pub whole-passes : walked (whole_file c) ≡ Ok (layout_of (whole_file c))
   whole-passes = written-passes (whole_file c) whole-written
 
   -- and its contents are found
-  pub whole-found : (k : Kind) → (seen (walked (whole_file c)).layout k ≡ true) × (content (whole_file c) (walked (whole_file c)).layout k ≡ c k)
+  pub whole-found : (k : Kind) → (seen (layout_of (whole_file c)) k ≡ true) × (content (whole_file c) (layout_of (whole_file c)) k ≡ c k)
   unfolding whole-written
   whole-found k = content-seen _ _ k (c k) (written_contents (whole_file c) whole-written k ∙ all_have k)
 
@@ -112,12 +111,11 @@ unfolding whole_file
 whole_ext c d e = ap bytes_of_entries (entries_ext c d e kinds)
 
 -- a file that passes and has all kinds is the file of its contents
-pub passed-whole : (s : List ℕ) → AllBytes s → (walked s).checked ≡ Checked.Passed → ((k : Kind) → seen (walked s).layout k ≡ true) → s ≡ whole_file (content s (walked s).layout)
+pub passed-whole : (s : List ℕ) {l : Layout} → AllBytes s → walked s ≡ Ok l → ((k : Kind) → seen l k ≡ true) → s ≡ whole_file (content s l)
 unfolding whole_file
-passed-whole s v p a =
-    let l = (walked s).layout in
+passed-whole s {l} v p a =
     let w = passed-written s v p in
-    let has : Has (content s l) 0 w.entries = λ k h. sym (written_contents s w k) ∙ seen-content s l k (a k) in
+    let has : Has (content s l) 0 w.entries = λ k h. sym (written_contents s w k) ∙ ap (λ (m : Layout). content_seen s m k) (layout_is s p) ∙ seen-content s l k (a k) in
     let first : From 0 kinds = (refl, (refl, (refl, (refl, (refl, (refl, (refl, omega arith))))))) in
     w.file ∙ ap bytes_of_entries (in_order (content s l) kinds w.entries 0 first w.writable has)
 

@@ -1,7 +1,6 @@
 -- A file as it is written: fields with rising tags, one after the other. The walk passes exactly these files, and finds these contents
 -- (proofs/Entries). With all kinds there is one such file of given contents (proofs/Whole).
-use Rattle.std.specs.Prelude.{◌≡◌, true, false, List, [], ◌∷◌, ◌++◌, map, ℕ, ◌^◌, ◌<◌, eqb, length}
-use Rattle.std.proofs.Math.Option.{Option, none, some}
+use Rattle.std.specs.Prelude.{◌≡◌, true, false, List, [], ◌∷◌, ◌++◌, map, ℕ, ◌^◌, ◌<◌, eqb, length, Option, Some, None}
 use Rattle.words.specs.Numbers.{to_le_bytes}
 use Rattle.fields.specs.declared.field.Kind.{Kind}
 use Rattle.fields.specs.declared.layout.Layout.{Layout}
@@ -27,8 +26,8 @@ bytes_of_entries (e ∷ es) = entry_bytes e ++ bytes_of_entries es
 
 -- the content of a kind among the entries
 unfoldable pub entry_of : List Entry → Kind → Option (List ℕ)
-entry_of [] k = none
-entry_of (e ∷ es) k = elim (eqb (place_of k) (place_of e.kind)) [ true ↦ some e.bytes | false ↦ entry_of es k ]
+entry_of [] k = None
+entry_of (e ∷ es) k = elim (eqb (place_of k) (place_of e.kind)) [ true ↦ Some e.bytes | false ↦ entry_of es k ]
 
 -- two bytes hold each length, and the tags rise from above t on
 unfoldable pub Writable : ℕ → List Entry → Type 0
@@ -37,7 +36,7 @@ Writable t (e ∷ es) = (length e.bytes < 256 ^ 2) × (t < tag_of e.kind) × Wri
 
 -- the content of a kind in a file with this layout
 unfoldable pub content_seen : List ℕ → Layout → Kind → Option (List ℕ)
-content_seen s l k = elim (seen l k) [ true ↦ some (content s l k) | false ↦ none ]
+content_seen s l k = elim (seen l k) [ true ↦ Some (content s l k) | false ↦ None ]
 
 -- s is a file of entries
 pub record Written (s : List ℕ) : Type 0 where

@@ -1,114 +1,86 @@
 // The walk over the file's fields, R16.5 of docs/RULES.md: where the content of each stands.
-ghost use Rattle.std.specs.Prelude.{◌≡◌, ◌+◌, ◌≤◌, length};
-ghost use Rattle.fields.specs.Layouts.{start_of, length_of, unseen, stopped, placed, content, walked};
+ghost use Rattle.std.specs.Prelude.{◌≡◌, ◌+◌, ◌≤◌, length, map};
+ghost use Rattle.fields.specs.Layouts.{part_of, length_in, start_of, length_of, unseen, placed, content, walked};
 
-use crate::field::{Field, Found, KINDS, Kind, field_at, place_of, tag_of};
-use tables::{Checked, Refusal};
+use crate::field::{Field, KINDS, Kind, Part, field_at};
+use tables::Refusal;
 
-// Where the content of each field stands, by the place of its kind: start and length. A start of 0 says that there is none.
-#[derive(Clone, Copy)]
+// Where the content of each field stands, by the place of its kind: none where there is no such field.
+#[derive(Clone, Copy, Debug, PartialEq, Eq)]
 pub struct Layout {
-    pub starts: [usize; KINDS],
-    pub lengths: [usize; KINDS],
+    pub parts: [Option<Part>; KINDS],
 }
 
-// What the walk finds: the layout of all fields, or the first refusal, with no field.
-#[derive(Drop)]
-pub struct Walked {
-    pub checked: Checked,
-    pub layout: Layout,
-}
+impl Layout {
+    // No field.
+    fn unseen() -> Self
+        ensures { result ≡ unseen }
+    {
+        Layout {
+            parts: [None; KINDS],
+        }
+    }
 
-// No field.
-fn unseen() -> Layout
-    ensures { result ≡ unseen }
-{
-    Layout {
-        starts: [0; KINDS],
-        lengths: [0; KINDS],
+    // Where the content of a kind stands, if there is such a field.
+    pub fn part_of(&self, kind: Kind) -> Option<Part>
+        ensures { result ≡ part_of self.now kind }
+    {
+        self.parts[kind.place()]
+    }
+
+    // The lengths of the contents, by the place of their kind: 0 where there is no such field.
+    pub fn lengths(&self) -> [usize; KINDS]
+        ensures { result ≡ map length_in self.now.parts }
+    {
+        self.parts.map(|part| part.map_or(0, |part| part.length))
+    }
+
+    // A field more.
+    fn place(&mut self, field: Field)
+        ensures { self.new ≡ placed self.old field }
+    {
+        self.parts[field.kind.place()] = Some(field.part);
     }
 }
 
-// The refusal of a file, with no field.
-fn stopped(refusal: Refusal) -> Walked
-    ensures { result ≡ stopped refusal }
+// The layout of the file's fields, one after the other, or the first refusal of 10, 11, 12 and 19.
+pub fn walk(file: &[u8]) -> Result<Layout, Refusal>
+    ensures { result ≡ walked file.now }
 {
-    Walked {
-        checked: Checked::Refused(refusal),
-        layout: unseen(),
+    let mut layout = Layout::unseen();
+    let mut at = 0;
+    let mut last = 0;
+    while let Some(field) = field_at(file, at)? {
+        let tag = field.kind.tag();
+        let again = layout.part_of(field.kind).is_some();
+        let falls = tag < last;
+        if again {
+            return Err(Refusal::Again);
+        }
+        if falls {
+            return Err(Refusal::Falling);
+        }
+        layout.place(field);
+        at = field.next;
+        last = tag;
     }
+    Ok(layout)
 }
 
-// Where the content of a kind starts, 0 where there is no such field.
-pub fn start_of(layout: Layout, kind: Kind) -> usize
-    ensures { result ≡ start_of layout kind }
-{
-    let starts = layout.starts;
-    starts[place_of(kind)]
-}
-
-// The length of the content of a kind.
+// The length of the content of a kind, 0 where there is no such field.
 pub fn length_of(layout: Layout, kind: Kind) -> usize
     ensures { result ≡ length_of layout kind }
 {
-    let lengths = layout.lengths;
-    lengths[place_of(kind)]
+    layout.part_of(kind).map_or(0, |part| part.length)
 }
 
-// The layout with a field more.
-fn placed(layout: Layout, field: Field) -> Layout
-    ensures { result ≡ placed layout field }
-{
-    let kind = field.kind;
-    let i = place_of(kind);
-    let mut next = layout;
-    next.starts[i] = field.start;
-    next.lengths[i] = field.length;
-    next
-}
-
-// The layout of the file's fields, one after the other, or the first refusal of 10, 11, 12 and 19, with no field.
-pub fn walk(file: &[u8]) -> Walked
-    ensures { result ≡ walked file.now }
-{
-    let mut layout = unseen();
-    let mut at = 0;
-    let mut last = 0;
-    loop {
-        let found = field_at(file, at);
-        match found {
-            Found::Here(field) => {
-                let kind = field.kind;
-                let tag = tag_of(kind);
-                let again = 0 < start_of(layout, kind);
-                let falls = tag < last;
-                if again {
-                    return stopped(Refusal::Again);
-                }
-                if falls {
-                    return stopped(Refusal::Falling);
-                }
-                layout = placed(layout, field);
-                at = field.next;
-                last = tag;
-            }
-            Found::End => {
-                return Walked {
-                    checked: Checked::Passed,
-                    layout,
-                };
-            }
-            Found::Refused(r) => return stopped(r),
-        }
-    }
-}
-
-// The content of a kind: a part of the file.
+// The content of a kind: a part of the file, the empty one where there is no such field.
 pub fn content<'a>(file: &'a [u8], layout: Layout, kind: Kind) -> &'a [u8]
     requires { start_of layout kind + length_of layout kind ≤ length file.now }
     ensures { result.now ≡ content file.now layout kind }
 {
-    let start = start_of(layout, kind);
-    let length = length_of(layout, kind);
-    &file[start..start + length]
+    match layout.part_of(kind) {
+        Some(part) => part.bytes_in(file),
+        None => &file[..0],
+    }
 }

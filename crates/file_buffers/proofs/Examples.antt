@@ -14,12 +14,12 @@ use Rattle.tables.specs.Entering.{entered}
 use Rattle.tables.specs.Checks.{all, first_refusal, order_ok, order_of, sizes_ok, within, all_within, nowhere_crossed, tables_within, linear_within, terms_within, entry_checks, bounds_checks, ends_checks}
 use Rattle.tables.specs.declared.Refusal.{Refusal}
 use Rattle.tables.specs.declared.Refusal.TheVariants.{Order, Length, Crossed, Lopsided, Reversed, Tag}
-use Rattle.tables.specs.declared.Checked.TheVariants.{Passed, Refused}
+use Rattle.std.specs.Prelude.{Ok, Err}
 use Rattle.fields.specs.Fields.{kind_in, kind_of, tagged, field_at}
-use Rattle.fields.specs.Layouts.{start_of, length_of, seen, unseen, placed, walk_on, walk_fields, walk, walked, content}
+use Rattle.fields.specs.Layouts.{part_of, start_of, length_of, seen, unseen, placed, walk_on, walk_fields, walk, walked, content}
 use Rattle.fields.specs.Entries.{entry_bytes, bytes_of_entries, whole_file}
 use Rattle.summary.specs.Problems as file
-use Rattle.summary.specs.Problems.{all_present, lengths_ok, field_checks, file_of, read_as, reading_of, read_in, read_walked, reading}
+use Rattle.summary.specs.Problems.{all_present, lengths_ok, field_checks, file_of, reading_of, read_in, read_walked, reading}
 use Rattle.writer.specs.Writing.{Written, kept, writing, write_sizes}
 use Rattle.file_buffers.specs.Parts.{Parts, parts, Handed, roomy, parts_of, handed, read_summary}
 use Rattle.file_buffers.specs.Filing.{write_summary}
@@ -77,7 +77,7 @@ alone room x = x ++ replicate (room - 8) 0
 abbrev after_P : ℕ → Handed
 after_P b =
     record {
-      answer = Passed;
+      answer = Ok tt;
       parts = parts (long 1) (alone 512 (long 4)) (alone 512 (long 4)) (alone 64 (minus 0xf8)) (alone 64 (minus b)) (long 0) (alone 64 (long 2));
     }
 
@@ -86,7 +86,7 @@ abbrev after_two : ℕ → ℕ → ℕ → ℕ → Handed
 after_two a b c d =
     let v : List ℕ = replicate 64 0 in
     let behind : List ℕ = replicate 480 0 in
-    record { answer = Passed; parts = parts (long 2) (low_two a b ++ behind) (high_two c d ++ behind) v v (long 1) v }
+    record { answer = Ok tt; parts = parts (long 2) (low_two a b ++ behind) (high_two c d ++ behind) v v (long 1) v }
 
 record Line : Type 0 where
   bytes : List ℕ
@@ -94,7 +94,7 @@ record Line : Type 0 where
   expected : Handed
 
 abbrev refused_line : Refusal → ℕ → List ℕ → Line
-refused_line r k s = record { bytes = s; size = k; expected = record { answer = Refused r; parts = before k } }
+refused_line r k s = record { bytes = s; size = k; expected = record { answer = Err r; parts = before k } }
 
 abbrev lines : List Line
 lines =
@@ -114,10 +114,10 @@ lines =
 
 reads_as_worked_out : map (λ (l : Line). read_summary l.bytes (before l.size)) lines ≡ map (λ (l : Line). l.expected) lines
 unfolding read_summary handed roomy constraint_sized sizes_ok parts_of
-    reading read_walked read_in read_as reading_of file.problem_in field_checks all_present file.order_in lengths_ok
-    content length_of walked walk walk_fields walk_on seen start_of unseen placed field_at tagged kind_of kind_in
+    reading read_walked read_in reading_of file.problem_in field_checks all_present file.order_in lengths_ok
+    content length_of part_of walked walk walk_fields walk_on seen start_of unseen placed field_at tagged kind_of kind_in
     unsigned_at from_le_bytes signed_at numbers_of padded_numbers_of bytes_of to_le_bytes
-    all first_refusal order_ok within all_within nowhere_crossed tables_within linear_within terms_within bounds_checks ends_checks
+    all first_refusal order_ok within all_within nowhere_crossed tables_within linear_within terms_within bounds_checks ends_checks after
     mended_by table tabulate at min_ℤ max_ℤ
 reads_as_worked_out = refl
 
@@ -136,8 +136,8 @@ refused_by r k = kept (replicate k 170) r
 
 written_as_worked_out :
     writes (pos 1) 4 0xf8 62 ∷ writes (pos 0) 4 0xf8 62 ∷ writes (pos 1) 5 0xf7 61 ∷ writes (pos 1) 5 0xf7 62 ∷ writes (pos 1) 4 0xf7 62 ∷ writes_two 0 ∷ writes_two 3 ∷ []
-    ≡ record { answer = Passed; file = file_p 4 0xf8 } ∷ refused_by Order 62 ∷ refused_by Length 61 ∷ refused_by Crossed 62 ∷ refused_by Reversed 62
-    ∷ record { answer = Passed; file = file_two 1 1 2 2 } ∷ refused_by Lopsided 110 ∷ []
+    ≡ record { answer = Ok tt; file = file_p 4 0xf8 } ∷ refused_by Order 62 ∷ refused_by Length 61 ∷ refused_by Crossed 62 ∷ refused_by Reversed 62
+    ∷ record { answer = Ok tt; file = file_two 1 1 2 2 } ∷ refused_by Lopsided 110 ∷ []
 unfolding write_summary writing write_sizes constraint_sized sizes_ok constraint_entered entered after first_refusal entry_checks bounds_checks ends_checks
     all order_ok order_of within all_within nowhere_crossed tables_within linear_within terms_within mended_by table tabulate at min_ℤ max_ℤ
     file_of whole_file bytes_of_entries entry_bytes bytes_of to_le_bytes unsigned_at from_le_bytes signed_at numbers_of padded_numbers_of

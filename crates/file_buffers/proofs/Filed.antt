@@ -1,6 +1,6 @@
 -- Laws of the problem that buffers spell, and of the file of the mended one: what is written is read back, number by number and byte by byte.
 use mathlib.Core.Path.{◌≡◌, refl, sym, ap, ◌∙◌}
-use mathlib.Core.Bool.{Bool, true, false≢true}
+use mathlib.Core.Bool.{Bool, true}
 use mathlib.Core.List.{List, ◌++◌}
 use Prim.Native.Nat.{ℕ, ◌-◌, ◌*◌, ◌≤◌}
 use native.Mathlib.Omega.{arith}
@@ -15,13 +15,12 @@ use Rattle.words.specs.Numbers.{padded_numbers_of, bytes_of}
 use Rattle.words.proofs.Laws.{AllBytes, length-numbers_of, length-bytes_of, length-padded_numbers_of, bytes_of-numbers_of}
 use Rattle.words.proofs.Sign.{narrow-of}
 use Rattle.tables.specs.Ranges.{greatest_order, table_room}
-use Rattle.tables.specs.Checks.{order_ok, order_of, entry_checks, first_refusal}
+use Rattle.tables.specs.Checks.{Checked, order_ok, order_of, entry_checks, first_refusal}
 use Rattle.tables.specs.Answers.{after}
 use Rattle.tables.specs.Mending.{mended_by}
 use Rattle.tables.specs.Problem.{problem_of, lengths_of, problem_checks, mended_problem}
 use Rattle.tables.specs.declared.Refusal.TheVariants.{Range}
-use Rattle.tables.specs.declared.Checked.{Checked}
-use Rattle.tables.specs.declared.Checked.TheVariants.{Passed, Refused}
+use Rattle.std.specs.Prelude.{Ok, Err}
 use Rattle.tables.specs.declared.problem.Problem.{Problem}
 use Rattle.tables.proofs.Matrix.{table_fits}
 use Rattle.tables.proofs.Checks.{more-checks, order-of}
@@ -29,7 +28,7 @@ use Rattle.tables.proofs.Answers.{prefix_passed, after-passed, after-refused}
 use Rattle.tables.proofs.Admission.{entry-passed, entry-passes, order-known}
 use Rattle.tables.proofs.MendedTables.{Pairing, greater_pairing, smaller_pairing}
 use Rattle.tables.proofs.Problems.{problem-door}
-use Rattle.summary.specs.Problems.{file_of, padded_to, padded, read_as, reading, ProblemRooms, LetThrough}
+use Rattle.summary.specs.Problems.{file_of, padded_to, padded, checked_of, reading, ProblemRooms, LetThrough}
 use Rattle.summary.proofs.MendedProblems.{nth-padded_to, padded-mended, mended-through}
 use Rattle.summary.proofs.Spelled.{padded-numbers}
 use Rattle.summary.proofs.RoundTrip.{InFields, bytes_ext, read_back}
@@ -47,21 +46,21 @@ module _ (n : ℤ) (sized : Bool) (p : Problem) (s : List ℕ) (e : p.constraint
   unfolding writing
   writing-door = problem-door (kept s) n sized p (written p) e
 
-  pub writing-passed : order_ok n ≡ true → sized ≡ true → first_refusal (problem_checks p) ≡ Passed → writing n sized p s ≡ written p
+  pub writing-passed : order_ok n ≡ true → sized ≡ true → first_refusal (problem_checks p) ≡ Ok tt → writing n sized p s ≡ written p
   writing-passed o z q = writing-door ∙ sym (after-passed (kept s) (written p) (more-checks (entry_checks n sized) _ (entry-passes n o z) ∙ q))
 
   -- an answer that is no refusal
   pub record Wrote : Type 0 where
     pub order : order_ok n ≡ true
     pub sizes : sized ≡ true
-    pub checks : first_refusal (problem_checks p) ≡ Passed
+    pub checks : first_refusal (problem_checks p) ≡ Ok tt
     pub file : (writing n sized p s).file ≡ file_of (mended_problem p)
 
-  pub writing_wrote : (writing n sized p s).answer ≡ Passed → Wrote
+  pub writing_wrote : (writing n sized p s).answer ≡ Ok tt → Wrote
   writing_wrote h = go (first_refusal (entry_checks n sized ++ problem_checks p)) refl
     where
       go : (k : Checked) → first_refusal (entry_checks n sized ++ problem_checks p) ≡ k → Wrote
-      go Passed q =
+      go (Ok tt) q =
           let d = prefix_passed (entry_checks n sized) (problem_checks p) q in
           let f = entry-passed n sized d in
           record {
@@ -70,9 +69,9 @@ module _ (n : ℤ) (sized : Bool) (p : Problem) (s : List ℕ) (e : p.constraint
             checks = sym (more-checks (entry_checks n sized) (problem_checks p) d) ∙ q;
             file = ap (λ (w : Written). w.file) (writing-door ∙ sym (after-passed (kept s) (written p) q));
           }
-      go (Refused r) q =
-          let w : (writing n sized p s).answer ≡ Refused r = ap (λ (w : Written). w.answer) (writing-door ∙ sym (after-refused (kept s) r (written p) q)) in
-          absurd (false≢true cc)
+      go (Err r) q =
+          let w : (writing n sized p s).answer ≡ Err r = ap (λ (w : Written). w.answer) (writing-door ∙ sym (after-refused (kept s) r (written p) q)) in
+          cc (h, w)
 
 -- ---- the problem that buffers spell
 module _ (n : ℕ) (l u a b : List ℕ) (α : ℤ) (c : List ℕ) where
@@ -122,7 +121,7 @@ module _ (n : ℕ) (l u a b : List ℕ) (α : ℤ) (c : List ℕ) where
         padded-numbers w64 greatest_order c n,
       )
 
-  spelled-through : order_ok (pos n) ≡ true → first_refusal (problem_checks (spelled n l u a b α c)) ≡ Passed → LetThrough (mended_problem (spelled n l u a b α c))
+  spelled-through : order_ok (pos n) ≡ true → first_refusal (problem_checks (spelled n l u a b α c)) ≡ Ok tt → LetThrough (mended_problem (spelled n l u a b α c))
   spelled-through o e = mended-through (spelled n l u a b α c) (spelled_rooms (order-of o).1) o e spelled-zeros
 
 -- ---- as the reader lays it out
@@ -165,7 +164,7 @@ module _ (n : ℤ) (l u a b : List ℕ) (α : ℤ) (c s : List ℕ) where
   abbrev sized : Bool
   sized = write_buffers k (lengths_of (length l) (length u) (length a) (length b)) (length c) (length s)
 
-  module _ (h : (write_summary n l u a b α c s).answer ≡ Passed) where
+  module _ (h : (write_summary n l u a b α c s).answer ≡ Ok tt) where
     wrote : Wrote n sized problem s refl
     unfolding write_summary
     wrote = writing_wrote n _ problem s refl h
@@ -174,7 +173,7 @@ module _ (n : ℤ) (l u a b : List ℕ) (α : ℤ) (c s : List ℕ) where
     through = spelled-through k l u a b α c (rw (order-known n wrote.order, order_pos n (order-of wrote.order).0) wrote.order) wrote.checks
 
     -- it is read back, mended
-    pub written_read : reading (write_summary n l u a b α c s).file ≡ read_as Passed (mended_problem problem)
+    pub written_read : reading (write_summary n l u a b α c s).file ≡ Ok (mended_problem problem)
     unfolding write_summary
     written_read = ap reading wrote.file ∙ read_back (mended_problem problem) through
 
@@ -194,9 +193,9 @@ module _ (n : ℤ) (l u a b : List ℕ) (α : ℤ) (c s : List ℕ) where
         sym (writing-sized n sized problem s o z refl) ∙ ap (λ (p : Problem). checked_writing p s) (spelled-listed k l u a b α c)
         ∙ writing-padded (listed k l u a b α c) s (listed-sized k l u a b α c) ∙ writing-sized n sized (listed k l u a b α c) s o z refl
 
-    pub refused_as_file : InFields (listed k l u a b α c) → (write_summary n l u a b α c s).answer ≡ (reading (file_of (listed k l u a b α c))).checked
+    pub refused_as_file : InFields (listed k l u a b α c) → (write_summary n l u a b α c s).answer ≡ checked_of (reading (file_of (listed k l u a b α c)))
     refused_as_file f = ap (λ (w : Written). w.answer) as-listed ∙ same_refusal n sized (listed k l u a b α c) s o z refl (listed-sized k l u a b α c) f
 
     -- and by 3 where a number does not fit its field
-    pub refused_too_large : (InFields (listed k l u a b α c) → ⊥) → (write_summary n l u a b α c s).answer ≡ Refused Range
+    pub refused_too_large : (InFields (listed k l u a b α c) → ⊥) → (write_summary n l u a b α c s).answer ≡ Err Range
     refused_too_large f = ap (λ (w : Written). w.answer) as-listed ∙ too_large_lem n sized (listed k l u a b α c) s o z refl f

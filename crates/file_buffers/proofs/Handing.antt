@@ -1,6 +1,6 @@
 -- A problem that is let through, in buffers of the greatest order: all numbers of its arrays are its own in front and zeros behind them.
 use mathlib.Core.Path.{◌≡◌, refl, sym, ap, ◌∙◌}
-use mathlib.Core.Bool.{Bool, true, false, false≢true, ◌&&◌}
+use mathlib.Core.Bool.{Bool, true, false, ◌&&◌}
 use mathlib.Core.List.{List}
 use Prim.Native.Nat.{ℕ, ◌*◌}
 use lib.Dec.{eqb}
@@ -9,19 +9,18 @@ use lib.ListN.{length}
 use mir.Syntax.{w64}
 use mir.Val.{bytes}
 use borrow.Author.Tests.{eqb-true}
+use Rattle.std.specs.Prelude.{Ok, Err}
 use Rattle.words.specs.Numbers.{bytes_of}
 use Rattle.tables.specs.Ranges.{greatest_order, table_room}
 use Rattle.tables.specs.Problem.{lengths_of, constraint_sized}
 use Rattle.tables.specs.declared.Refusal.{Refusal}
 use Rattle.tables.specs.declared.Refusal.TheVariants.{Length}
-use Rattle.tables.specs.declared.Checked.{Checked}
 use Rattle.tables.specs.declared.problem.Problem.{Problem}
 use Rattle.tables.specs.declared.problem.Lengths.{Lengths}
 use Rattle.tables.proofs.Matrix.{table_fits}
 use Rattle.tables.proofs.Checks.{and_left, and_right}
 use Rattle.tables.proofs.Problems.{constraint_sizes-of}
-use Rattle.summary.specs.declared.problem.Reading.{Reading}
-use Rattle.summary.specs.Problems.{reading, LetThrough}
+use Rattle.summary.specs.Problems.{Reading, reading, LetThrough}
 use Rattle.summary.proofs.Spelled.{reading-through}
 use Rattle.summary.proofs.RoundTrip.{holds_of}
 use Rattle.buffers.specs.Buffers.{bytes_of_number}
@@ -60,42 +59,42 @@ stored-parts p t =
 
 -- ---- the cases of a call
 module _ (s : List ℕ) (b : Parts) where
-  pub handing_sized : parts_roomy b ≡ false → record { answer = Checked.Refused Length; parts = b } ≡ read_summary s b
+  pub handing_sized : parts_roomy b ≡ false → record { answer = Err Length; parts = b } ≡ read_summary s b
   unfolding read_summary
   handing_sized e = rw (e, read_summary)
 
   module _ (z : parts_roomy b ≡ true) where
-    pub handing_refused : {k : Checked} (r : Refusal) → k ≡ (reading s).checked → k ≡ Checked.Refused r → record { answer = k; parts = b } ≡ read_summary s b
+    pub handing_refused : (r : Refusal) → Err r ≡ reading s → record { answer = Err r; parts = b } ≡ read_summary s b
     unfolding read_summary handed
-    handing_refused r f e = rw (z, read_summary, ← f, e, handed)
+    handing_refused r e = rw (z, read_summary, ← e, handed)
 
-    handing-passed : (reading s).checked ≡ Checked.Passed → record { answer = Checked.Passed; parts = stored (reading s).problem } ≡ read_summary s b
-    unfolding read_summary handed
-    handing-passed e = rw (z, read_summary, e, handed, stored-parts (reading s).problem (reading-through s e))
-
-    pub handing_read : (p : Problem) → reading s ≡ record { checked = Checked.Passed; problem = p } → read_summary s b ≡ record { answer = Checked.Passed; parts = parts_of p }
+    pub handing_read : (p : Problem) → reading s ≡ Ok p → read_summary s b ≡ record { answer = Ok tt; parts = parts_of p }
     unfolding read_summary handed
     handing_read p e = rw (z, read_summary) (ap (λ (r : Reading). handed r b) e)
 
     -- buffers that were written from what was read
-    pub handing_written : {r : Reading} {d : Parts} → r ≡ reading s → r.checked ≡ Checked.Passed → d ≡ stored r.problem → record { answer = r.checked; parts = d } ≡ read_summary s b
-    handing_written {r} {d} f e g =
-        ap (λ (k : Checked). record { answer = k; parts = d }) e ∙ ap (λ (x : Parts). record { answer = Checked.Passed; parts = x }) (g ∙ ap (λ (x : Reading). stored x.problem) f)
-        ∙ handing-passed (sym (ap (λ (x : Reading). x.checked) f) ∙ e)
+    pub handing_written : {p : Problem} {d : Parts} → Ok p ≡ reading s → d ≡ stored p → record { answer = Ok tt; parts = d } ≡ read_summary s b
+    handing_written {p} {d} e g =
+        ap (λ (x : Parts). record { answer = Ok tt; parts = x }) (g ∙ stored-parts p (reading-through s (sym e))) ∙ sym (handing_read p (sym e))
 
 -- a call that is not refused: the file is accepted, and its problem is stored
-module _ (s : List ℕ) (b : Parts) where
-  abbrev Stored : Handed → Type 0
-  Stored h = h.answer ≡ Checked.Passed → ((reading s).checked ≡ Checked.Passed) × (h.parts ≡ parts_of (reading s).problem)
+pub record Stored (s : List ℕ) (d : Parts) : Type 0 where
+  pub problem : Problem
+  pub read : reading s ≡ Ok problem
+  pub stored : d ≡ parts_of problem
 
-  pub handing_stored : Stored (read_summary s b)
+module _ (s : List ℕ) (b : Parts) where
+  abbrev Outcome : Handed → Type 0
+  Outcome h = h.answer ≡ Ok tt → Stored s h.parts
+
+  pub handing_stored : Outcome (read_summary s b)
   unfolding read_summary handed
-  handing_stored = go (parts_roomy b) refl (reading s).checked refl
+  handing_stored = go (parts_roomy b) refl (reading s) refl
     where
-      go : (z : Bool) → parts_roomy b ≡ z → (k : Checked) → (reading s).checked ≡ k → Stored (read_summary s b)
-      go false z k q = rw (z, read_summary) (λ e. absurd (false≢true cc))
-      go true z Checked.Passed q = rw (z, read_summary, q, handed) (λ e. (refl, refl))
-      go true z (Checked.Refused r) q = rw (z, read_summary, q, handed) (λ e. absurd (false≢true cc))
+      go : (z : Bool) → parts_roomy b ≡ z → (r : Reading) → reading s ≡ r → Outcome (read_summary s b)
+      go false z r q = rw (z, read_summary) (λ e. cc e)
+      go true z (Ok p) q = rw (z, read_summary, q, handed) (λ e. record { problem = p; read = q; stored = refl })
+      go true z (Err r) q = rw (z, read_summary, q, handed) (λ e. cc e)
 
 -- ---- the sizes of the buffers
 pub record Roomy (b : Parts) : Type 0 where

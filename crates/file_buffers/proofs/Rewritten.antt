@@ -14,7 +14,7 @@ use Rattle.words.proofs.Laws.{length-bytes_of}
 use Rattle.tables.specs.Ranges.{greatest_order, table_room}
 use Rattle.tables.specs.Checks.{sizes_ok, order_of}
 use Rattle.tables.specs.Problem.{lengths_of, constraint_sized}
-use Rattle.tables.specs.declared.Checked.TheVariants.{Passed}
+use Rattle.std.specs.Prelude.{Ok}
 use Rattle.tables.specs.declared.problem.Problem.{Problem}
 use Rattle.tables.proofs.Checks.{and_of}
 use Rattle.tables.proofs.Admission.{order-known}
@@ -71,17 +71,17 @@ module _ (problem : Problem) (t : LetThrough problem) (f : List ℕ) (h : length
   sizes =
       sizes-asked order low high from to centre f (length-bytes_of w64 _ _) (length-bytes_of w64 _ _) (length-bytes_of w64 _ _) (length-bytes_of w64 _ _) (length-bytes_of w64 _ _) h
 
-  writes : write_summary (pos order) low high from to limit centre f ≡ record { answer = Passed; file = file_of problem }
+  writes : write_summary (pos order) low high from to limit centre f ≡ record { answer = Ok tt; file = file_of problem }
   unfolding write_summary
   writes =
       rw (known, spelled_again)
-      (writing-passed (pos order) _ problem f (sym known) t.order sizes t.checks ∙ ap (λ (p : Problem). record { answer = Passed; file = file_of p }) t.mended)
+      (writing-passed (pos order) _ problem f (sym known) t.order sizes t.checks ∙ ap (λ (p : Problem). record { answer = Ok tt; file = file_of p }) t.mended)
 
   pub rewritten :
       let d = parts_of problem in
       let k = order_in d in
       write_summary (number_of d.order) (front (k * k) d.low) (front (k * k) d.high) (front k d.from) (front k d.to) (number_of d.limit) (front k d.centre) f
-      ≡ record { answer = Passed; file = file_of problem }
+      ≡ record { answer = Ok tt; file = file_of problem }
   unfolding parts_of
   rewritten =
       rw (

@@ -1,17 +1,15 @@
 -- R15, R17 and R25 of docs/RULES.md: the problem of a summary file, mended (R2.10), in seven buffers of bytes, 8 bytes for each number.
-use Rattle.std.specs.Prelude.{◌≡◌, Bool, true, false, ◌&&◌, List, ◌++◌, ℕ, ◌-◌, ◌*◌, ◌≤◌, eqb, ℤ, pos, length, replicate}
+use Rattle.std.specs.Prelude.{◌≡◌, Bool, true, false, ◌&&◌, List, ◌++◌, ℕ, ◌-◌, ◌*◌, ◌≤◌, eqb, ℤ, pos, length, replicate, Ok, Err}
 use Rattle.std.specs.Int.{w64}
 use mir.Val.{bytes}
 use Rattle.words.specs.Numbers.{padded_numbers_of, bytes_of}
 use Rattle.tables.specs.Ranges.{greatest_order, table_room}
-use Rattle.tables.specs.Checks.{order_of}
+use Rattle.tables.specs.Checks.{Checked, order_of}
 use Rattle.tables.specs.Problem.{problem_of, lengths_of, constraint_sized}
 use Rattle.tables.specs.declared.Refusal.TheVariants.{Length}
-use Rattle.tables.specs.declared.Checked.{Checked}
 use Rattle.tables.specs.declared.problem.Lengths.{Lengths}
 use Rattle.tables.specs.declared.problem.Problem.{Problem}
-use Rattle.summary.specs.declared.problem.Reading.{Reading}
-use Rattle.summary.specs.Problems.{reading}
+use Rattle.summary.specs.Problems.{Reading, reading}
 use Rattle.buffers.specs.Buffers.{number_of, bytes_of_number}
 
 -- the seven buffers: order, bounds, both ends of the linear terms, limit and centre
@@ -64,15 +62,12 @@ parts_of p =
 
 -- R25.3, R25.4: a problem that was read is stored, with its mended tables, or all buffers are kept
 unfoldable pub handed : Reading → Parts → Handed
-handed r b =
-    elim r.checked [
-      | Checked.Passed ↦ record { answer = Checked.Passed; parts = parts_of r.problem }
-      | Checked.Refused e ↦ record { answer = Checked.Refused e; parts = b }
-    ]
+handed (Ok p) b = record { answer = Ok tt; parts = parts_of p }
+handed (Err r) b = record { answer = Err r; parts = b }
 
 -- R25.2: a file read into buffers: 2 of the buffers, then what the file gives
 unfoldable pub read_summary : List ℕ → Parts → Handed
-read_summary s b = elim (parts_roomy b) [ true ↦ handed (reading s) b | false ↦ record { answer = Checked.Refused Length; parts = b } ]
+read_summary s b = elim (parts_roomy b) [ true ↦ handed (reading s) b | false ↦ record { answer = Err Length; parts = b } ]
 
 -- ---- the problem that buffers spell
 -- of order n, with zeros behind its numbers

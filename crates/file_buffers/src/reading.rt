@@ -4,7 +4,7 @@ ghost use Rattle.file_buffers.specs.Parts.{parts, roomy, Handed, read_summary};
 
 use crate::storing::{store_bounds, store_linear, store_others};
 use tables::problem::{Lengths, Sizes, constraint_sized, lengths_of};
-use tables::{Checked, GREATEST_ORDER, Refusal, TABLE_ROOM};
+use tables::{GREATEST_ORDER, Refusal, TABLE_ROOM};
 use words::SIZE;
 
 // 2: whether the buffers have their sizes: tables and vectors that of the greatest order, order and limit that of one number.
@@ -30,7 +30,7 @@ pub fn read_summary(
     to: &mut [u8],
     limit: &mut [u8],
     centre: &mut [u8],
-) -> Checked
+) -> Result<(), Refusal>
     ensures { ◌≡◌ {A = Handed} (record {
       answer = result;
       parts = parts order.new low.new high.new from.new to.new limit.new centre.new;
@@ -39,20 +39,12 @@ pub fn read_summary(
 {
     let lengths = lengths_of(low.len(), high.len(), from.len(), to.len());
     if !parts_roomy(order.len(), lengths, limit.len(), centre.len()) {
-        return Checked::Refused(Refusal::Length);
+        return Err(Refusal::Length);
     }
-    let reading = summary::problem::read(file);
-    let checked = reading.checked;
-    let passed = match checked {
-        Checked::Passed => true,
-        Checked::Refused(_) => false,
-    };
-    if passed {
-        let problem = reading.problem;
-        let constraint = problem.constraint;
-        store_bounds(constraint, low, high);
-        store_linear(constraint.linear, from, to);
-        store_others(problem, order, limit, centre);
-    }
-    checked
+    let problem = summary::problem::read(file)?;
+    let constraint = problem.constraint;
+    store_bounds(constraint, low, high);
+    store_linear(constraint.linear, from, to);
+    store_others(problem, order, limit, centre);
+    Ok(())
 }

@@ -4,9 +4,9 @@ ghost use Rattle.writer.specs.Writing.{Written};
 ghost use Rattle.file_buffers.specs.Filing.{write_summary};
 
 use crate::loading::load_problem;
-use tables::entering::order_of;
+use tables::Refusal;
+use tables::entering::order;
 use tables::problem::{Sizes, lengths_of};
-use tables::{Checked, Refusal};
 use words::SIZE;
 use writer::write::{write_checked, write_sized};
 
@@ -21,20 +21,17 @@ pub fn write_summary(
     limit: i64,
     centre: &[u8],
     file: &mut [u8],
-) -> Checked
+) -> Result<(), Refusal>
     ensures { ◌≡◌ {A = Written} (record { answer = result; file = file.new }) (write_summary n low.now high.now from.now to.now limit centre.now file.old) }
 {
-    let m = order_of(n);
-    if m == 0 {
-        return Checked::Refused(Refusal::Order);
-    }
+    let m = order(n)?;
     let sizes = Sizes {
         table: m * m * SIZE,
         vector: m * SIZE,
     };
     let lengths = lengths_of(low.len(), high.len(), from.len(), to.len());
     if !write_sized(m, sizes, lengths, centre.len(), file.len()) {
-        return Checked::Refused(Refusal::Length);
+        return Err(Refusal::Length);
     }
     let problem = load_problem(m, low, high, from, to, limit, centre);
     write_checked(problem, file)

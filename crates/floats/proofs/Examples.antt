@@ -6,19 +6,19 @@ use lib.IntN.{ℤ, pos, negsuc}
 use lib.Ieee.{binary32, of_bits}
 use Rattle.integers.specs.Division.{floor_div, ceil_div}
 use Rattle.floats.specs.Brackets.{signed, units_of, sixteenth, finite_within, in_range, whole_next_to, bracket_of}
-use Rattle.floats.specs.declared.Bracketed.{Bracketed}
-use Rattle.floats.specs.declared.Bracketed.TheVariants.{Inside, Outside}
+use Rattle.std.specs.Prelude.{Option, Some, None}
+use Rattle.floats.specs.declared.Neighbours.{Neighbours}
 
 -- the float of some bits, and what is expected
 record Example : Type 0 where
   bits : ℕ
-  expected : Bracketed
+  expected : Option Neighbours
 
 abbrev between : ℕ → ℤ → ℤ → Example
-between b l h = record { bits = b; expected = Inside (record { low = l; high = h }) }
+between b l h = record { bits = b; expected = Some (record { low = l; high = h }) }
 
 abbrev refused : ℕ → Example
-refused b = record { bits = b; expected = Outside }
+refused b = record { bits = b; expected = None }
 
 abbrev examples : List Example
 examples =

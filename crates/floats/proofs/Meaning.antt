@@ -14,8 +14,7 @@ use Rattle.integers.proofs.Parts.{≤_in, choice_by}
 use Rattle.integers.proofs.Machine.{within_low, within-high}
 use Rattle.floats.specs.Brackets.{signed, units_of, sixteenth, finite_within, in_range, whole_next_to, bracket_of}
 use Rattle.floats.specs.declared.Neighbours.{Neighbours}
-use Rattle.floats.specs.declared.Bracketed.{Bracketed}
-use Rattle.floats.specs.declared.Bracketed.TheVariants.{Inside, Outside}
+use Rattle.std.specs.Prelude.{Option, Some, None}
 use Rattle.floats.proofs.Values.{units_within}
 use Rattle.floats.proofs.Product.{Sixteenfold}
 use Rattle.floats.proofs.Next.{NextTo, next-to, next-within, next-scaled}
@@ -24,13 +23,13 @@ pub sixteenth-positive : pos 1 ≤ℤ sixteenth
 unfolding sixteenth
 sixteenth-positive = record { le = tt }
 
-pub inside : (x : Float) → in_range x ≡ true → bracket_of x ≡ Inside (whole_next_to (units_of x) sixteenth)
+pub inside : (x : Float) → in_range x ≡ true → bracket_of x ≡ Some (whole_next_to (units_of x) sixteenth)
 unfolding bracket_of
-inside x h = ap (λ b. elim b as (λ z. Bracketed) [ true ↦ Inside (whole_next_to (units_of x) sixteenth) | false ↦ Outside ]) h
+inside x h = ap (λ b. elim b as (λ z. Option Neighbours) [ true ↦ Some (whole_next_to (units_of x) sixteenth) | false ↦ None ]) h
 
-pub outside : (x : Float) → in_range x ≡ false → bracket_of x ≡ Outside
+pub outside : (x : Float) → in_range x ≡ false → bracket_of x ≡ None
 unfolding bracket_of
-outside x h = ap (λ b. elim b as (λ z. Bracketed) [ true ↦ Inside (whole_next_to (units_of x) sixteenth) | false ↦ Outside ]) h
+outside x h = ap (λ b. elim b as (λ z. Option Neighbours) [ true ↦ Some (whole_next_to (units_of x) sixteenth) | false ↦ None ]) h
 
 -- the whole numbers next to the product are those next to 16·x
 pub product_next : {x p : Float} → Sixteenfold x p → whole_next_to (units_of p) (pos 16 *ℤ sixteenth) ≡ whole_next_to (units_of x) sixteenth
@@ -44,9 +43,9 @@ pub record Bracket (x : Float) (n : Neighbours) : Type 0 where
   pub low-within : Within 128 n.low
   pub high-within : Within 128 n.high
 
-abbrev pub Means : Float → Bracketed → Type 0
-Means x (Inside n) = Bracket x n
-Means x Outside = T (not (in_range x))
+abbrev pub Means : Float → Option Neighbours → Type 0
+Means x (Some n) = Bracket x n
+Means x None = T (not (in_range x))
 
 units_small : (x : Float) → T (fits binary32 x) → T (in_range x) → Within (2 ^ 152) (units_of x)
 unfolding in_range
@@ -73,6 +72,6 @@ zero_in_range : (s : Bool) (e : ℤ) → in_range (fin s 0 e) ≡ true
 unfolding in_range finite_within
 zero_in_range s e = ap (λ (z : ℕ). leb z (8 * down e)) (zero-mul (up e)) ∙ leb-zero (8 * down e)
 
-pub zeros : (s : Bool) (e : ℤ) → bracket_of (fin s 0 e) ≡ Inside (record { low = pos 0; high = pos 0 })
+pub zeros : (s : Bool) (e : ℤ) → bracket_of (fin s 0 e) ≡ Some (record { low = pos 0; high = pos 0 })
 unfolding whole_next_to floor_div ceil_div sixteenth
-zeros s e = inside (fin s 0 e) (zero_in_range s e) ∙ ap (λ z. Inside (whole_next_to z sixteenth)) (zero_units s e)
+zeros s e = inside (fin s 0 e) (zero_in_range s e) ∙ ap (λ z. Some (whole_next_to z sixteenth)) (zero_units s e)

@@ -4,8 +4,7 @@ use Rattle.std.specs.Float.{nan, inf, fin}
 use Rattle.std.specs.Float.Ieee.{up, down}
 use Rattle.integers.specs.Division.{floor_div, ceil_div}
 use Rattle.floats.specs.declared.Neighbours.{Neighbours}
-use Rattle.floats.specs.declared.Bracketed.{Bracketed}
-use Rattle.floats.specs.declared.Bracketed.TheVariants.{Inside, Outside}
+use Rattle.std.specs.Prelude.{Option, Some, None}
 
 -- ±n
 unfoldable pub signed : Bool → ℕ → ℤ
@@ -37,5 +36,5 @@ unfoldable pub whole_next_to : ℤ → ℤ → Neighbours
 whole_next_to a d = record { low = floor_div a d; high = ceil_div a d }
 
 -- those of 16·x
-unfoldable pub bracket_of : Float → Bracketed
-bracket_of x = elim (in_range x) [ true ↦ Inside (whole_next_to (units_of x) sixteenth) | false ↦ Outside ]
+unfoldable pub bracket_of : Float → Option Neighbours
+bracket_of x = elim (in_range x) [ true ↦ Some (whole_next_to (units_of x) sixteenth) | false ↦ None ]

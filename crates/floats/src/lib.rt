@@ -7,26 +7,20 @@ ghost use Rattle.floats.specs.Brackets.{signed, units_of, sixteenth, finite_with
 ghost use Rattle.floats.specs.Fields.{significand_of, places_of};
 
 // The whole numbers next below and above a number: both are the number itself where it is whole.
-#[derive(Drop)]
+#[derive(Clone, Copy, Debug, PartialEq, Eq)]
 pub struct Neighbours {
     pub low: i64,
     pub high: i64,
 }
 
-#[derive(Drop)]
-pub enum Bracketed {
-    Inside(Neighbours),
-    Outside,
-}
-
 // The neighbours of 16·x, where x is finite and from -8 to 8. There the product loses nothing.
-pub fn bracket(x: f32) -> Bracketed
+pub fn bracket(x: f32) -> Option<Neighbours>
     ensures { result ≡ bracket_of x }
 {
     if in_range(x) {
-        Bracketed::Inside(next_to(x * 16.0))
+        Some(next_to(x * 16.0))
     } else {
-        Bracketed::Outside
+        None
     }
 }
 

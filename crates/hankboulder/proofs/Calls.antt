@@ -16,7 +16,8 @@ use Rattle.tables.specs.Problem.{constraint_sized, mended_constraint}
 use Rattle.tables.specs.declared.problem.Constraint.{Constraint}
 use Rattle.enclosure.specs.Points.{Allowed}
 use Rattle.floats.specs.Brackets.{sixteenth}
-use Rattle.sums.specs.Sums.{Outcome, taken, allowing}
+use Rattle.std.specs.Prelude.{Ok}
+use Rattle.sums.specs.Sums.{Outcome, allowing}
 use Rattle.sums.specs.Lent.{Lent}
 use Rattle.samples.specs.declared.sample.Sample.{Sample}
 use Rattle.samples.specs.Samples.{factor_count}
@@ -60,7 +61,7 @@ module _ (s : Sample) (b : Lent (List ℕ)) (z : sums_buffers factor_count b ≡
   left = ap (λ (y : Bool). (stored_sums factor_count (gathering s (pos factor_count) y c) b).sums) z
 
   -- the buffers keep their sizes
-  written-sized : (d : Constraint) → sums_buffers factor_count (stored_sums factor_count (taken d) b).sums ≡ true
+  written-sized : (d : Constraint) → sums_buffers factor_count (stored_sums factor_count (Ok d) b).sums ≡ true
   unfolding sums_sized constraint_sized sizes_ok
   written-sized d = simp (length-bytes_of, length-to_le_bytes)
 

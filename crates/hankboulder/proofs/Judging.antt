@@ -16,11 +16,12 @@ use Rattle.tables.specs.Checks.{order_of, sizes_ok}
 use Rattle.tables.proofs.Checks.{and_left, and_right, and_of}
 use Rattle.tables.proofs.Admission.{entered-means}
 use Rattle.verdict.specs.Judge.{Judgement, definite, not_definite, undecided, refused, judging, written, judge_sizes, verdict_code, NotRefused, Meaning}
+use Rattle.std.specs.Prelude.{Result, Ok}
+use Rattle.tables.specs.declared.Refusal.{Refusal}
 use Rattle.verdict.specs.declared.judge.Verdict.{Verdict}
-use Rattle.verdict.specs.declared.judge.Verdict.TheVariants as Verdict
 use Rattle.verdict.proofs.Fitting.{Fitting, judging_fitting}
 use Rattle.verdict.proofs.Decisions.{judge-sizes-of}
-use Rattle.verdict.proofs.Meanings.{carried, judging-means}
+use Rattle.verdict.proofs.Meanings.{carried, same_verdict, judging-means}
 use Rattle.verdict.proofs.Codes.{code_definite, code_not, code_given}
 use Rattle.buffers.specs.Buffers.{table_of, vector_of, number_of, bytes_of_number, factor_buffers, vector_buffers, judge_buffers, stored_verdict}
 use Rattle.buffers.proofs.Stores.{read-numbers, read_number}
@@ -45,11 +46,11 @@ module _ (n : ℤ) (l u : List ℤ) (f v o : List ℕ) where
   stored-means (refused r) z m = m
 
   -- with 'definite' goes the number in the buffer over
-  number-means : (g : Judgement) → Fitting order g → (w : ℤ) → (stored_verdict order g f v o).verdict ≡ Verdict.Definite w →
+  number-means : (g : Judgement) → Fitting order g → (w : ℤ) → (stored_verdict order g f v o).verdict ≡ Ok (Verdict.Definite w) →
       ((stored_verdict order g f v o).over ≡ bytes_of_number w) × (number_of (stored_verdict order g f v o).over ≡ w)
   unfolding carried
   number-means (definite t y) z w e =
-      let q : y ≡ w = ap carried e in
+      let q : y ≡ w = ap carried (same_verdict e) in
       (ap bytes_of_number q, read_number y (fits_within z.1 (omega arith)) ∙ q)
   number-means (not_definite x) z w e = absurd (false≢true cc)
   number-means undecided z w e = absurd (false≢true cc)
@@ -91,7 +92,7 @@ module _ (n : ℤ) (l u f v o : List ℕ) where
   abbrev judgement : Judgement
   judgement = judging n sized (table_of k l) (table_of k u)
 
-  abbrev verdict : Verdict
+  abbrev verdict : Result Verdict Refusal
   verdict = (stored_verdict k judgement f v o).verdict
 
   -- the buffers have their sizes where the call is not refused
@@ -119,7 +120,7 @@ module _ (n : ℤ) (l u f v o : List ℕ) where
       subst (λ (i : ℕ). sizes_ok T (k * bytes w64) (length l) (length u) i ≡ true) (sym (vector-length k f v o judgement z.3)) (vector-sizes _ _ _ _ _ _ c)
 
   pub judge-means : (let j = judge_entry n l u f v o in JudgeMeaning n l u j.number j.factor j.vector j.over)
-  unfolding judge_entry judge_stored verdict_code
+  unfolding judge_entry judge_stored
   judge-means =
       let j = judge_stored n l u f v o in
       let z = judging_fitting n sized (table_of k l) (table_of k u) in

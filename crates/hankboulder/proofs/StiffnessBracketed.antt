@@ -34,7 +34,6 @@ module _ (n : ℤ) (l u s b y : List ℕ) where
   -- what an answer means, by its number and by the numbers in the buffers
   coded : (g : Bracketing) → Fitting k g → (let j = written g (vector_of k y) in Meaning n (table_of k l) (table_of k u) j.stiffness j.vector) →
       (let j = stored_stiffness k g s b y in StiffnessMeaning n l u (bracket_code j.stiffness) j.step j.bound j.vector)
-  unfolding bracket_code
   coded (between t v x) z m =
       let step = back t z.0 in
       let bound = back v z.1 in

@@ -5,9 +5,8 @@ use Prim.Native.Nat.{ℕ, ◌*◌}
 use lib.IntN.{pos}
 use lib.ListN.{length}
 use Rattle.words.proofs.Laws.{AllBytes}
-use Rattle.tables.specs.declared.Checked.TheVariants.{Passed}
+use Rattle.std.specs.Prelude.{Ok}
 use Rattle.tables.specs.declared.problem.Problem.{Problem}
-use Rattle.tables.specs.Answers.{checked_code}
 use Rattle.tables.proofs.Answers.{exactly, code_passed}
 use Rattle.summary.specs.Problems.{file_of, reading, LetThrough}
 use Rattle.summary.proofs.OneFile.{accepted-size}
@@ -16,10 +15,10 @@ use Rattle.writer.specs.Writing.{Written}
 use Rattle.buffers.specs.Buffers.{number_of}
 use Rattle.file_buffers.specs.Parts.{Parts, Handed, parts_of, order_in, problem_in, read_summary}
 use Rattle.file_buffers.specs.Filing.{front}
-use Rattle.file_buffers.proofs.Handing.{handing_stored}
+use Rattle.file_buffers.proofs.Handing.{Stored, handing_stored}
 use Rattle.file_buffers.proofs.Back.{problem-back}
 use Rattle.file_buffers.proofs.Rewritten.{rewritten}
-use Rattle.hankboulder.specs.Entries.{ReadSummaryResult, read_summary_entry, WriteSummaryResult, write_summary_entry}
+use Rattle.hankboulder.specs.Entries.{checked_code, ReadSummaryResult, read_summary_entry, WriteSummaryResult, write_summary_entry}
 use Rattle.hankboulder.specs.Meanings.{ReadSummaryMeaning}
 
 -- an answer's number, and the buffer
@@ -38,29 +37,29 @@ module _ (s : List ℕ) (b : Parts) (v : AllBytes s) where
   left = (read_summary s b).parts
 
   module _ (e : checked_code (read_summary s b).answer ≡ pos 0) where
-    accepted : (reading s).checked ≡ Passed
-    accepted = (handing_stored s b (code_passed _ e)).0
+    handed : Stored s left
+    handed = handing_stored s b (code_passed _ e)
 
-    stored : left ≡ parts_of (reading s).problem
-    stored = (handing_stored s b (code_passed _ e)).1
+    abbrev given : Problem
+    given = handed.problem
 
-    through : LetThrough (reading s).problem
-    through = (reading-means s v).through accepted
+    through : LetThrough given
+    through = (reading-means s v).through handed.read
 
-    back : problem_in (parts_of (reading s).problem) ≡ (reading s).problem
-    back = problem-back (reading s).problem through
+    back : problem_in (parts_of given) ≡ given
+    back = problem-back given through
 
-    spelled : problem_in left ≡ (reading s).problem
-    spelled = ap problem_in stored ∙ back
+    spelled : problem_in left ≡ given
+    spelled = ap problem_in handed.stored ∙ back
 
-    read : reading s ≡ record { checked = Passed; problem = problem_in left }
-    read = rw (spelled, ← accepted)
+    read : reading s ≡ Ok (problem_in left)
+    read = handed.read ∙ ap Ok (sym spelled)
 
     written-again : (t : List ℕ) → length t ≡ length s → Again left t
-    unfolding write_summary_entry checked_code
+    unfolding write_summary_entry
     written-again t h =
-        subst (λ (d : Parts). Again d t) (sym stored)
-        (ap numbered (rewritten (reading s).problem through t (h ∙ accepted-size s accepted v))
+        subst (λ (d : Parts). Again d t) (sym handed.stored)
+        (ap numbered (rewritten given through t (h ∙ accepted-size s handed.read v))
         ∙ ap (λ (p : Problem). record { number = pos 0; file = file_of p }) (sym back))
 
   read_summary_means : (let j = read_summary_entry s b in ReadSummaryMeaning s j.parts j.number)
@@ -70,8 +69,8 @@ module _ (s : List ℕ) (b : Parts) (v : AllBytes s) where
       record {
         problem = read;
         through = λ e. subst LetThrough (sym (spelled e)) (through e);
-        file = λ e h. ap file_of (spelled e) ∙ means.back (accepted e) h;
-        only = λ e f. means.only (accepted e) (sym (ap file_of (spelled e)) ∙ f);
+        file = λ e h. ap file_of (spelled e) ∙ means.back (handed e).read h;
+        only = λ e f. means.only (handed e).read (sym (ap file_of (spelled e)) ∙ f);
         again = written-again;
       }
 

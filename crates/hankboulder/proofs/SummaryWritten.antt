@@ -7,16 +7,15 @@ use lib.IntN.{ℤ, pos}
 use Rattle.words.proofs.Laws.{AllBytes}
 use Rattle.tables.specs.Checks.{order_of}
 use Rattle.tables.specs.Problem.{mended_problem}
-use Rattle.tables.specs.declared.Checked.TheVariants.{Passed}
-use Rattle.tables.specs.Answers.{checked_code}
+use Rattle.std.specs.Prelude.{Ok}
 use Rattle.tables.proofs.Answers.{exactly, code_passed}
-use Rattle.summary.specs.Problems.{read_as, reading}
+use Rattle.summary.specs.Problems.{reading}
 use Rattle.writer.specs.Writing.{Written}
 use Rattle.file_buffers.specs.Parts.{Parts, Handed, parts_roomy, spelled}
 use Rattle.file_buffers.specs.Filing.{write_summary, laid_out}
 use Rattle.file_buffers.proofs.Handing.{handing_read}
 use Rattle.file_buffers.proofs.Filed.{written_read, written-laid}
-use Rattle.hankboulder.specs.Entries.{ReadSummaryResult, read_summary_entry, WriteSummaryResult, write_summary_entry}
+use Rattle.hankboulder.specs.Entries.{checked_code, ReadSummaryResult, read_summary_entry, WriteSummaryResult, write_summary_entry}
 use Rattle.hankboulder.specs.Meanings.{WriteSummaryMeaning}
 
 -- the buffers of the linear terms and of the centre have bytes
@@ -31,12 +30,11 @@ numbered j = record { number = checked_code j.answer; parts = j.parts }
 
 module _ (n : ℤ) (l u a b : List ℕ) (α : ℤ) (c s : List ℕ) (v : Bytes a b c) where
   module _ (e : checked_code (write_summary n l u a b α c s).answer ≡ pos 0) where
-    back : reading (write_summary n l u a b α c s).file ≡ record { checked = Passed; problem = mended_problem (spelled (order_of n) l u a b α c) }
-    unfolding read_as
+    back : reading (write_summary n l u a b α c s).file ≡ Ok (mended_problem (spelled (order_of n) l u a b α c))
     back = written_read n l u a b α c s (code_passed _ e)
 
     again : (d : Parts) → parts_roomy d ≡ true → read_summary_entry (write_summary n l u a b α c s).file d ≡ record { number = pos 0; parts = laid_out n l u a b α c }
-    unfolding read_summary_entry checked_code
+    unfolding read_summary_entry
     again d z =
         ap numbered (handing_read _ d z (mended_problem (spelled (order_of n) l u a b α c)) back)
         ∙ ap (λ (p : Parts). record { number = pos 0; parts = p }) (written-laid n l u a b α c s (code_passed _ e) v.from v.to v.centre)

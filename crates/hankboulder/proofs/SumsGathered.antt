@@ -15,7 +15,7 @@ use Rattle.words.proofs.Laws.{length-numbers_of}
 use Rattle.tables.specs.Ranges.{entry_range, linear_range}
 use Rattle.tables.specs.Refusals.{refusal_number}
 use Rattle.tables.specs.Matrix.{nth}
-use Rattle.tables.specs.Checks.{order_of}
+use Rattle.tables.specs.Checks.{Checked, order_of}
 use Rattle.tables.specs.Problem.{constraint_of, mended_constraint}
 use Rattle.tables.specs.declared.Refusal.{Refusal}
 use Rattle.tables.specs.declared.Refusal.TheVariants as Refused
@@ -24,11 +24,10 @@ use Rattle.tables.proofs.Answers.{refusal_positive}
 use Rattle.tables.proofs.Buffers.{Small}
 use Rattle.tables.proofs.Matrix.{length-tabulate}
 use Rattle.verdict.proofs.Fitting.{sized}
-use Rattle.sums.specs.Sums.{Outcome, taken, plus, sums_within}
+use Rattle.std.specs.Prelude.{Ok, Err}
+use Rattle.sums.specs.Sums.{Outcome, plus, sums_within}
 use Rattle.sums.specs.Halving.{halved, fitted}
 use Rattle.sums.specs.Lent.{Lent, gathered_code}
-use Rattle.sums.specs.declared.Gathered.{Gathered}
-use Rattle.sums.specs.declared.Gathered.TheVariants as Gathered
 use Rattle.sums.proofs.Checked.{within_linear, within-limit, within-tables}
 use Rattle.sums.proofs.Fronts.{constraint_by}
 use Rattle.sums.proofs.Laying.{laid_answer}
@@ -64,14 +63,14 @@ plus-whole g c e =
     let n = c.order in
     record { order = refl; low = length-tabulate (n * n) _; high = length-tabulate (n * n) _; linear_low = length-tabulate n _; linear_high = length-tabulate n _; within = e }
 
-pub fitted-whole : (g c : Constraint) {d : Constraint} → fitted g c ≡ taken d → Whole c.order d
+pub fitted-whole : (g c : Constraint) {d : Constraint} → fitted g c ≡ Ok d → Whole c.order d
 unfolding halved
 fitted-whole g c {d} =
-    fitted_by (λ o. o ≡ taken d → Whole c.order d) g c (λ w e. subst (Whole c.order) (taken-same e) (plus-whole g c w))
+    fitted_by (λ o. o ≡ Ok d → Whole c.order d) g c (λ w e. subst (Whole c.order) (taken-same e) (plus-whole g c w))
     (λ w e. subst (Whole c.order) (taken-same e) (plus-whole g (halved c) w)) (λ e. absurd (false≢true cc))
 
 -- stored and read back
-pub back : (n : ℕ) (c : Constraint) (b : Lent (List ℕ)) → Whole n c → spelled_sums n (stored_sums n (taken c) b).sums ≡ c
+pub back : (n : ℕ) (c : Constraint) (b : Lent (List ℕ)) → Whole n c → spelled_sums n (stored_sums n (Ok c) b).sums ≡ c
 back n c b w =
     let t : (k : ℕ) → k < n * n → Within entry_range (nth c.low k) × Within entry_range (nth c.high k) = rw w.order at (within-tables c w.within) in
     let x : (k : ℕ) → k < n → Within linear_range (nth c.linear.low k) × Within linear_range (nth c.linear.high k) = rw w.order at (within_linear c w.within) in
@@ -111,10 +110,9 @@ number_full Refused.Full e = refl
 number_full Refused.Falling e = absurd (omega (arith, e))
 number_full Refused.Busy e = absurd (omega (arith, e))
 
-code_full : (a : Gathered) → gathered_code a ≡ pos (refusal_number Refused.Full) → a ≡ Gathered.Refused Refused.Full
-unfolding gathered_code
-code_full Gathered.Taken e = let z : 0 ≡ refusal_number Refused.Full = ap nat_abs e in absurd (omega (arith, z))
-code_full (Gathered.Refused r) e = ap Gathered.Refused (number_full r (ap nat_abs e))
+code_full : (a : Checked) → gathered_code a ≡ pos (refusal_number Refused.Full) → a ≡ Err Refused.Full
+code_full (Ok _) e = let z : 0 ≡ refusal_number Refused.Full = ap nat_abs e in absurd (omega (arith, z))
+code_full (Err r) e = ap Err (number_full r (ap nat_abs e))
 
 -- ---- what the number means
 module _ (s : Sample) (narrow : Narrow s) (n : ℤ) (b : Lent (List ℕ)) where
@@ -133,13 +131,13 @@ module _ (s : Sample) (narrow : Narrow s) (n : ℤ) (b : Lent (List ℕ)) where
       record { order = o; low = rw (length-numbers_of, o) (omega arith); high = rw (length-numbers_of, o) (omega arith) }
 
   pub gathered-means : (let j = gather_entry s n b in GatherMeaning s n b j.sums j.number)
-  unfolding gather_entry gather_stored gathered_code
+  unfolding gather_entry gather_stored
   gathered-means = record {
     explains =
         by_outcome s n (sums_buffers k b) c Means
         (λ z d e q.
         let o = (sums-sizes-of _ _ _ _ z).order in
-        let f = ap (λ (m : ℕ). spelled_sums m (stored_sums factor_count (taken d) b).sums) o ∙ back factor_count d b (subst (λ (m : ℕ). Whole m d) o (fitted-whole (gains_of s) (mended_constraint c) e)) in
+        let f = ap (λ (m : ℕ). spelled_sums m (stored_sums factor_count (Ok d) b).sums) o ∙ back factor_count d b (subst (λ (m : ℕ). Whole m d) o (fitted-whole (gains_of s) (mended_constraint c) e)) in
         subst (Explaining s c) (sym f) (λ u v w X p P. added_explains s X p (mended_constraint c) o (≤ℤ_trans (pos_nonneg 1) w) (mended_explains c P) e))
         (λ r q. absurd (number-nonzero r q));
     room = λ q. never_full s narrow n (sums_buffers k b) c refl roomy

@@ -11,8 +11,8 @@ use Rattle.tables.specs.Refusals.{refusal_number}
 use Rattle.tables.specs.Checks.{order_of}
 use Rattle.tables.specs.Problem.{lengths_of}
 use Rattle.tables.proofs.Answers.{refusal_positive}
-use Rattle.rides.specs.declared.reading.Reading.{Reading}
-use Rattle.rides.specs.declared.reading.Reading.TheVariants as Reading
+use Rattle.std.specs.Prelude.{Result, Ok, Err}
+use Rattle.tables.specs.declared.Refusal.{Refusal}
 use Rattle.rides.specs.Reading.{read_sums, reading_code, ReadingMeaning}
 use Rattle.rides.proofs.Readings.{reading_fits, reading-means}
 use Rattle.sums_buffers.specs.SumsBuffers.{read_buffers, stored_limit}
@@ -22,11 +22,10 @@ use Rattle.hankboulder.specs.Meanings.{ReadMeaning}
 
 module _ (n : ℤ) (l u a b : List ℕ) (α K : ℤ) (s : List ℕ) where
   -- what is read back is what was to be written
-  stored-means : (r : Reading) → ((β : ℤ) → r ≡ Reading.Limit β → SFits w64 β) → ReadingMeaning r K (spelled_with n l u a b α) →
+  stored-means : (r : Result ℤ Refusal) → ((β : ℤ) → r ≡ Ok β → SFits w64 β) → ReadingMeaning r K (spelled_with n l u a b α) →
       (let j = stored_limit r s in ReadMeaning n l u a b α K (reading_code j.answer) j.limit)
-  unfolding reading_code
-  stored-means (Reading.Limit β) f m = record { allows = λ e. rw (read_number β (f β refl)) (m.allows β refl) }
-  stored-means (Reading.Refused r) f m = record { allows = λ e. let h = refusal_positive r in let z : refusal_number r ≡ 0 = ap nat_abs e in absurd (omega arith) }
+  stored-means (Ok β) f m = record { allows = λ e. rw (read_number β (f β refl)) (m.allows β refl) }
+  stored-means (Err r) f m = record { allows = λ e. let h = refusal_positive r in let z : refusal_number r ≡ 0 = ap nat_abs e in absurd (omega arith) }
 
   pub read-means : (let j = read_entry n l u a b α K s in ReadMeaning n l u a b α K j.number j.limit)
   unfolding read_entry read_stored

@@ -1,7 +1,7 @@
 -- R15 of docs/RULES.md: what each entry for C answers, over bytes, by the number of its answer.
-use Rattle.std.specs.Prelude.{List, ℕ, ℤ, length}
-use Rattle.tables.specs.Checks.{order_of}
-use Rattle.tables.specs.Answers.{answer_code, checked_code}
+use Rattle.std.specs.Prelude.{List, ℕ, ℤ, pos, length}
+use Rattle.tables.specs.Checks.{Checked, order_of}
+use Rattle.tables.specs.Answers.{yes_or_no_code, answer_code}
 use Rattle.tables.specs.Problem.{constraint_of, problem_of, lengths_of}
 use Rattle.tables.specs.declared.problem.Constraint.{Constraint}
 use Rattle.residual.specs.FactorTest.{factor_tested, factor_code}
@@ -27,6 +27,10 @@ use Rattle.bus.specs.Running.{Bus}
 use Rattle.bus.specs.Bus.{Moved, write, tick, ReadBack, read, line, line_code}
 use Rattle.stiffness_buffers.specs.StiffnessBuffers.{stiffness_buffers, StoredStiffness, stored_stiffness}
 
+-- the number of what has no more to say than that it is done
+abbrev pub checked_code : Checked → ℤ
+checked_code k = answer_code (λ _. pos 0) k
+
 -- ---- hb_test_factor: the factor test of the numbers that the buffers spell
 unfoldable pub test_stored : ℤ → List ℕ → List ℕ → List ℕ → List ℕ → StoredAnswer
 test_stored n l u f o =
@@ -47,7 +51,7 @@ test_factor_entry n l u f o =
 unfoldable pub test_vector_entry : ℤ → List ℕ → List ℕ → List ℕ → ℤ
 test_vector_entry n l u v =
     let k : ℕ = order_of n in
-    answer_code (vector_tested n (vector_buffers k (length l) (length u) (length v)) (table_of k l) (table_of k u) (vector_of k v))
+    answer_code yes_or_no_code (vector_tested n (vector_buffers k (length l) (length u) (length v)) (table_of k l) (table_of k u) (vector_of k v))
 
 -- ---- hb_judge: the judge of the numbers that the buffers spell
 unfoldable pub judge_stored : ℤ → List ℕ → List ℕ → List ℕ → List ℕ → List ℕ → StoredVerdict

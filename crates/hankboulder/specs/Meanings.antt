@@ -1,5 +1,5 @@
 -- D3 of docs/RULES.md at the entries for C: what an answer means, by its number r, of the numbers that the buffers spell.
-use Rattle.std.specs.Prelude.{◌≡◌, true, ℕ, ◌*◌, ◌<◌, ℤ, pos, negsuc, ◌-ℤ◌, ◌*ℤ◌, nat_abs, ◌≤ℤ◌, ◌<ℤ◌, length}
+use Rattle.std.specs.Prelude.{◌≡◌, true, ℕ, ◌*◌, ◌<◌, ℤ, pos, negsuc, ◌-ℤ◌, ◌*ℤ◌, nat_abs, ◌≤ℤ◌, ◌<ℤ◌, length, Ok}
 use mathlib.Core.List.{List, Memᴰ}
 use Rattle.std.specs.Int.{w64}
 use mir.Val.{bytes}
@@ -22,7 +22,6 @@ use Rattle.pool.specs.Pool.{Problems}
 use Rattle.pool.specs.Act as Pooled
 use Rattle.rides.specs.Act.{Explaining}
 use Rattle.tables.specs.declared.Refusal.TheVariants.{Full}
-use Rattle.tables.specs.declared.Checked.TheVariants.{Passed}
 use Rattle.summary.specs.Problems.{file_of, reading, LetThrough, spelled_by, SymmetricTables}
 use Rattle.buffers.specs.Buffers.{table_of, vector_of, sides_of, number_of}
 use Rattle.sums_buffers.specs.SumsBuffers.{spelled_sums}
@@ -134,7 +133,7 @@ pub record ReadMeaning (n : ℤ) (l u a b : List ℕ) (α K r : ℤ) (s : List �
 -- of a file s that is read into buffers; d: the buffers as they are left, with `from` and `to` for linear_low and linear_high
 pub record ReadSummaryMeaning (s : List ℕ) (d : Parts) (r : ℤ) : Type 0 where
   -- 0, all buffers are written: the file is accepted, and its problem is the one that the fronts of the buffers spell
-  pub problem : r ≡ pos 0 → reading s ≡ record { checked = Passed; problem = problem_in d }
+  pub problem : r ≡ pos 0 → reading s ≡ Ok (problem_in d)
   -- its order is one, 3, 4, 5 and 16 let it through, and its tables are mended
   pub through : r ≡ pos 0 → LetThrough (problem_in d)
   -- R24.3: its one file is s, byte for byte, where the tables of s are symmetric, and only there
@@ -149,7 +148,7 @@ pub record ReadSummaryMeaning (s : List ℕ) (d : Parts) (r : ℤ) : Type 0 wher
 -- of a problem that is written, with linear terms from a to b, a limit α and a centre c; s: the file's buffer as it is left
 pub record WriteSummaryMeaning (n : ℤ) (l u a b : List ℕ) (α : ℤ) (c : List ℕ) (r : ℤ) (s : List ℕ) : Type 0 where
   -- 0, the file is written (R24.2): it is read as the mended problem of what was handed in
-  pub back : r ≡ pos 0 → reading s ≡ record { checked = Passed; problem = mended_problem (spelled (order_of n) l u a b α c) }
+  pub back : r ≡ pos 0 → reading s ≡ Ok (mended_problem (spelled (order_of n) l u a b α c))
   -- and hb_read_summary reads it into any buffers of their sizes: the mended tables, all else as it was handed in, and zeros behind each
   pub again : r ≡ pos 0 → (d : Parts) → parts_roomy d ≡ true →
       read_summary_entry s d ≡ record { number = pos 0; parts = laid_out n l u a b α c }

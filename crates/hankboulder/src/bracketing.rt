@@ -3,7 +3,7 @@ ghost use Rattle.std.specs.Prelude.{◌≡◌};
 ghost use Rattle.hankboulder.specs.Entries.{StiffnessResult, stiffness_entry};
 ghost use Rattle.hankboulder.specs.Meanings.{StiffnessMeaning};
 
-use stiffness::bracket::bracket_code;
+use tables::answer_code;
 
 // Brackets the stiffness: 0 with step, bound and vector written; -1 with bound and vector written, and step kept; else the refusal's
 // number, with nothing written.
@@ -24,5 +24,5 @@ pub extern "C" fn hb_stiffness(
     }) (stiffness_entry n low.now high.now step.old bound.old vector.old) }
     ensures meaning { StiffnessMeaning n low.now high.now result step.new bound.new vector.new }
 {
-    bracket_code(stiffness_buffers::bracketing::bracket(n, low, high, step, bound, vector))
+    answer_code(stiffness_buffers::bracketing::bracket(n, low, high, step, bound, vector))
 }

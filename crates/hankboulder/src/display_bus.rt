@@ -2,7 +2,7 @@
 ghost use Rattle.std.specs.Prelude.{◌≡◌};
 ghost use Rattle.hankboulder.specs.Entries.{BusResult, bus_write_entry, bus_tick_entry, BusReadResult, bus_read_entry, bus_line_entry};
 
-use tables::checked_code;
+use tables::answer_code;
 
 // Writes a value to an address: 0; 20 where it is a start and the bus is busy, and 2 where block or run have another size, with nothing
 // moved.
@@ -20,7 +20,7 @@ pub extern "C" fn hb_bus_write(
       bus = record { block = block.new; run = run.new };
     }) (bus_write_entry block.old run.old address value low.now high.now) }
 {
-    checked_code(bus::acts::write(block, run, address, value, low, high))
+    answer_code(bus::acts::write(block, run, address, value, low, high))
 }
 
 // A tick: 0; 2 where block or run have another size, with nothing moved.
@@ -31,7 +31,7 @@ pub extern "C" fn hb_bus_tick(block: &mut [u8], run: &mut [u8]) -> i64
       bus = record { block = block.new; run = run.new };
     }) (bus_tick_entry block.old run.old) }
 {
-    checked_code(bus::acts::tick(block, run))
+    answer_code(bus::acts::tick(block, run))
 }
 
 // Reads the register at an address: 0 with the byte written; 2 where block or value have another size, with nothing written.
@@ -39,7 +39,7 @@ pub extern "C" fn hb_bus_tick(block: &mut [u8], run: &mut [u8]) -> i64
 pub extern "C" fn hb_bus_read(block: &[u8], address: i64, value: &mut [u8]) -> i64
     ensures exact { ◌≡◌ {A = BusReadResult} (record { number = result; value = value.new }) (bus_read_entry block.now address value.old) }
 {
-    checked_code(bus::acts::read(block, address, value))
+    answer_code(bus::acts::read(block, address, value))
 }
 
 // The line: 0 low, -1 raised; 2 where block has another size.
@@ -47,5 +47,5 @@ pub extern "C" fn hb_bus_read(block: &[u8], address: i64, value: &mut [u8]) -> i
 pub extern "C" fn hb_bus_line(block: &[u8]) -> i64
     ensures exact { result ≡ bus_line_entry block.now }
 {
-    bus::line::line_code(bus::acts::line(block))
+    answer_code(bus::acts::line(block))
 }

@@ -4,7 +4,7 @@ ghost use Rattle.file_buffers.specs.Parts.{parts};
 ghost use Rattle.hankboulder.specs.Entries.{ReadSummaryResult, read_summary_entry};
 ghost use Rattle.hankboulder.specs.Meanings.{ReadSummaryMeaning};
 
-use tables::checked_code;
+use tables::answer_code;
 
 // Reads a summary file: 0 with all seven buffers written, the problem in front and zeros behind it; else the refusal's number, with nothing
 // written.
@@ -26,7 +26,7 @@ pub extern "C" fn hb_read_summary(
         (read_summary_entry file.now (parts order.old low.old high.old linear_low.old linear_high.old limit.old centre.old)) }
     ensures meaning { ReadSummaryMeaning file.now (parts order.new low.new high.new linear_low.new linear_high.new limit.new centre.new) result }
 {
-    checked_code(file_buffers::reading::read_summary(
+    answer_code(file_buffers::reading::read_summary(
         file,
         order,
         low,

@@ -3,7 +3,7 @@ ghost use Rattle.std.specs.Prelude.{◌≡◌};
 ghost use Rattle.hankboulder.specs.Entries.{WriteSummaryResult, write_summary_entry};
 ghost use Rattle.hankboulder.specs.Meanings.{WriteSummaryMeaning};
 
-use tables::checked_code;
+use tables::answer_code;
 
 // Writes the summary file of a problem, with linear terms between linear_low and linear_high, which may be one buffer: 0 with the file
 // written, else the refusal's number, with nothing written.
@@ -23,7 +23,7 @@ pub extern "C" fn hb_write_summary(
         limit centre.now file.old) }
     ensures meaning { WriteSummaryMeaning n low.now high.now linear_low.now linear_high.now limit centre.now result file.new }
 {
-    checked_code(file_buffers::writing::write_summary(
+    answer_code(file_buffers::writing::write_summary(
         n,
         low,
         high,

@@ -4,7 +4,7 @@ ghost use Rattle.hankboulder.specs.Entries.{GatherResult, gather_entry};
 ghost use Rattle.hankboulder.specs.Meanings.{GatherMeaning};
 
 use samples::sample::Sample;
-use sums::gathered_code;
+use tables::answer_code;
 
 // Gathers a sample into running sums of order 4: 0 with all five buffers written; else the refusal's number, with nothing written.
 #[unsafe(no_mangle)]
@@ -48,7 +48,7 @@ pub extern "C" fn hb_gather(
       limit = running_limit.new;
     }) result }
 {
-    gathered_code(sums_buffers::gathering::gather(
+    answer_code(sums_buffers::gathering::gather(
         sample,
         n,
         low,

@@ -14,6 +14,8 @@ pub mod gathering;
 pub mod pooling;
 pub mod reading;
 
+use tables::answer_code;
+
 // Tests an offered factor: 0 accepted and -1 not accepted, with what the rows have over written; else the refusal's number, with nothing
 // written.
 #[unsafe(no_mangle)]
@@ -28,7 +30,7 @@ pub extern "C" fn hb_test_factor(
         (test_factor_entry n low.now high.now factor.now over.old) }
     ensures meaning { FactorMeaning n low.now high.now factor.now result over.new }
 {
-    residual::factor_test::factor_code(buffers::tests::test_factor(n, low, high, factor, over))
+    answer_code(buffers::tests::test_factor(n, low, high, factor, over))
 }
 
 // Tests whether an offered vector shows 'not definite', and answers by `tables::answer_code`. Nothing is written.
@@ -37,7 +39,7 @@ pub extern "C" fn hb_test_vector(n: i64, low: &[u8], high: &[u8], vector: &[u8])
     ensures exact { result ≡ test_vector_entry n low.now high.now vector.now }
     ensures meaning { VectorMeaning n low.now high.now vector.now result }
 {
-    tables::answer_code(buffers::tests::test_vector(n, low, high, vector))
+    answer_code(buffers::tests::test_vector(n, low, high, vector))
 }
 
 // Judges: 0 definite, with the factor and what the rows have over written; -1 not definite, with the vector written; -2 undecided, and else
@@ -59,7 +61,7 @@ pub extern "C" fn hb_judge(
     }) (judge_entry n low.now high.now factor.old vector.old over.old) }
     ensures meaning { JudgeMeaning n low.now high.now result factor.new vector.new over.new }
 {
-    verdict::judge::verdict_code(buffers::judging::judge(n, low, high, factor, vector, over))
+    answer_code(buffers::judging::judge(n, low, high, factor, vector, over))
 }
 
 // Boxes the ellipsoid, with linear terms between linear_low and linear_high, which may be one buffer: 0 with the sides written, low and
@@ -80,7 +82,7 @@ pub extern "C" fn hb_box(
         limit centre.now sides.old) }
     ensures meaning { BoxMeaning n low.now high.now linear_low.now linear_high.now limit result sides.new }
 {
-    enclosure::enclose::box_code(buffers::boxing::enclose(
+    answer_code(buffers::boxing::enclose(
         n,
         low,
         high,

@@ -3,7 +3,7 @@ ghost use Rattle.std.specs.Prelude.{◌≡◌};
 ghost use Rattle.hankboulder.specs.Entries.{GatherResult, pool_entry};
 ghost use Rattle.hankboulder.specs.Meanings.{PoolMeaning};
 
-use sums::gathered_code;
+use tables::answer_code;
 
 // Pools 1 to 64 problems into running sums of their order: 0 with all five sums written; else the refusal's number, with nothing written.
 #[unsafe(no_mangle)]
@@ -64,7 +64,7 @@ pub extern "C" fn hb_pool(
       limit = running_limit.new;
     }) result }
 {
-    gathered_code(pool_buffers::pooling::pool(
+    answer_code(pool_buffers::pooling::pool(
         n,
         low,
         high,

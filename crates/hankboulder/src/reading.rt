@@ -21,7 +21,7 @@ pub extern "C" fn hb_read_sums(
         running_limit allowance limit.old) }
     ensures meaning { ReadMeaning n low.now high.now linear_low.now linear_high.now running_limit allowance result limit.new }
 {
-    rides::reading::reading_code(sums_buffers::reading::read_sums(
+    tables::answer_code(sums_buffers::reading::read_sums(
         n,
         low,
         high,

@@ -15,14 +15,14 @@ use Rattle.tables.specs.Checks.{Check, first_refusal, same, order_ok, check_leng
 use Rattle.tables.specs.Problem.{constraint_sized}
 use Rattle.tables.specs.declared.Refusal.{Refusal}
 use Rattle.tables.specs.declared.Refusal.TheVariants.{Order, Length}
-use Rattle.tables.specs.declared.Checked.TheVariants.{Passed, Refused}
+use Rattle.std.specs.Prelude.{Ok, Err}
 use Rattle.tables.specs.declared.problem.Constraint.{Constraint}
 use Rattle.tables.specs.declared.problem.Sizes.{Sizes}
 use Rattle.tables.specs.declared.problem.Lengths.{Lengths}
 use Rattle.tables.proofs.Checks.{and_left, and_right, all-at, all_ext, same_of, first-none, first_passes, first-refuses, first-passed, rest-passed}
 use Rattle.tables.proofs.Answers.{after-refused, after-passed, after-means}
 use Rattle.tables.proofs.Problems.{constraint_sizes-of}
-use Rattle.sums.specs.Sums.{Outcome, refused}
+use Rattle.sums.specs.Sums.{Outcome}
 use Rattle.sums.specs.Lent.{Lent}
 use Rattle.pool.specs.Pool.{greatest_pool, count_of, Problems, orders_ok, orders_same, checked_pool, pool_entry_checks, pooling}
 use Rattle.pool.specs.Act.{pool_sized, sums_lengths, problems_lengths}
@@ -71,7 +71,7 @@ module _ (n : ℤ) (m : ℕ) (orders : List ℤ) (sized : Bool) where
   abbrev entry : List Check
   entry = pool_entry_checks n m orders sized
 
-  pub entry-behind : first_refusal entry ≡ Passed → Behind n m orders sized
+  pub entry-behind : first_refusal entry ≡ Ok tt → Behind n m orders sized
   unfolding orders_ok orders_same
   entry-behind e =
       let lengths = first-passed _ _ (rest-passed _ _ e) in
@@ -84,28 +84,28 @@ module _ (n : ℤ) (m : ℕ) (orders : List ℤ) (sized : Bool) where
       }
 
   -- what they find
-  pub entry-order : orders_ok n m orders ≡ false → Refused Order ≡ first_refusal entry
+  pub entry-order : orders_ok n m orders ≡ false → Err Order ≡ first_refusal entry
   entry-order o = sym (first-refuses _ _ o)
 
-  pub entry_length : orders_ok n m orders ≡ true → (orders_same n m orders && sized) ≡ false → Refused Length ≡ first_refusal entry
+  pub entry_length : orders_ok n m orders ≡ true → (orders_same n m orders && sized) ≡ false → Err Length ≡ first_refusal entry
   entry_length o z = sym (first_passes _ _ o ∙ first-refuses (check_length (orders_same n m orders && sized)) [] z)
 
-  pub entry-passed : orders_ok n m orders ≡ true → (orders_same n m orders && sized) ≡ true → Passed ≡ first_refusal entry
+  pub entry-passed : orders_ok n m orders ≡ true → (orders_same n m orders && sized) ≡ true → Ok tt ≡ first_refusal entry
   entry-passed o z = sym (first_passes _ _ o ∙ first_passes (check_length (orders_same n m orders && sized)) [] z ∙ first-none)
 
   module _ (c : Constraint) (p : ℕ → Constraint) where
     -- what holds of each refusal, and of what is left to ask behind 1 and 2, holds of the whole
-    pub pooling_by : (P : Outcome → Type 0) → ((r : Refusal) → P (refused r)) → (Behind n m orders sized → P (checked_pool c p m)) → P (pooling n m orders sized c p)
+    pub pooling_by : (P : Outcome → Type 0) → ((r : Refusal) → P (Err r)) → (Behind n m orders sized → P (checked_pool c p m)) → P (pooling n m orders sized c p)
     unfolding pooling
-    pooling_by P f g = after-means refused (first_refusal entry) (checked_pool c p m) P f (λ e. g (entry-behind e))
+    pooling_by P f g = after-means Err (first_refusal entry) (checked_pool c p m) P f (λ e. g (entry-behind e))
 
-    pub pooling-refused : {r : Refusal} → first_refusal entry ≡ Refused r → refused r ≡ pooling n m orders sized c p
+    pub pooling-refused : {r : Refusal} → first_refusal entry ≡ Err r → Err r ≡ pooling n m orders sized c p
     unfolding pooling
-    pooling-refused e = after-refused refused _ (checked_pool c p m) e
+    pooling-refused e = after-refused Err _ (checked_pool c p m) e
 
-    pub pooling-passed : first_refusal entry ≡ Passed → checked_pool c p m ≡ pooling n m orders sized c p
+    pub pooling-passed : first_refusal entry ≡ Ok tt → checked_pool c p m ≡ pooling n m orders sized c p
     unfolding pooling
-    pooling-passed e = after-passed refused (checked_pool c p m) e
+    pooling-passed e = after-passed Err (checked_pool c p m) e
 
 -- only the first m orders are asked
 pub entry-front : (n : ℤ) (m : ℕ) (x y : List ℤ) (sized : Bool) → ((k : ℕ) → k < m → nth x k ≡ nth y k) → pool_entry_checks n m x sized ≡ pool_entry_checks n m y sized

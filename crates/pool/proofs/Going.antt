@@ -10,7 +10,8 @@ use Rattle.tables.specs.Ranges.{greatest_order, table_room}
 use Rattle.tables.specs.declared.problem.Constraint.{Constraint}
 use Rattle.tables.proofs.Matrix.{table_fits}
 use Rattle.sums.specs.Required.{sums_at, Rooms, stated, Stated}
-use Rattle.sums.specs.declared.Summed.{Summed}
+use Rattle.std.specs.Prelude.{Result}
+use Rattle.tables.specs.declared.Refusal.{Refusal}
 use Rattle.sums.proofs.Fronts.{length_front}
 use Rattle.sums.proofs.Laying.{stated_by}
 use Rattle.pool.specs.Pool.{checked_pool}
@@ -37,20 +38,20 @@ scratch_rooms h l = record {
 }
 
 -- ---- the pass begins with sums at the front of x, y, z and w
-pub record Begun (n : ℕ) (p : ℕ → Constraint) (x y z w : List ℤ) (α : ℤ) (d : Summed) (l u a b : List ℤ) : Type 0 where
+pub record Begun (n : ℕ) (p : ℕ → Constraint) (x y z w : List ℤ) (α : ℤ) (d : Result ℤ Refusal) (l u a b : List ℤ) : Type 0 where
   pub states : Stated n (passing (sums_at n x y z w α) p 0) d l u a b
 
 -- ---- the loop began with d₀, l₀, u₀, a₀ and b₀, and went through k problems: whatever sums the pass began with
-pub record Going (n : ℕ) (p : ℕ → Constraint) (d₀ : Summed) (l₀ u₀ a₀ b₀ : List ℤ) (k : ℕ) (d : Summed) (l u a b : List ℤ) : Type 0 where
+pub record Going (n : ℕ) (p : ℕ → Constraint) (d₀ : Result ℤ Refusal) (l₀ u₀ a₀ b₀ : List ℤ) (k : ℕ) (d : Result ℤ Refusal) (l u a b : List ℤ) : Type 0 where
   pub sizes : Long (length l₀) (length u₀) (length a₀) (length b₀) l u a b
   pub passed : (c : Constraint) → Stated n (passing c p 0) d₀ l₀ u₀ a₀ b₀ → Stated n (passing c p k) d l u a b
 
-module _ {n : ℕ} {p : ℕ → Constraint} {d₀ : Summed} {l₀ u₀ a₀ b₀ : List ℤ} where
+module _ {n : ℕ} {p : ℕ → Constraint} {d₀ : Result ℤ Refusal} {l₀ u₀ a₀ b₀ : List ℤ} where
   pub going_none : Going n p d₀ l₀ u₀ a₀ b₀ 0 d₀ l₀ u₀ a₀ b₀
   going_none = record { sizes = record { low = refl; high = refl; from = refl; to = refl }; passed = λ c st. st }
 
-  module _ {k : ℕ} {d : Summed} {l u a b : List ℤ} (g : Going n p d₀ l₀ u₀ a₀ b₀ k d l u a b) where
-    pub going_next : {q : Constraint} {r : Summed} {l' u' a' b' : List ℤ} → q ≡ p k → Long (length l) (length u) (length a) (length b) l' u' a' b' →
+  module _ {k : ℕ} {d : Result ℤ Refusal} {l u a b : List ℤ} (g : Going n p d₀ l₀ u₀ a₀ b₀ k d l u a b) where
+    pub going_next : {q : Constraint} {r : Result ℤ Refusal} {l' u' a' b' : List ℤ} → q ≡ p k → Long (length l) (length u) (length a) (length b) l' u' a' b' →
         Stated n (next q (stated n d l u a b)) r l' u' a' b' → Going n p d₀ l₀ u₀ a₀ b₀ (k + 1) r l' u' a' b'
     unfolding passing
     going_next e w st = record {

@@ -3,3 +3,4 @@ pub mod Passing
 pub mod Counting
 pub mod Meanings
 pub mod Going
+pub mod Fronts

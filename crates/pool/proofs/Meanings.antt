@@ -17,11 +17,11 @@ use Rattle.tables.specs.Problem.{constraint_of, ends_in, mended_constraint}
 use Rattle.tables.specs.declared.Refusal.{Refusal}
 use Rattle.tables.specs.declared.problem.Constraint.{Constraint}
 use Rattle.enclosure.specs.Points.{Point, Allowed}
-use Rattle.sums.specs.Sums.{Outcome, taken, refused, plus, allowing}
+use Rattle.sums.specs.Sums.{Outcome, plus, allowing}
 use Rattle.sums.specs.Halving.{halved}
 use Rattle.sums.specs.Lent.{Lent, laid_sums, sums_of}
 use Rattle.sums.specs.Explaining.{Explained}
-use Rattle.sums.specs.declared.Gathered.TheVariants as Gathered
+use Rattle.std.specs.Prelude.{Ok, Err}
 use Rattle.sums.proofs.Explained.{mended_explains, plus_explains, halved_explains, fitted_by}
 use Rattle.pool.specs.Pool.{count_of, Problems, problem_at, pooled, checked_pool, pooling}
 use Rattle.pool.specs.Act.{pool_sized, sums_lengths, problems_lengths, pool, Explaining, Allowing, Meaning}
@@ -80,7 +80,7 @@ problem_explains g d e {u} {v} {X} {q} h P Q =
     (plus_explains g d e h (pos_nonneg 1) P Q))
 
 module _ (c : Constraint) (p : ℕ → Constraint) (m : ℕ) (ordered : (k : ℕ) → k < m → (p k).order ≡ c.order) where
-  pub pooled_explains : {d : Constraint} → pooled c p m ≡ taken d → Explaining p m c d
+  pub pooled_explains : {d : Constraint} → pooled c p m ≡ Ok d → Explaining p m c d
   unfolding plus halved
   pooled_explains e u v h X q allowed P =
       (subst (Holds Q) e
@@ -102,7 +102,7 @@ pub record Pooled (p : ℕ → Constraint) (m : ℕ) (c d : Constraint) : Type 0
   pub allows : Allowing p m c d
 
 module _ (n : ℤ) (m : ℕ) (orders : List ℤ) (sized : Bool) (c : Constraint) (p : ℕ → Constraint) (ordered : (k : ℕ) → k < m → (p k).order ≡ c.order) where
-  checked_means : {d : Constraint} → checked_pool c p m ≡ taken d → Pooled p m c d
+  checked_means : {d : Constraint} → checked_pool c p m ≡ Ok d → Pooled p m c d
   checked_means {d} e =
       let f = passing_is c p m ∙ e in
       let explains : Explaining p m c d = pooled_explains c p m ordered (passing-taken c p m f).1 in
@@ -113,13 +113,13 @@ module _ (n : ℤ) (m : ℕ) (orders : List ℤ) (sized : Bool) (c : Constraint)
       }
 
   -- what holds of each refusal, and of sums that are taken behind checks 1 and 2, holds of the whole
-  pub pooling-means : (P : Outcome → Type 0) → ((r : Refusal) → P (refused r)) →
-      ((d : Constraint) → Behind n m orders sized → checked_pool c p m ≡ taken d → Pooled p m c d → P (taken d)) → P (pooling n m orders sized c p)
+  pub pooling-means : (P : Outcome → Type 0) → ((r : Refusal) → P (Err r)) →
+      ((d : Constraint) → Behind n m orders sized → checked_pool c p m ≡ Ok d → Pooled p m c d → P (Ok d)) → P (pooling n m orders sized c p)
   pooling-means P f g = pooling_by n m orders sized c p P f (λ b. go b (checked_pool c p m) refl)
     where
       go : Behind n m orders sized → (o : Outcome) → checked_pool c p m ≡ o → P o
-      go b (taken d) e = g d b e (checked_means e)
-      go b (refused r) e = f r
+      go b (Ok d) e = g d b e (checked_means e)
+      go b (Err r) e = f r
 
 -- sums whose order goes by another name
 by_order : (d : Constraint) {n : ℕ} → d.order ≡ n → d ≡ constraint_of n d.low d.high d.linear.low d.linear.high d.limit
@@ -133,7 +133,7 @@ pool-means n orders q b =
     pooling-means n m orders (pool_sized 1 (order_of n) m (sums_lengths b) (length b.limit) (problems_lengths q) (length q.limits)) c p (λ k h. refl)
     (λ (o : Outcome). let j = laid_sums (λ t. t) (λ x. x) (λ α. tabulate 1 (λ i. α)) o b in Meaning j.answer p m c (sums_of (order_of n) j.sums))
     (λ r. record { explains = λ e. absurd (false≢true cc); allows = λ e. absurd (false≢true cc) })
-    (λ d behind e w. subst (Meaning Gathered.Taken p m c) (by_order d w.order) (record { explains = λ e. w.explains; allows = λ e. w.allows }))
+    (λ d behind e w. subst (Meaning (Ok tt) p m c) (by_order d w.order) (record { explains = λ e. w.explains; allows = λ e. w.allows }))
   where
     m : ℕ
     m = count_of 1 (length orders)

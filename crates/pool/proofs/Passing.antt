@@ -9,20 +9,18 @@ use lib.IntN.{ℤ}
 use lib.ListN.{length}
 use borrow.Author.Tests.{le-leb, lt-leb}
 use Rattle.tables.specs.Ranges.{limit_range}
-use Rattle.tables.specs.Checks.{Check, first_refusal, within, nowhere_crossed, tables_within, bounds_checks, ends_checks}
+use Rattle.tables.specs.Checks.{Check, Checked, first_refusal, within, nowhere_crossed, tables_within, bounds_checks, ends_checks}
 use Rattle.tables.specs.Mending.{mended_low, mended_high}
 use Rattle.tables.specs.Answers.{after}
 use Rattle.tables.specs.Problem.{mended_constraint}
 use Rattle.tables.specs.declared.Refusal.{Refusal}
 use Rattle.tables.specs.declared.Refusal.TheVariants.{Range, Crossed, Lopsided, Reversed, Full}
-use Rattle.tables.specs.declared.Checked.{Checked}
-use Rattle.tables.specs.declared.Checked.TheVariants.{Passed, Refused}
+use Rattle.std.specs.Prelude.{Result, Ok, Err}
 use Rattle.tables.specs.declared.problem.Constraint.{Constraint}
 use Rattle.tables.proofs.Answers.{after_is}
-use Rattle.sums.specs.Sums.{Outcome, taken, refused, terms_in, own_checks, plus, sums_within}
+use Rattle.sums.specs.Sums.{Outcome, terms_in, own_checks, plus, sums_within}
 use Rattle.sums.specs.Halving.{halved, fitted}
 use Rattle.sums.specs.Required.{stated, Stated}
-use Rattle.sums.specs.declared.Summed.{Summed}
 use Rattle.sums.proofs.Checked.{mended-within}
 use Rattle.sums.proofs.Explained.{fitted_by}
 use Rattle.pool.specs.Pool.{of_both, pool_checks, added_next, pooled, checked_pool}
@@ -41,23 +39,23 @@ module _ (r s : Refusal) where
 
 -- what the checks of one problem more find, and those before it
 abbrev sooner : Checked → Checked → Checked
-sooner Passed k = k
-sooner (Refused r) Passed = Refused r
-sooner (Refused r) (Refused s) = Refused (earlier r s)
+sooner (Ok _) k = k
+sooner (Err r) (Ok _) = Err r
+sooner (Err r) (Err s) = Err (earlier r s)
 
 -- a refusal, if any, of which P holds
 abbrev IfRefused : (Refusal → Type 0) → Checked → Type 0
-IfRefused P Passed = Unit {0}
-IfRefused P (Refused r) = P r
+IfRefused P (Ok _) = Unit {0}
+IfRefused P (Err r) = P r
 
 module _ (r : Refusal) where
-  sooner-first : (k : Checked) → IfRefused (λ s. place r < place s) k → sooner (Refused r) k ≡ Refused r
-  sooner-first Passed h = refl
-  sooner-first (Refused s) h = ap Refused (earlier-first r s (omega arith))
+  sooner-first : (k : Checked) → IfRefused (λ s. place r < place s) k → sooner (Err r) k ≡ Err r
+  sooner-first (Ok _) h = refl
+  sooner-first (Err s) h = ap Err (earlier-first r s (omega arith))
 
-  sooner-second : (k : Checked) → IfRefused (λ s. place r < place s) k → sooner k (Refused r) ≡ Refused r
-  sooner-second Passed h = refl
-  sooner-second (Refused s) h = ap Refused (earlier-second s r h)
+  sooner-second : (k : Checked) → IfRefused (λ s. place r < place s) k → sooner k (Err r) ≡ Err r
+  sooner-second (Ok _) h = refl
+  sooner-second (Err s) h = ap Err (earlier-second s r h)
 
 -- ---- tests with these refusals
 abbrev Tests : List Refusal → Type 0
@@ -91,7 +89,7 @@ unfolding first_refusal
 first_is P [] h t = tt
 first_is P (r ∷ rs) h t = go t.0 _ (first_is P rs h.1 t.1)
   where
-    go : (b : Bool) (k : Checked) → IfRefused P k → IfRefused P (elim b as (λ z. Checked) [ true ↦ k | false ↦ Refused r ])
+    go : (b : Bool) (k : Checked) → IfRefused P k → IfRefused P (elim b as (λ z. Checked) [ true ↦ k | false ↦ Err r ])
     go true k l = l
     go false k l = h.0
 
@@ -103,7 +101,7 @@ first_both [] h t s = refl
 first_both (r ∷ rs) h t s = go t.0 s.0 (first_both rs h.1 t.1 s.1)
   where
     first : Bool → Checked → Checked
-    first b k = elim b [ true ↦ k | false ↦ Refused r ]
+    first b k = elim b [ true ↦ k | false ↦ Err r ]
 
     found : Tests rs → Checked
     found t = first_refusal (asking rs t)
@@ -115,7 +113,7 @@ first_both (r ∷ rs) h t s = go t.0 s.0 (first_both rs h.1 t.1 s.1)
     go true true e = e
     go true false e = sym (sooner-first r (found t.1) (later t.1))
     go false true e = sym (sooner-second r (found s.1) (later s.1))
-    go false false e = ap Refused (sym (earlier-first r r (omega arith)))
+    go false false e = ap Err (sym (earlier-first r r (omega arith)))
 
 -- ---- the checks of sums and of problems: 3, 4, 5 and 16, and 18 after them
 abbrev four : List Refusal
@@ -141,16 +139,16 @@ own_asks c = refl
 
 -- ---- what holds of sums, and holds with a problem added to them, holds of the pool; and 18 is all that adding is refused by
 abbrev pub Holds : (Constraint → Type 0) → Outcome → Type 0
-Holds P (taken d) = P d
-Holds P (refused r) = r ≡ Full
+Holds P (Ok d) = P d
+Holds P (Err r) = r ≡ Full
 
 -- ---- one problem more, by what its checks find
 module _ (p : Constraint) (o : Outcome) where
-  pub next-passed : first_refusal (own_checks p) ≡ Passed → next p o ≡ added_next (mended_constraint p) o
+  pub next-passed : first_refusal (own_checks p) ≡ Ok tt → next p o ≡ added_next (mended_constraint p) o
   unfolding passed_on
   next-passed e = ap (λ (k : Checked). passed_on k p o) e
 
-  pub next-refused : {r : Refusal} → first_refusal (own_checks p) ≡ Refused r → next p o ≡ refused_by r o
+  pub next-refused : {r : Refusal} → first_refusal (own_checks p) ≡ Err r → next p o ≡ refused_by r o
   unfolding passed_on
   next-refused e = ap (λ (k : Checked). passed_on k p o) e
 
@@ -162,8 +160,8 @@ module _ (c : Constraint) (p : ℕ → Constraint) where
   pooled-holds P (suc m) b f = go (pooled c p m) (pooled-holds P m b (λ k h. f k (omega arith)))
     where
       go : (o : Outcome) → Holds P o → Holds P (added_next (mended_constraint (p m)) o)
-      go (taken d) h = f m (omega arith) d h
-      go (refused r) h = h
+      go (Ok d) h = f m (omega arith) d h
+      go (Err r) h = h
 
   -- ---- one pass
   abbrev tests : ℕ → Tests four
@@ -187,49 +185,49 @@ module _ (c : Constraint) (p : ℕ → Constraint) where
       ∙ go (first_refusal (own_checks (p m))) (first_refusal (pool_checks c p m)) (pooled c p m)
       (rw (own_asks (p m)) (first_is _ four before_full (own (p m))))
       (pooled-holds (λ d. Unit {0}) m tt (λ k h d u. fitted_by (Holds (λ d. Unit {0})) (mended_constraint (p k)) d (λ w. tt) (λ w. tt) refl))
-      ∙ ap (λ (k : Checked). after refused k (added_next (mended_constraint (p m)) (pooled c p m))) (sym (pool-first m))
+      ∙ ap (λ (k : Checked). after Err k (added_next (mended_constraint (p m)) (pooled c p m))) (sym (pool-first m))
     where
       go : (k l : Checked) (o : Outcome) → IfRefused (λ r. place r ≤ place Full) k → Holds (λ d. Unit {0}) o →
-          passed_on k (p m) (after refused l o) ≡ after refused (sooner k l) (added_next (mended_constraint (p m)) o)
-      go Passed Passed o b h = refl
-      go Passed (Refused r) o b h = refl
-      go (Refused r) Passed (taken d) b h = refl
-      go (Refused r) Passed (refused s) b h = ap refused (ap (earlier r) h ∙ earlier-first r Full b)
-      go (Refused r) (Refused s) o b h = refl
+          passed_on k (p m) (after Err l o) ≡ after Err (sooner k l) (added_next (mended_constraint (p m)) o)
+      go (Ok _) (Ok _) o b h = refl
+      go (Ok _) (Err r) o b h = refl
+      go (Err r) (Ok _) (Ok d) b h = refl
+      go (Err r) (Ok _) (Err s) b h = ap Err (ap (earlier r) h ∙ earlier-first r Full b)
+      go (Err r) (Err s) o b h = refl
 
   -- ---- what is taken
-  pub passing-taken : (m : ℕ) {d : Constraint} → passing c p m ≡ taken d → (first_refusal (pool_checks c p m) ≡ Passed) × (pooled c p m ≡ taken d)
+  pub passing-taken : (m : ℕ) {d : Constraint} → passing c p m ≡ Ok d → (first_refusal (pool_checks c p m) ≡ Ok tt) × (pooled c p m ≡ Ok d)
   unfolding checked_pool
-  passing-taken m {d} e = after_is refused _ (pooled c p m) (taken d) (λ r q. absurd (false≢true cc)) (sym (passing_is m) ∙ e)
+  passing-taken m {d} e = after_is Err _ (pooled c p m) (Ok d) (λ r q. absurd (false≢true cc)) (sym (passing_is m) ∙ e)
 
   -- the sums pass their own checks
-  pool-own : (m : ℕ) → first_refusal (pool_checks c p m) ≡ Passed → first_refusal (own_checks c) ≡ Passed
+  pool-own : (m : ℕ) → first_refusal (pool_checks c p m) ≡ Ok tt → first_refusal (own_checks c) ≡ Ok tt
   unfolding pool_checks
   pool-own zero e = e
   pool-own (suc m) e = pool-own m (go (first_refusal (own_checks (p m))) (first_refusal (pool_checks c p m)) (sym (pool-first m) ∙ e))
     where
-      go : (k l : Checked) → sooner k l ≡ Passed → l ≡ Passed
-      go Passed l e = e
-      go (Refused r) Passed e = refl
-      go (Refused r) (Refused s) e = absurd (false≢true cc)
+      go : (k l : Checked) → sooner k l ≡ Ok tt → l ≡ Ok tt
+      go (Ok _) l e = e
+      go (Err r) (Ok _) e = refl
+      go (Err r) (Err s) e = absurd (false≢true cc)
 
   pub passing-within : (m : ℕ) {d : Constraint} → c.order * c.order ≤ length c.low → c.order * c.order ≤ length c.high →
-      passing c p m ≡ taken d → sums_within d ≡ true
+      passing c p m ≡ Ok d → sums_within d ≡ true
   passing-within m h k e =
       let t = passing-taken m e in
       subst (Holds (λ d. sums_within d ≡ true)) t.1
       (pooled-holds (λ d. sums_within d ≡ true) m (mended-within c h k (pool-own m t.0)) (λ k h d w. fitted_by (Holds (λ d. sums_within d ≡ true)) (mended_constraint (p k)) d (λ e. e) (λ e. e) refl))
 
-  pub passing-ordered : (m : ℕ) {d : Constraint} → passing c p m ≡ taken d → d.order ≡ c.order
+  pub passing-ordered : (m : ℕ) {d : Constraint} → passing c p m ≡ Ok d → d.order ≡ c.order
   unfolding plus halved
   passing-ordered m e =
       subst (Holds (λ d. d.order ≡ c.order)) (passing-taken m e).1
       (pooled-holds (λ d. d.order ≡ c.order) m refl (λ k h d w. fitted_by (Holds (λ d. d.order ≡ c.order)) (mended_constraint (p k)) d (λ e. w) (λ e. w) refl))
 
   -- so the code may go on with what it states
-  pub passing_ready : (m : ℕ) {n : ℕ} {r : Summed} {l u a b : List ℤ} → c.order * c.order ≤ length c.low → c.order * c.order ≤ length c.high →
+  pub passing_ready : (m : ℕ) {n : ℕ} {r : Result ℤ Refusal} {l u a b : List ℤ} → c.order * c.order ≤ length c.low → c.order * c.order ≤ length c.high →
       Stated n (passing c p m) r l u a b → Ready n r l u a b
   unfolding stated
   passing_ready m {n} {r} {l} {u} {a} {b} h k st = record {
-    ranged = λ α e. record { rooms = st.rooms; within = passing-within m h k (st.outcome ∙ ap (λ (r : Summed). stated n r l u a b) e) };
+    ranged = λ α e. record { rooms = st.rooms; within = passing-within m h k (st.outcome ∙ ap (λ (r : Result ℤ Refusal). stated n r l u a b) e) };
   }

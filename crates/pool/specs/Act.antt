@@ -1,8 +1,8 @@
 -- R27.5, R27.6 and R15 of docs/RULES.md: the pool's act over the lent sums and lists: what it answers, how it leaves each buffer, and what
 -- that means.
-use Rattle.std.specs.Prelude.{◌≡◌, Bool, ◌&&◌, List, ℕ, ◌*◌, ◌<◌, eqb, ℤ, pos, ◌≤ℤ◌, length}
+use Rattle.std.specs.Prelude.{◌≡◌, Bool, ◌&&◌, List, ℕ, ◌*◌, ◌<◌, eqb, ℤ, pos, ◌≤ℤ◌, length, Ok}
 use Rattle.tables.specs.Matrix.{tabulate}
-use Rattle.tables.specs.Checks.{order_of}
+use Rattle.tables.specs.Checks.{Checked, order_of}
 use Rattle.tables.specs.Problem.{lengths_of, constraint_sized}
 use Rattle.tables.specs.declared.problem.Constraint.{Constraint}
 use Rattle.tables.specs.declared.problem.Lengths.{Lengths}
@@ -10,7 +10,6 @@ use Rattle.enclosure.specs.Points.{Allowed}
 use Rattle.sums.specs.Sums.{allowing}
 use Rattle.sums.specs.Lent.{Lent, Left, laid_sums, sums_of}
 use Rattle.sums.specs.Explaining.{Explained}
-use Rattle.sums.specs.declared.Gathered.{Gathered}
 use Rattle.pool.specs.Pool.{count_of, Problems, problem_at, pooling}
 
 -- 2, R15.3: the five sums, of order n, and the lists of m problems have their sizes, where a number takes `unit`
@@ -50,6 +49,6 @@ Allowing p m c d =
     Allowed (allowing K c) X q → Allowed (allowing K d) X q
 
 -- what an answer means of the problems, and of the sums c before it and d after it
-pub record Meaning (r : Gathered) (p : ℕ → Constraint) (m : ℕ) (c d : Constraint) : Type 0 where
-  pub explains : r ≡ Gathered.Taken → Explaining p m c d
-  pub allows : r ≡ Gathered.Taken → Allowing p m c d
+pub record Meaning (r : Checked) (p : ℕ → Constraint) (m : ℕ) (c d : Constraint) : Type 0 where
+  pub explains : r ≡ Ok tt → Explaining p m c d
+  pub allows : r ≡ Ok tt → Allowing p m c d

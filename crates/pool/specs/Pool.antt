@@ -1,13 +1,13 @@
 -- R27 of docs/RULES.md: problems pooled into running sums. The problems are constraints p 0, .., p (m - 1), in the order in which they are
 -- handed in.
-use Rattle.std.specs.Prelude.{Bool, true, false, ◌&&◌, List, [], ◌∷◌, ℕ, zero, suc, ◌+◌, ◌*◌, ◌/◌, ◌%◌, leb, eqb, ℤ}
+use Rattle.std.specs.Prelude.{Bool, true, false, ◌&&◌, List, [], ◌∷◌, ℕ, zero, suc, ◌+◌, ◌*◌, ◌/◌, ◌%◌, leb, eqb, ℤ, Ok, Err}
 use Rattle.tables.specs.Matrix.{nth, tabulate}
 use Rattle.tables.specs.Checks.{all, Check, first_refusal, same, order_ok, check_length}
 use Rattle.tables.specs.Answers.{after}
 use Rattle.tables.specs.Problem.{constraint_of, mended_constraint}
 use Rattle.tables.specs.declared.Refusal.TheVariants.{Order}
 use Rattle.tables.specs.declared.problem.Constraint.{Constraint}
-use Rattle.sums.specs.Sums.{Outcome, taken, refused, own_checks}
+use Rattle.sums.specs.Sums.{Outcome, own_checks}
 use Rattle.sums.specs.Halving.{fitted}
 
 -- R27.1: a pool has at most this many problems
@@ -59,16 +59,16 @@ pool_checks c p (suc m) = of_both (pool_checks c p m) (own_checks (p m))
 
 -- ---- R27.4: the problems added one after the other, each with at most one halving
 unfoldable pub added_next : Constraint → Outcome → Outcome
-added_next g (taken c) = fitted g c
-added_next g (refused r) = refused r
+added_next g (Ok c) = fitted g c
+added_next g (Err r) = Err r
 
 unfoldable pub pooled : Constraint → (ℕ → Constraint) → ℕ → Outcome
-pooled c p zero = taken (mended_constraint c)
+pooled c p zero = Ok (mended_constraint c)
 pooled c p (suc m) = added_next (mended_constraint (p m)) (pooled c p m)
 
 -- 3, 4, 5 and 16; and then the problems are added, and 18 is asked
 unfoldable pub checked_pool : Constraint → (ℕ → Constraint) → ℕ → Outcome
-checked_pool c p m = after refused (first_refusal (pool_checks c p m)) (pooled c p m)
+checked_pool c p m = after Err (first_refusal (pool_checks c p m)) (pooled c p m)
 
 -- 1 and 2, where check 2 finds `sized` of the buffers beside the list of orders
 abbrev pub pool_entry_checks : ℤ → ℕ → List ℤ → Bool → List Check
@@ -77,4 +77,4 @@ pool_entry_checks n m orders sized =
 
 -- and the others behind them
 unfoldable pub pooling : ℤ → ℕ → List ℤ → Bool → Constraint → (ℕ → Constraint) → Outcome
-pooling n m orders sized c p = after refused (first_refusal (pool_entry_checks n m orders sized)) (checked_pool c p m)
+pooling n m orders sized c p = after Err (first_refusal (pool_entry_checks n m orders sized)) (checked_pool c p m)

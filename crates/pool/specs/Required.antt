@@ -1,7 +1,6 @@
 -- What the code of a pool asks of its lists and of the sums.
-use Rattle.std.specs.Prelude.{◌≡◌, List, ℕ, ◌*◌, ℤ, length}
+use Rattle.std.specs.Prelude.{◌≡◌, List, ℕ, ◌*◌, ℤ, length, Result, Ok, Err}
 use Rattle.tables.specs.declared.Refusal.{Refusal}
-use Rattle.sums.specs.declared.Summed.{Summed}
 use Rattle.sums.specs.Lent.{Lent}
 use Rattle.sums.specs.Required.{Ranged, stated}
 use Rattle.pool.specs.Pool.{Problems}
@@ -16,12 +15,12 @@ pub record Lists (n m : ℕ) (q : Problems (List ℤ)) : Type 0 where
   pub limits : length q.limits ≡ m
 
 -- where nothing is refused so far, the sums in these lists are in their ranges
-pub record Ready (n : ℕ) (r : Summed) (l u a b : List ℤ) : Type 0 where
-  pub ranged : (α : ℤ) → r ≡ Summed.Within α → Ranged n l u a b α
+pub record Ready (n : ℕ) (r : Result ℤ Refusal) (l u a b : List ℤ) : Type 0 where
+  pub ranged : (α : ℤ) → r ≡ Ok α → Ranged n l u a b α
 
--- where a problem is refused by r after what is held as d, k is what is held then
-pub record Refusing (r : Refusal) (d k : Summed) : Type 0 where
-  pub held : (n : ℕ) (l u a b : List ℤ) → stated n k l u a b ≡ refused_by r (stated n d l u a b)
+-- where a problem is refused by r after what is held as d, k is the refusal that is held then
+pub record Refusing (r : Refusal) (d : Result ℤ Refusal) (k : Refusal) : Type 0 where
+  pub held : (n : ℕ) (l u a b : List ℤ) → stated n (Err k) l u a b ≡ refused_by r (stated n d l u a b)
 
 -- lent sums of order n
 pub record LentSums (n : ℕ) (b : Lent (List ℤ)) : Type 0 where

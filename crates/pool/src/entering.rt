@@ -8,7 +8,7 @@ ghost use Rattle.pool.specs.Act.{pool_sized};
 use crate::GREATEST_POOL;
 use tables::entering::order_of;
 use tables::problem::{Lengths, Sizes, constraint_sized};
-use tables::{Checked, Refusal, order_ok};
+use tables::{Refusal, order_ok};
 
 // How many problems a list of orders of this length stands for, where a number takes `unit`: 0 where it has not 1 to 64 whole numbers.
 pub fn count_of(unit: usize, length: usize) -> usize
@@ -33,14 +33,7 @@ fn orders_ok(n: i64, count: usize, orders: &[i64]) -> bool
     if !order_ok(n) {
         return false;
     }
-    let mut k = 0;
-    while k < count {
-        if !order_ok(orders[k]) {
-            return false;
-        }
-        k += 1;
-    }
-    true
+    orders[..count].iter().all(|v| order_ok(*v))
 }
 
 // Check 2, of the list of orders: whether there is a problem, and the first numbers of orders, count of them, are n.
@@ -51,14 +44,7 @@ fn orders_same(n: i64, count: usize, orders: &[i64]) -> bool
     if count < 1 {
         return false;
     }
-    let mut k = 0;
-    while k < count {
-        if orders[k] != n {
-            return false;
-        }
-        k += 1;
-    }
-    true
+    orders[..count].iter().all(|v| *v == n)
 }
 
 // Check 2, of the other buffers: whether sums of order n and the lists of count problems have their sizes, where a number takes `unit`.
@@ -96,19 +82,19 @@ pub fn check_entry(
     limit: usize,
     problems: Lengths,
     limits: usize,
-) -> Checked
+) -> Result<(), Refusal>
     requires { (unit ≤ 8) × (count ≤ greatest_pool) × (count ≤ length orders.now) }
     ensures { result ≡ first_refusal (pool_entry_checks n count orders.now (pool_sized unit (order_of n) count sums limit
         problems limits)) }
 {
     if !orders_ok(n, count, orders) {
-        return Checked::Refused(Refusal::Order);
+        return Err(Refusal::Order);
     }
     if !orders_same(n, count, orders) {
-        return Checked::Refused(Refusal::Length);
+        return Err(Refusal::Length);
     }
     if !pool_sized(unit, order_of(n), count, sums, limit, problems, limits) {
-        return Checked::Refused(Refusal::Length);
+        return Err(Refusal::Length);
     }
-    Checked::Passed
+    Ok(())
 }

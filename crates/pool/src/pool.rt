@@ -13,21 +13,16 @@ ghost use Rattle.pool.specs.Required.{Lists, LentSums};
 use crate::entering::{check_entry, count_of};
 use crate::problems::{add_problem, begin};
 use sums::copying::copy_sums;
-use sums::{Gathered, Summed};
 use tables::entering::order_of;
 use tables::problem::lengths_of;
-use tables::{Checked, GREATEST_ORDER, TABLE_ROOM};
+use tables::{GREATEST_ORDER, Refusal, TABLE_ROOM};
 
 // Numbers of x, count of them from number `first` on, to the front of out.
 fn copy_part(count: usize, first: usize, x: &[i64], out: &mut [i64])
     requires { (first + count ≤ length x.now) × (count ≤ length out.old) }
     ensures { Filled (length out.old) count (λ i. nth x.now (first + i)) out.new }
 {
-    let mut i = 0;
-    while i < count {
-        out[i] = x[first + i];
-        i += 1;
-    }
+    out[..count].copy_from_slice(&x[first..first + count]);
 }
 
 // Problem k of the lists of count problems of order n, but for its limit, to the front of arrays.
@@ -76,7 +71,7 @@ fn pool_all(
     u: &mut [i64],
     a: &mut [i64],
     b: &mut [i64],
-) -> Summed
+) -> Result<i64, Refusal>
     requires { (n ≤ greatest_order) × (count ≤ greatest_pool) × Rooms n l.old u.old a.old b.old
         × Lists n count (record { lows = lows.now; highs = highs.now; froms = froms.now; tos = tos.now; limits = limits.now }) }
     ensures { Stated n (checked_pool (sums_at n l.old u.old a.old b.old running)
@@ -93,13 +88,11 @@ fn pool_all(
     let mut pa = [0i64; GREATEST_ORDER];
     let mut pb = [0i64; GREATEST_ORDER];
     let mut done = begin(n, running, l, u, a, b);
-    let mut k = 0;
-    while k < count {
+    for k in 0..count {
         let limit = copy_problem(
             n, count, k, lows, highs, froms, tos, limits, &mut pl, &mut pu, &mut pa, &mut pb,
         );
         done = add_problem(n, limit, &mut pl, &mut pu, &pa, &pb, done, l, u, a, b);
-        k += 1;
     }
     done
 }
@@ -118,7 +111,7 @@ fn pool_lists(
     from: &mut [i64],
     to: &mut [i64],
     limit: &mut [i64],
-) -> Gathered
+) -> Result<(), Refusal>
     requires { (n ≤ greatest_order) × (count ≤ greatest_pool)
         × Lists n count (record { lows = lows.now; highs = highs.now; froms = froms.now; tos = tos.now; limits = limits.now })
         × LentSums n (record { low = low.now; high = high.old; from = from.old; to = to.old; limit = limit.old }) }
@@ -156,17 +149,12 @@ fn pool_lists(
     let mut a = [0i64; GREATEST_ORDER];
     let mut b = [0i64; GREATEST_ORDER];
     copy_sums(n, low, high, from, to, &mut l, &mut u, &mut a, &mut b);
-    let summed = pool_all(
+    let sum = pool_all(
         n, count, lows, highs, froms, tos, limits, limit[0], &mut l, &mut u, &mut a, &mut b,
-    );
-    match summed {
-        Summed::Within(sum) => {
-            copy_sums(n, &l, &u, &a, &b, low, high, from, to);
-            limit[0] = sum;
-            Gathered::Taken
-        }
-        Summed::Refused(r) => Gathered::Refused(r),
-    }
+    )?;
+    copy_sums(n, &l, &u, &a, &b, low, high, from, to);
+    limit[0] = sum;
+    Ok(())
 }
 
 // Pools problems into running sums, of any numbers at all: n is an order or not, and each slice has any length. The running limit is the
@@ -186,7 +174,7 @@ pub fn pool(
     froms: &[i64],
     tos: &[i64],
     limits: &[i64],
-) -> Gathered
+) -> Result<(), Refusal>
     ensures exact { ◌≡◌ {A = Left (List ℤ)} (record {
       answer = result;
       sums = record {
@@ -232,7 +220,7 @@ pub fn pool(
     let count = count_of(1, orders.len());
     let sums = lengths_of(low.len(), high.len(), from.len(), to.len());
     let problems = lengths_of(lows.len(), highs.len(), froms.len(), tos.len());
-    let checked = check_entry(
+    check_entry(
         1,
         n,
         count,
@@ -241,22 +229,19 @@ pub fn pool(
         limit.len(),
         problems,
         limits.len(),
-    );
-    match checked {
-        Checked::Passed => pool_lists(
-            order_of(n),
-            count,
-            lows,
-            highs,
-            froms,
-            tos,
-            limits,
-            low,
-            high,
-            from,
-            to,
-            limit,
-        ),
-        Checked::Refused(r) => Gathered::Refused(r),
-    }
+    )?;
+    pool_lists(
+        order_of(n),
+        count,
+        lows,
+        highs,
+        froms,
+        tos,
+        limits,
+        low,
+        high,
+        from,
+        to,
+        limit,
+    )
 }

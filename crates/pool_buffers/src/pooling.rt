@@ -16,11 +16,10 @@ ghost use Rattle.pool_buffers.specs.PoolBuffers.{spelled_problems, spelled_pool,
 use pool::GREATEST_POOL;
 use pool::entering::{check_entry, count_of};
 use pool::problems::{add_problem, begin};
-use sums::{Gathered, Summed};
 use sums_buffers::storing::{load_sums, store_sums};
 use tables::entering::order_of;
 use tables::problem::lengths_of;
-use tables::{Checked, GREATEST_ORDER, TABLE_ROOM};
+use tables::{GREATEST_ORDER, Refusal, TABLE_ROOM};
 use words::{SIZE, load_numbers, load_signed, store_signed};
 
 // Numbers of x, count of them from number `first` on, to the front of out.
@@ -28,11 +27,8 @@ fn load_part(count: usize, first: usize, x: &[u8], out: &mut [i64])
     requires { ((first + count) * bytes w64 ≤ length x.now) × (count ≤ length out.old) }
     ensures { Filled (length out.old) count (λ i. signed_at w64 x.now ((first + i) * bytes w64)) out.new }
 {
-    let mut i = 0;
-    while i < count {
-        let v = load_signed(x, (first + i) * SIZE, SIZE);
-        out[i] = v;
-        i += 1;
+    for i in 0..count {
+        out[i] = load_signed(x, (first + i) * SIZE, SIZE);
     }
 }
 
@@ -82,7 +78,7 @@ fn pool_all(
     u: &mut [i64],
     a: &mut [i64],
     b: &mut [i64],
-) -> Summed
+) -> Result<i64, Refusal>
     requires { (n ≤ greatest_order) × (count ≤ greatest_pool) × Rooms n l.old u.old a.old b.old
         × ListsBytes n count (record { lows = lows.now; highs = highs.now; froms = froms.now; tos = tos.now; limits = limits.now }) }
     ensures { Stated n (checked_pool (sums_at n l.old u.old a.old b.old running)
@@ -99,13 +95,11 @@ fn pool_all(
     let mut pa = [0i64; GREATEST_ORDER];
     let mut pb = [0i64; GREATEST_ORDER];
     let mut done = begin(n, running, l, u, a, b);
-    let mut k = 0;
-    while k < count {
+    for k in 0..count {
         let limit = load_problem(
             n, count, k, lows, highs, froms, tos, limits, &mut pl, &mut pu, &mut pa, &mut pb,
         );
         done = add_problem(n, limit, &mut pl, &mut pu, &pa, &pb, done, l, u, a, b);
-        k += 1;
     }
     done
 }
@@ -124,7 +118,7 @@ fn pool_lists(
     from: &mut [u8],
     to: &mut [u8],
     limit: &mut [u8],
-) -> Gathered
+) -> Result<(), Refusal>
     requires { (n ≤ greatest_order) × (count ≤ greatest_pool)
         × ListsBytes n count (record { lows = lows.now; highs = highs.now; froms = froms.now; tos = tos.now; limits = limits.now })
         × LentBytes n (record { low = low.now; high = high.old; from = from.old; to = to.old; limit = limit.old }) }
@@ -163,17 +157,12 @@ fn pool_lists(
     let mut b = [0i64; GREATEST_ORDER];
     load_sums(n, low, high, from, to, &mut l, &mut u, &mut a, &mut b);
     let running = load_signed(limit, 0, SIZE);
-    let summed = pool_all(
+    let sum = pool_all(
         n, count, lows, highs, froms, tos, limits, running, &mut l, &mut u, &mut a, &mut b,
-    );
-    match summed {
-        Summed::Within(sum) => {
-            store_sums(n, &l, &u, &a, &b, low, high, from, to);
-            store_signed(limit, 0, SIZE, sum);
-            Gathered::Taken
-        }
-        Summed::Refused(r) => Gathered::Refused(r),
-    }
+    )?;
+    store_sums(n, &l, &u, &a, &b, low, high, from, to);
+    store_signed(limit, 0, SIZE, sum);
+    Ok(())
 }
 
 // Pools the problems that the lists spell into the running sums that the buffers spell; the running limit is the number of limit.
@@ -190,7 +179,7 @@ pub fn pool(
     froms: &[u8],
     tos: &[u8],
     limits: &[u8],
-) -> Gathered
+) -> Result<(), Refusal>
     ensures { ◌≡◌ {A = Left (List ℕ)} (record {
       answer = result;
       sums = record {
@@ -225,7 +214,7 @@ pub fn pool(
     load_numbers(orders, &mut each, count, SIZE);
     let sums = lengths_of(low.len(), high.len(), from.len(), to.len());
     let problems = lengths_of(lows.len(), highs.len(), froms.len(), tos.len());
-    let checked = check_entry(
+    check_entry(
         SIZE,
         n,
         count,
@@ -234,22 +223,19 @@ pub fn pool(
         limit.len(),
         problems,
         limits.len(),
-    );
-    match checked {
-        Checked::Passed => pool_lists(
-            order_of(n),
-            count,
-            lows,
-            highs,
-            froms,
-            tos,
-            limits,
-            low,
-            high,
-            from,
-            to,
-            limit,
-        ),
-        Checked::Refused(r) => Gathered::Refused(r),
-    }
+    )?;
+    pool_lists(
+        order_of(n),
+        count,
+        lows,
+        highs,
+        froms,
+        tos,
+        limits,
+        low,
+        high,
+        from,
+        to,
+        limit,
+    )
 }

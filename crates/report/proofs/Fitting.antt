@@ -15,7 +15,7 @@ use Rattle.tables.specs.Bounds.{Bounds, CheckedTables}
 use Rattle.tables.specs.Checks.{order_ok, order_of, entry_checks, first_refusal}
 use Rattle.tables.specs.Entering.{low_bounds, high_bounds, Rooms}
 use Rattle.tables.specs.Problem.{ends_in, problem_within, constraint_ends, problem_checks, mended_problem}
-use Rattle.tables.specs.declared.Checked.TheVariants.{Passed}
+use Rattle.std.specs.Prelude.{Ok}
 use Rattle.tables.specs.declared.problem.Constraint.{Constraint}
 use Rattle.tables.specs.declared.problem.Problem.{Problem}
 use Rattle.tables.proofs.Matrix.{table_fits}
@@ -39,7 +39,7 @@ text_mended p h k =
     rw (mended_twice max_ℤ c.order greater_pairing c.low h, mended_twice min_ℤ c.order smaller_pairing c.high k) refl
 
 -- ---- behind the door
-module _ (p : Problem) (o : order_ok (pos p.constraint.order) ≡ true) (e : first_refusal (problem_checks p) ≡ Passed) where
+module _ (p : Problem) (o : order_ok (pos p.constraint.order) ≡ true) (e : first_refusal (problem_checks p) ≡ Ok tt) where
   abbrev d : Constraint
   d = p.constraint
 

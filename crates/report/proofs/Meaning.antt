@@ -15,7 +15,7 @@ use Rattle.tables.specs.Entering.{low_bounds, high_bounds}
 use Rattle.tables.specs.Problem.{ends_in}
 use Rattle.tables.specs.Refusals.{refusal_number}
 use Rattle.tables.specs.declared.Refusal.{Refusal}
-use Rattle.tables.specs.declared.Checked.TheVariants as Checked
+use Rattle.std.specs.Prelude.{Ok, is_ok, IsOk}
 use Rattle.tables.specs.declared.problem.Constraint.{Constraint}
 use Rattle.tables.specs.declared.problem.Problem.{Problem}
 use Rattle.residual.specs.Residual.{FormBound}
@@ -56,7 +56,7 @@ module _ (n : ℕ) (l u : List ℤ) (behind t : List ℕ) where
     pub factor : List ℤ
     pub over : ℤ
     pub text : t ≡ lines (ascii "row") factor n n ++ over_text over ++ behind
-    pub accepted : factor_tested (pos n) true l u factor ≡ Accepted over
+    pub accepted : factor_tested (pos n) true l u factor ≡ Ok (Accepted over)
     pub enough : pos 0 ≤ℤ over
     pub bound : FormBound n (at n factor) (at n l) (at n u) over
     pub definite : PositiveDefinite n (at n l) (at n u)
@@ -132,12 +132,12 @@ module _ (s : List ℕ) where
   abbrev n : ℕ
   n = c.order
 
-  module _ (h : (reading s).checked ≡ Checked.Passed) where
+  module _ {q : Problem} (h : reading s ≡ Ok q) where
     -- the text is that of the problem that the file spells
     spelled-text : printed s ≡ problem_text p
     spelled-text =
         let z = accepted_rooms s h in
-        printed-problem s refl h ∙ ap problem_text (accepted-problem s h) ∙ text_mended p (low-holds p z) (high-holds p z)
+        printed-problem s h ∙ ap problem_text (accepted-problem s h) ∙ text_mended p (low-holds p z) (high-holds p z)
 
     abbrev order : order_ok (pos n) ≡ true
     order = accepted-order s h
@@ -162,38 +162,38 @@ module _ (s : List ℕ) where
 
   -- 'definite' first: the factor and the number over, which are printed next, and behind them there are the lines of the box alone
   pub definite-means : (t : List ℕ) → printed s ≡ ascii "definite\n" ++ t
-      → ((reading s).checked ≡ Checked.Passed) × Certified n c.low c.high (box_text n (problem_box p)) t
+      → IsOk (reading s) × Certified n c.low c.high (box_text n (problem_box p)) t
   unfolding numbered line
   definite-means t e =
-      let h = printed-passed s refl (λ r q. omega (arith, ap first (sym q ∙ e))) in
-      (h, (first-printed h t).definite e)
+      let h = (printed-passed s (λ r q. omega (arith, ap first (sym q ∙ e)))).1 in
+      (ap is_ok h, (first-printed h t).definite e)
 
   -- 'not' first: the vector that is printed next has x'Mx ≤ 0 for some member M
   pub not_means : (t : List ℕ) → printed s ≡ ascii "not\n" ++ t
-      → ((reading s).checked ≡ Checked.Passed) × Shown n c.low c.high (box_text n (problem_box p)) t
+      → IsOk (reading s) × Shown n c.low c.high (box_text n (problem_box p)) t
   unfolding numbered line
   not_means t e =
-      let h = printed-passed s refl (λ r q. omega (arith, ap first (sym q ∙ e))) in
-      (h, (first-printed h t).shown e)
+      let h = (printed-passed s (λ r q. omega (arith, ap first (sym q ∙ e)))).1 in
+      (ap is_ok h, (first-printed h t).shown e)
 
   -- 'undecided' first: behind it there are the lines of the box alone
   pub undecided_means : (t : List ℕ) → printed s ≡ ascii "undecided\n" ++ t
-      → ((reading s).checked ≡ Checked.Passed) × (t ≡ box_text n (problem_box p))
+      → IsOk (reading s) × (t ≡ box_text n (problem_box p))
   unfolding numbered line
   undecided_means t e =
-      let h = printed-passed s refl (λ r q. omega (arith, ap first (sym q ∙ e))) in
-      (h, (first-printed h t).undecided e)
+      let h = (printed-passed s (λ r q. omega (arith, ap first (sym q ∙ e)))).1 in
+      (ap is_ok h, (first-printed h t).undecided e)
 
   -- 'empty' last: the ellipsoid has no point, whichever linear terms between their ends
   pub empty_means : (t : List ℕ) → printed s ≡ t ++ ascii "empty\n"
-      → ((reading s).checked ≡ Checked.Passed) × ((X : ℕ → ℤ) (q : ℤ) → Allowed c X q → ⊥)
+      → IsOk (reading s) × ((X : ℕ → ℤ) (q : ℤ) → Allowed c X q → ⊥)
   unfolding problem_text problem_box
   empty_means t e =
-      let h = printed-passed s refl (λ r q. not_empty (numbered-ends (ascii "refused") r) (omega arith) t (sym q ∙ e)) in
+      let h = (printed-passed s (λ r q. not_empty (numbered-ends (ascii "refused") r) (omega arith) t (sym q ∙ e))).1 in
       let o = accepted-order s h in
       let b = empty_last n (positive p o (accepted-checks s h)) (problem_box p) (verdict_text n (problem_verdict p)) t (sym (spelled-text h) ∙ e) in
       let L = low_bounds n c.low in
       let U = high_bounds n c.high in
       let says = box_says n (accepted_rooms s h).order L U (bounded p o (accepted-checks s h)) (ends_in c) c.limit (nth p.centre) in
       let none = subst (Says n L U (ends_in c) c.limit) b says in
-      (h, λ X q x. none X q (point_mended c x))
+      (ap is_ok h, λ X q x. none X q (point_mended c x))

@@ -1,14 +1,14 @@
 -- What is printed of a file, and how it stands in the program's buffer.
-use mathlib.Core.Path.{◌≡◌, refl, sym, ap, ◌∙◌}
+use mathlib.Core.Path.{◌≡◌, refl, ap, ◌∙◌}
 use mathlib.Core.List.{List, ◌++◌}
 use Prim.Native.Nat.{ℕ, ◌+◌, ◌-◌, ◌≤◌}
 use native.Mathlib.Omega.{arith}
 use lib.ListN.{length, replicate, length-replicate}
 use Rattle.words.proofs.Lists.{drop-replicate}
 use Rattle.tables.specs.declared.Refusal.{Refusal}
-use Rattle.tables.specs.declared.Checked.{Checked}
-use Rattle.summary.specs.declared.problem.Reading.{Reading}
-use Rattle.summary.specs.Problems.{reading}
+use Rattle.tables.specs.declared.problem.Problem.{Problem}
+use Rattle.std.specs.Prelude.{Ok, Err}
+use Rattle.summary.specs.Problems.{Reading, reading}
 use Rattle.text.specs.Text.{ascii}
 use Rattle.text.specs.Putting.{with_text, Put}
 use Rattle.text.proofs.Puts.{put-length}
@@ -17,22 +17,22 @@ use Rattle.report.specs.Lines.{numbered}
 use Rattle.report.specs.Report.{problem_text, reading_text, printed, report_room, report}
 
 -- ---- by what the reading found
-module _ (s : List ℕ) {r : Reading} (e : r ≡ reading s) where
-  pub printed-problem : r.checked ≡ Checked.Passed → printed s ≡ problem_text r.problem
+module _ (s : List ℕ) where
+  pub printed-problem : {p : Problem} → reading s ≡ Ok p → printed s ≡ problem_text p
   unfolding printed reading_text
-  printed-problem h = rw (sym e, h)
+  printed-problem h = rw h
 
-  pub printed-refused : (k : Refusal) → r.checked ≡ Checked.Refused k → printed s ≡ numbered (ascii "refused") k
+  pub printed-refused : {k : Refusal} → reading s ≡ Err k → printed s ≡ numbered (ascii "refused") k
   unfolding printed reading_text
-  printed-refused k h = rw (sym e, h)
+  printed-refused h = rw h
 
   -- a text that is not that of a refusal
-  pub printed-passed : ((k : Refusal) → printed s ≡ numbered (ascii "refused") k → ⊥) → r.checked ≡ Checked.Passed
-  printed-passed f = go r.checked refl
+  pub printed-passed : ((k : Refusal) → printed s ≡ numbered (ascii "refused") k → ⊥) → (p : Problem) × (reading s ≡ Ok p)
+  printed-passed f = go (reading s) refl
     where
-      go : (c : Checked) → r.checked ≡ c → r.checked ≡ Checked.Passed
-      go Checked.Passed h = h
-      go (Checked.Refused k) h = absurd (f k (printed-refused k h))
+      go : (r : Reading) → reading s ≡ r → (p : Problem) × (reading s ≡ Ok p)
+      go (Ok p) h = (p, h)
+      go (Err k) h = absurd (f k (printed-refused h))
 
 -- ---- in a buffer of zeros
 text_first : (t : List ℕ) → length t ≤ report_room → with_text (replicate report_room 0) 0 t ≡ t ++ replicate (report_room - length t) 0

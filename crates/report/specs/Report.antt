@@ -1,12 +1,10 @@
 -- R19 of docs/RULES.md: what the program prints of a file.
-use Rattle.std.specs.Prelude.{List, ◌++◌, ℕ, ◌+◌, ◌-◌, length, replicate}
+use Rattle.std.specs.Prelude.{List, ◌++◌, ℕ, ◌+◌, ◌-◌, length, replicate, Ok, Err}
 use Rattle.tables.specs.Entering.{low_bounds, high_bounds}
-use Rattle.tables.specs.declared.Checked.{Checked}
 use Rattle.tables.specs.declared.problem.Problem.{Problem}
 use Rattle.verdict.specs.Judge.{Judgement, judged}
 use Rattle.enclosure.specs.Box.{problem_box}
-use Rattle.summary.specs.declared.problem.Reading.{Reading}
-use Rattle.summary.specs.Problems.{reading}
+use Rattle.summary.specs.Problems.{Reading, reading}
 use Rattle.text.specs.Text.{ascii}
 use Rattle.report.specs.declared.report.Output.{Output}
 use Rattle.report.specs.Lines.{numbered, verdict_text, verdict_room, box_text, box_room}
@@ -21,7 +19,8 @@ problem_text p = let n = p.constraint.order in verdict_text n (problem_verdict p
 
 -- R19.2: the file's refusal, or the lines of its problem
 unfoldable pub reading_text : Reading → List ℕ
-reading_text r = elim r.checked [ Checked.Passed ↦ problem_text r.problem | Checked.Refused k ↦ numbered (ascii "refused") k ]
+reading_text (Ok p) = problem_text p
+reading_text (Err r) = numbered (ascii "refused") r
 
 -- what the program prints of a file
 unfoldable pub printed : List ℕ → List ℕ

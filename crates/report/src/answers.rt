@@ -4,7 +4,7 @@ ghost use Rattle.report.specs.Answers.{Answered};
 
 use enclosure::enclose::{BoxAnswer, box_bounds};
 use tables::problem::Problem;
-use tables::{GREATEST_ORDER, SIDES_ROOM, Sides, TABLE_ROOM, Table, Vector};
+use tables::{GREATEST_ORDER, Refusal, SIDES_ROOM, Sides, TABLE_ROOM, Table, Vector};
 use verdict::judge::{Verdict, decide};
 
 // The verdict on a problem and the answer of its box. Where the verdict is 'definite' the factor stands in factor, row by row, where it is
@@ -14,7 +14,7 @@ pub struct Answers {
     pub verdict: Verdict,
     pub factor: Table,
     pub vector: Vector,
-    pub answer: BoxAnswer,
+    pub answer: Result<BoxAnswer, Refusal>,
     pub sides: Sides,
 }
 

@@ -34,7 +34,7 @@ pub fn put_refused(out: &mut [u8], at: usize, word: &[u8], r: Refusal) -> usize
     ensures { Put out.old at (numbered word.now r)
         (length word.now + number_room) result out.new }
 {
-    let number = [tables::refusal_number(r) as i64; 1];
+    let number = [i64::from(r.number())];
     put_line(out, at, word, &number, 0, 1)
 }
 
@@ -46,7 +46,7 @@ fn put_factor(out: &mut [u8], at: usize, n: usize, f: &Table, over: i64) -> usiz
 {
     let rows = put_text(out, at, b"definite\n");
     let next = put_lines(out, rows, b"row", f, n, n);
-    let number = [over; 1];
+    let number = [over];
     put_line(out, next, b"over", &number, 0, 1)
 }
 
@@ -78,18 +78,23 @@ pub fn put_verdict(
         Verdict::Definite(over) => put_factor(out, at, n, f, over),
         Verdict::NotDefinite => put_vector(out, at, n, x),
         Verdict::Undecided => put_text(out, at, b"undecided\n"),
-        Verdict::Refused(r) => put_refused(out, at, b"refused", r),
     }
 }
 
 // The lines of a box, with its sides in x.
-pub fn put_box(out: &mut [u8], at: usize, n: usize, answer: BoxAnswer, x: &Sides) -> usize
+pub fn put_box(
+    out: &mut [u8],
+    at: usize,
+    n: usize,
+    answer: Result<BoxAnswer, Refusal>,
+    x: &Sides,
+) -> usize
     requires { (n ≤ greatest_order) × (length x.now ≡ sides_room) × (at + box_room ≤ length out.old) }
     ensures { Put out.old at (box_text n (stated_box n answer x.now)) box_room result out.new }
 {
     match answer {
-        BoxAnswer::Sides => put_lines(out, at, b"side", x, 2, n),
-        BoxAnswer::Empty => put_text(out, at, b"empty\n"),
-        BoxAnswer::Refused(r) => put_refused(out, at, b"box refused", r),
+        Ok(BoxAnswer::Sides) => put_lines(out, at, b"side", x, 2, n),
+        Ok(BoxAnswer::Empty) => put_text(out, at, b"empty\n"),
+        Err(r) => put_refused(out, at, b"box refused", r),
     }
 }

@@ -8,7 +8,6 @@ ghost use Rattle.report.specs.Report.{report_room, report};
 
 use crate::answers::{Answers, work_out};
 use crate::lines::{BOX_ROOM, VERDICT_ROOM, put_box, put_refused, put_verdict};
-use tables::Checked;
 
 // The size of the text's buffer: room for a verdict and a box.
 const ROOM: usize = VERDICT_ROOM + BOX_ROOM;
@@ -26,13 +25,8 @@ fn put_answers(out: &mut [u8], n: usize, answers: Answers) -> usize
         × (length answers.sides ≡ sides_room) × (report_room ≤ length out.old) }
     ensures { Put out.old 0 (answers_text n answers) report_room result out.new }
 {
-    let verdict = answers.verdict;
-    let factor = answers.factor;
-    let vector = answers.vector;
-    let answer = answers.answer;
-    let sides = answers.sides;
-    let next = put_verdict(out, 0, n, verdict, &factor, &vector);
-    put_box(out, next, n, answer, &sides)
+    let next = put_verdict(out, 0, n, answers.verdict, &answers.factor, &answers.vector);
+    put_box(out, next, n, answers.answer, &answers.sides)
 }
 
 // What the program prints of a file, of any bytes at all.
@@ -41,16 +35,13 @@ pub fn report(file: &[u8]) -> Output
     ensures within { result.length ≤ length result.text }
 {
     let mut text = [0u8; ROOM];
-    let reading = summary::problem::read(file);
-    let checked = reading.checked;
-    let problem = reading.problem;
-    match checked {
-        Checked::Passed => {
-            let constraint = problem.constraint;
-            let length = put_answers(&mut text, constraint.order, work_out(problem));
+    match summary::problem::read(file) {
+        Ok(problem) => {
+            let order = problem.constraint.order;
+            let length = put_answers(&mut text, order, work_out(problem));
             Output { text, length }
         }
-        Checked::Refused(r) => {
+        Err(r) => {
             let length = put_refused(&mut text, 0, b"refused", r);
             Output { text, length }
         }

@@ -18,8 +18,9 @@ use Rattle.tables.specs.Members.{Member}
 use Rattle.tables.specs.Checks.{all, first_refusal, order_of, sizes_ok}
 use Rattle.tables.specs.Answers.{after}
 use Rattle.tables.specs.Entering.{low_bounds, high_bounds, door_checks, entered}
-use Rattle.tables.specs.declared.Checked.{Checked}
-use Rattle.tables.specs.declared.Checked.TheVariants.{Passed, Refused}
+use Rattle.tables.specs.Checks.{Checked}
+use Rattle.std.specs.Prelude.{Result, Ok, Err}
+use Rattle.tables.specs.declared.Refusal.{Refusal}
 use Rattle.tables.proofs.Matrix.{at_table}
 use Rattle.tables.proofs.Checks.{and_left, and_right, and_of, sizes-of}
 use Rattle.cholesky.specs.Scale.{scale}
@@ -45,11 +46,11 @@ written_out n R L U = refl
 
 -- ---- the residual whole, and then the rows
 -- what the row test makes of what the residual's act leaves, for order k
-abbrev pub then_rows : ℕ → Tabled → FactorAnswer
+abbrev pub then_rows : ℕ → Tabled → Result FactorAnswer Refusal
 then_rows k t =
     let A = at k t.low in
     let B = at k t.high in
-    after FactorAnswer.Refused t.checked (tested (rows_pass k A B) (least_over k A B))
+    after Err t.checked (Ok (tested (rows_pass k A B) (least_over k A B)))
 
 -- the test of a factor is the row test over the residual's tables
 rows-of-tables : (k : ℕ) (R L U : Matrix) →
@@ -66,13 +67,13 @@ unfolding factor_tested factor_answer tabling tabled entered after
 in_order n sized l u f a b =
     let k = order_of n in
     go (first_refusal (door_checks n sized true l u)) (first_refusal (check_factor k (at k f) ∷ [])) (tables k (low_bounds k l) (high_bounds k u) (at k f))
-    (rows-of-tables k (at k f) (low_bounds k l) (high_bounds k u))
+    (ap Ok (rows-of-tables k (at k f) (low_bounds k l) (high_bounds k u)))
   where
-    go : (c d : Checked) (t : Tabled) {x : FactorAnswer} → x ≡ then_rows (order_of n) t →
-        after FactorAnswer.Refused c (after FactorAnswer.Refused d x) ≡ then_rows (order_of n) (after (kept a b) c (after (kept a b) d t))
-    go (Refused r) d t e = refl
-    go Passed (Refused r) t e = refl
-    go Passed Passed t e = e
+    go : (c d : Checked) (t : Tabled) {x : Result FactorAnswer Refusal} → x ≡ then_rows (order_of n) t →
+        after Err c (after Err d x) ≡ then_rows (order_of n) (after (kept a b) c (after (kept a b) d t))
+    go (Err r) d t e = refl
+    go (Ok _) (Err r) t e = refl
+    go (Ok _) (Ok _) t e = e
 
 -- where both lent tables have the size of the others, check 2 finds the same of the factor test and of the residual
 lent-sized : (size l u f a b : ℕ) → a ≡ size → b ≡ size → sizes_ok size size l u f ≡ residual_sizes size l u f a b

@@ -22,7 +22,8 @@ use Rattle.tables.proofs.Answers.{after-means}
 use Rattle.tables.proofs.Admission.{order_small, entered-means}
 use Rattle.tables.proofs.Triangular.{UpperTriangular}
 use Rattle.residual.specs.Residual.{residual, accepts, over, FormBound}
-use Rattle.residual.specs.FactorTest.{factor_entry, factor_shape, tested, factor_answer, factor_tested, Carries, Meaning}
+use Rattle.residual.specs.FactorTest.{factor_entry, factor_shape, tested, factor_answer, factor_tested, Carries, Meaning, carried}
+use Rattle.std.specs.Prelude.{Result, Ok, Err}
 use Rattle.residual.specs.declared.factor_test.FactorAnswer.{FactorAnswer}
 use Rattle.residual.proofs.Rows.{rows-over, over_below}
 use Rattle.residual.proofs.Sizes.{over-within}
@@ -69,21 +70,18 @@ pub offered-definite : (n : ℕ) (R L U : Matrix) → T (factor_shape n R) → T
 offered-definite n R L U s t = accepted-definite n R L U t (shape_upper n R s)
 
 -- ---- what an answer means, by what it is
--- the number that it carries; 0 of a refusal
-carried : FactorAnswer → ℤ
-carried (FactorAnswer.Accepted v) = v
-carried (FactorAnswer.NotAccepted v) = v
-carried (FactorAnswer.Refused r) = pos 0
+ok-same : {a b : FactorAnswer} → ◌≡◌ {A = Result FactorAnswer Refusal} (Ok a) (Ok b) → a ≡ b
+ok-same e = cc e
 
-accepted-means : (b : Bool) (w v : ℤ) → tested b w ≡ FactorAnswer.Accepted v → (b ≡ true) × (w ≡ v)
-unfolding tested carried
-accepted-means true w v e = (refl, ap carried e)
+accepted-means : (b : Bool) (w v : ℤ) → ◌≡◌ {A = Result FactorAnswer Refusal} (Ok (tested b w)) (Ok (FactorAnswer.Accepted v)) → (b ≡ true) × (w ≡ v)
+unfolding tested
+accepted-means true w v e = (refl, ap carried (ok-same e))
 accepted-means false w v e = absurd (false≢true cc)
 
-not_accepted-means : (b : Bool) (w v : ℤ) → tested b w ≡ FactorAnswer.NotAccepted v → (b ≡ false) × (w ≡ v)
-unfolding tested carried
+not_accepted-means : (b : Bool) (w v : ℤ) → ◌≡◌ {A = Result FactorAnswer Refusal} (Ok (tested b w)) (Ok (FactorAnswer.NotAccepted v)) → (b ≡ false) × (w ≡ v)
+unfolding tested
 not_accepted-means true w v e = absurd (false≢true cc)
-not_accepted-means false w v e = (refl, ap carried e)
+not_accepted-means false w v e = (refl, ap carried (ok-same e))
 
 -- accepted with 0 or more over, and only so
 pub accepts-over : (n : ℕ) (R L U : Matrix) → accepts n R L U ≡ le_z (pos 0) (over n R L U)
@@ -97,7 +95,7 @@ below v e = go (≤ℤ_or_<ℤ (pos 0) v)
     go (inl h) = absurd (false≢true (sym e ∙ le_z_true h))
     go (inr h) = h
 
-no_number : (r : Refusal) (v : ℤ) → Carries (FactorAnswer.Refused r) v → ⊥
+no_number : (r : Refusal) (v : ℤ) → Carries (Err r) v → ⊥
 no_number r v (inl e) = false≢true cc
 no_number r v (inr e) = false≢true cc
 
@@ -119,11 +117,11 @@ module _ (n : ℤ) (l u f : List ℤ) where
   bound-handed e = record { bound = λ N q m. rw (← e) ((over-bound k R L U).bound N q (member_mended k l u m)) }
 
   -- what an answer carries is what the rows have over
-  carries : (v : ℤ) → Carries (tested (accepts k R L U) (over k R L U)) v → over k R L U ≡ v
+  carries : (v : ℤ) → Carries (Ok (tested (accepts k R L U) (over k R L U))) v → over k R L U ≡ v
   carries v (inl e) = (accepted-means _ _ v e).1
   carries v (inr e) = (not_accepted-means _ _ v e).1
 
-  shaped_means : Bounds k L U → factor_shape k R ≡ true → Meaning n l u f (tested (accepts k R L U) (over k R L U))
+  shaped_means : Bounds k L U → factor_shape k R ≡ true → Meaning n l u f (Ok (tested (accepts k R L U) (over k R L U)))
   shaped_means b s = record {
     definite = λ v e. definite-handed k l u (offered-definite k R L U (of_true s) (of_true (accepted-means _ _ v e).0));
     enough = λ v e. let p = accepted-means _ _ v e in rw (← p.1) (le_of _ _ (sym (accepts-over k R L U) ∙ p.0));
@@ -132,7 +130,7 @@ module _ (n : ℤ) (l u f : List ℤ) where
     bound = λ v c. bound-handed (carries v c);
   }
 
-  refused-means : (r : Refusal) → Meaning n l u f (FactorAnswer.Refused r)
+  refused-means : (r : Refusal) → Meaning n l u f (Err r)
   refused-means r = record {
     definite = λ v e. absurd (false≢true cc);
     enough = λ v e. absurd (false≢true cc);
@@ -144,5 +142,5 @@ module _ (n : ℤ) (l u f : List ℤ) where
   pub tested-means : (sized : Bool) → Meaning n l u f (factor_tested n sized l u f)
   unfolding factor_tested factor_answer
   tested-means sized =
-      entered-means n sized true l u FactorAnswer.Refused _ (Meaning n l u f) refused-means
-      (λ b. after-means FactorAnswer.Refused _ _ (Meaning n l u f) refused-means (λ q. shaped_means (passed-bounds k l u b.tables) (first-passed _ _ q)))
+      entered-means n sized true l u Err _ (Meaning n l u f) refused-means
+      (λ b. after-means Err _ _ (Meaning n l u f) refused-means (λ q. shaped_means (passed-bounds k l u b.tables) (first-passed _ _ q)))

@@ -1,12 +1,11 @@
 -- The residual as an act, R7.5 and R7.6 of docs/RULES.md: checks 1 to 6, and then both of its tables.
 use Rattle.std.specs.Prelude.{Bool, true, ◌&&◌, List, [], ◌∷◌, ℕ, ◌*◌, eqb, ℤ, length}
 use Rattle.tables.specs.Matrix.{Matrix, at, table}
-use Rattle.tables.specs.Checks.{first_refusal, order_of, sizes_ok}
+use Rattle.tables.specs.Checks.{Checked, first_refusal, order_of, sizes_ok}
 use Rattle.tables.specs.Answers.{after}
 use Rattle.tables.specs.Entering.{low_bounds, high_bounds, entered}
 use Rattle.tables.specs.declared.Refusal.{Refusal}
-use Rattle.tables.specs.declared.Checked.{Checked}
-use Rattle.tables.specs.declared.Checked.TheVariants.{Passed, Refused}
+use Rattle.std.specs.Prelude.{Ok, Err}
 use Rattle.residual.specs.Residual.{residual}
 use Rattle.residual.specs.FactorTest.{check_factor}
 
@@ -18,11 +17,11 @@ pub record Tabled : Type 0 where
 
 -- a refusal keeps both (D1.3)
 abbrev pub kept : List ℤ → List ℤ → Refusal → Tabled
-kept a b r = record { checked = Refused r; low = a; high = b }
+kept a b r = record { checked = Err r; low = a; high = b }
 
 -- both tables, of a factor R of order n and bounds L and U
 abbrev pub tables : ℕ → Matrix → Matrix → Matrix → Tabled
-tables n L U R = record { checked = Passed; low = table n (residual n R L); high = table n (residual n R U) }
+tables n L U R = record { checked = Ok tt; low = table n (residual n R L); high = table n (residual n R U) }
 
 -- check 6, and then both; a and b are the lent tables as they were
 unfoldable pub tabled : ℕ → Matrix → Matrix → Matrix → List ℤ → List ℤ → Tabled

@@ -4,32 +4,44 @@ ghost use Rattle.tables.specs.Matrix.{at};
 ghost use Rattle.tables.specs.Bounds.{CheckedTables};
 ghost use Rattle.tables.specs.Entering.{Rooms};
 ghost use Rattle.residual.specs.Residual.{over};
-ghost use Rattle.residual.specs.FactorTest.{factor_answer, factor_test, factor_code, Meaning};
+ghost use Rattle.residual.specs.FactorTest.{factor_answer, factor_test, factor_number, carried, Meaning};
 ghost use Rattle.residual.specs.Scratch.{Offer};
 
 use crate::offered::factor_shape;
 use crate::residual::turn;
 use crate::row_test::least_over;
-use tables::entering::{enter, order_of};
-use tables::{Checked, GREATEST_ORDER, Refusal, TABLE_ROOM, Table};
+use tables::entering::{enter, order};
+use tables::{Answer, GREATEST_ORDER, Refusal, TABLE_ROOM, Table};
 
-// What the factor test answers: accepted, with what the rows have over, which is 0 or more; not accepted, with what they have over, which
-// is negative; or a refusal.
-#[derive(Clone, Copy)]
+// What the factor test answers: accepted, with what the rows have over, which is 0 or more; or not accepted, with what they have over,
+// which is negative.
+#[derive(Clone, Copy, Debug, PartialEq, Eq)]
 pub enum FactorAnswer {
     Accepted(i64),
     NotAccepted(i64),
-    Refused(Refusal),
 }
 
-// An answer's number at a C entry: 0 accepted, -1 not accepted, else the refusal's.
-pub fn factor_code(a: FactorAnswer) -> i64
-    ensures { result ≡ factor_code a }
-{
-    match a {
-        FactorAnswer::Accepted(_) => 0,
-        FactorAnswer::NotAccepted(_) => -1,
-        FactorAnswer::Refused(r) => tables::refusal_number(r) as i64,
+impl FactorAnswer {
+    // What the rows have over.
+    pub fn over(self) -> i64
+        ensures { result ≡ carried self }
+    {
+        match self {
+            FactorAnswer::Accepted(v) => v,
+            FactorAnswer::NotAccepted(v) => v,
+        }
+    }
+}
+
+// At a C entry accepted is 0, and not accepted -1.
+impl Answer for FactorAnswer {
+    ghost code = { factor_number };
+
+    fn code(self) -> i64 {
+        match self {
+            FactorAnswer::Accepted(_) => 0,
+            FactorAnswer::NotAccepted(_) => -1,
+        }
     }
 }
 
@@ -47,36 +59,40 @@ pub fn over(n: usize, low: &mut Table, high: &mut Table, factor: &[i64]) -> i64
 }
 
 // Check 6, and the residual test, of bounds and a factor of order n. The residual is left in the scratch tables of the bounds.
-pub fn answer(n: usize, low: &mut Table, high: &mut Table, factor: &[i64]) -> FactorAnswer
+pub fn answer(
+    n: usize,
+    low: &mut Table,
+    high: &mut Table,
+    factor: &[i64],
+) -> Result<FactorAnswer, Refusal>
     requires { CheckedTables n low.old high.old × Rooms low.old high.old × (n * n ≤ length factor.now) × (0 < n) }
     ensures { result ≡ factor_answer n (at n low.old) (at n high.old) (at n factor.now) }
 {
     if !factor_shape(n, factor) {
-        return FactorAnswer::Refused(Refusal::Factor);
+        return Err(Refusal::Factor);
     }
     let v = over(n, low, high, factor);
     if v < 0 {
-        return FactorAnswer::NotAccepted(v);
+        return Ok(FactorAnswer::NotAccepted(v));
     }
-    FactorAnswer::Accepted(v)
+    Ok(FactorAnswer::Accepted(v))
 }
 
 // The factor test, of any numbers at all: n is an order or not, and each slice has any length.
 // Refused by the first of the checks 1 to 6 that fails; else accepted or not, by the residual test, with what the rows have over.
-pub fn test_factor(n: i64, low: &[i64], high: &[i64], factor: &[i64]) -> FactorAnswer
+pub fn test_factor(
+    n: i64,
+    low: &[i64],
+    high: &[i64],
+    factor: &[i64],
+) -> Result<FactorAnswer, Refusal>
     ensures exact { result ≡ factor_test n low.now high.now factor.now }
     ensures meaning { Meaning n low.now high.now factor.now result }
 {
-    let m = order_of(n);
-    if m == 0 {
-        return FactorAnswer::Refused(Refusal::Order);
-    }
+    let m = order(n)?;
     let sized = tables::sizes_ok(m * m, m * m, low.len(), high.len(), factor.len());
     let mut l = [0i64; TABLE_ROOM];
     let mut u = [0i64; TABLE_ROOM];
-    let checked = enter(n, sized, true, low, high, &mut l, &mut u);
-    if let Checked::Refused(r) = checked {
-        return FactorAnswer::Refused(r);
-    }
+    enter(n, sized, true, low, high, &mut l, &mut u)?;
     answer(m, &mut l, &mut u, factor)
 }

@@ -28,12 +28,10 @@ fn row_shape(n: usize, factor: &[i64], i: usize) -> bool
     requires { (n ≤ greatest_order) × (i < n) × (n * n ≤ length factor.now) }
     ensures { result ≡ all n (λ j. factor_entry i j (at n factor.now i j)) }
 {
-    let mut j = 0;
-    while j < n {
+    for j in 0..n {
         if !entry_shape(i, j, factor[i * n + j]) {
             return false;
         }
-        j += 1;
     }
     true
 }
@@ -43,12 +41,10 @@ pub fn factor_shape(n: usize, factor: &[i64]) -> bool
     requires { (n ≤ greatest_order) × (n * n ≤ length factor.now) }
     ensures { result ≡ factor_shape n (at n factor.now) }
 {
-    let mut i = 0;
-    while i < n {
+    for i in 0..n {
         if !row_shape(n, factor, i) {
             return false;
         }
-        i += 1;
     }
     true
 }

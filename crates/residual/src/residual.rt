@@ -11,8 +11,8 @@ ghost use Rattle.residual.specs.Scratch.{Unturned, UnturnedColumn, turned_pair, 
 
 use crate::offered::factor_shape;
 use cholesky::scaling::SCALE;
-use tables::entering::{enter, order_of};
-use tables::{Checked, Refusal, TABLE_ROOM, Table};
+use tables::entering::{enter, order};
+use tables::{Refusal, TABLE_ROOM, Table};
 
 // P(i,j), for i ≤ j: the factor's entries below the diagonal are 0.
 fn product(n: usize, factor: &[i64], i: usize, j: usize) -> i64
@@ -20,10 +20,8 @@ fn product(n: usize, factor: &[i64], i: usize, j: usize) -> i64
     ensures { result ≡ gram_at (at n factor.now) i j }
 {
     let mut s: i64 = 0;
-    let mut k = 0;
-    while k <= i {
+    for k in 0..i + 1 {
         s += tables::entry(n, factor, k, i) * tables::entry(n, factor, k, j);
-        k += 1;
     }
     s
 }
@@ -46,12 +44,10 @@ fn turn_column(n: usize, factor: &[i64], j: usize, low: &mut Table, high: &mut T
     ensures { (low.new ≡ turned_column n (at n factor.now) low.old j (suc j)) ×
         (high.new ≡ turned_column n (at n factor.now) high.old j (suc j)) }
 {
-    let mut i = 0;
-    while i <= j {
+    for i in 0..j + 1 {
         let p = product(n, factor, i, j);
         turn_pair(n, low, i, j, p);
         turn_pair(n, high, i, j, p);
-        i += 1;
     }
 }
 
@@ -61,10 +57,8 @@ pub fn turn(n: usize, factor: &[i64], low: &mut Table, high: &mut Table)
     ensures { (low.new ≡ turned n (at n factor.now) low.old n) × (high.new ≡ turned n
         (at n factor.now) high.old n) }
 {
-    let mut j = 0;
-    while j < n {
+    for j in 0..n {
         turn_column(n, factor, j, low, high);
-        j += 1;
     }
 }
 
@@ -76,7 +70,7 @@ fn write_residual(
     factor: &[i64],
     low_residual: &mut [i64],
     high_residual: &mut [i64],
-) -> Checked
+) -> Result<(), Refusal>
     requires { CheckedTables n low.old high.old × Rooms low.old high.old × (n * n ≤ length factor.now) × (length
         low_residual.old ≡ n * n) × (length high_residual.old ≡ n * n) }
     ensures { ◌≡◌ {A = Tabled} (record {
@@ -95,11 +89,7 @@ fn write_residual(
     }
     tables::copy_numbers(written, low, low_residual);
     tables::copy_numbers(written, high, high_residual);
-    if shaped {
-        Checked::Passed
-    } else {
-        Checked::Refused(Refusal::Factor)
-    }
+    if shaped { Ok(()) } else { Err(Refusal::Factor) }
 }
 
 // Whether the tables of a call have their size.
@@ -126,7 +116,7 @@ pub fn residual(
     factor: &[i64],
     low_residual: &mut [i64],
     high_residual: &mut [i64],
-) -> Checked
+) -> Result<(), Refusal>
     ensures exact { ◌≡◌ {A = Tabled} (record {
       checked = result;
       low = low_residual.new;
@@ -134,10 +124,7 @@ pub fn residual(
     }) (residual_act n low.now high.now factor.now low_residual.old
         high_residual.old) }
 {
-    let m = order_of(n);
-    if m == 0 {
-        return Checked::Refused(Refusal::Order);
-    }
+    let m = order(n)?;
     let sized = sizes_ok(
         m * m,
         low.len(),
@@ -148,9 +135,6 @@ pub fn residual(
     );
     let mut l = [0i64; TABLE_ROOM];
     let mut u = [0i64; TABLE_ROOM];
-    let checked = enter(n, sized, true, low, high, &mut l, &mut u);
-    if let Checked::Refused(r) = checked {
-        return Checked::Refused(r);
-    }
+    enter(n, sized, true, low, high, &mut l, &mut u)?;
     write_residual(m, &mut l, &mut u, factor, low_residual, high_residual)
 }

@@ -32,10 +32,8 @@ fn row_over(n: usize, low: &Table, high: &Table, i: usize) -> i64
     ensures { result ≡ row_over n (at n low.now) (at n high.now) i }
 {
     let mut over = low[i * n + i] + radius_at(n, low, high, i, i);
-    let mut j = 0;
-    while j < n {
+    for j in 0..n {
         over -= radius_at(n, low, high, i, j);
-        j += 1;
     }
     over
 }
@@ -46,13 +44,11 @@ pub fn least_over(n: usize, low: &Table, high: &Table) -> i64
     ensures { result ≡ least_over n (at n low.now) (at n high.now) }
 {
     let mut least = row_over(n, low, high, 0);
-    let mut i = 1;
-    while i < n {
+    for i in 1..n {
         let over = row_over(n, low, high, i);
         if over < least {
             least = over;
         }
-        i += 1;
     }
     least
 }

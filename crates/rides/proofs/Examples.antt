@@ -18,7 +18,7 @@ use Rattle.tables.specs.declared.Refusal.TheVariants as Refused
 use Rattle.tables.specs.declared.problem.Constraint.{Constraint}
 use Rattle.floats.specs.Brackets.{signed, units_of, sixteenth, finite_within, in_range, whole_next_to}
 use Rattle.sums.specs.Sums.{plus, sums_within}
-use Rattle.sums.specs.Sums as Outcome
+use Rattle.std.specs.Prelude.{Ok, Err}
 use Rattle.sums.specs.Halving.{halved, added_in, fitted}
 use Rattle.samples.specs.declared.sample.Sample.{Sample}
 use Rattle.samples.specs.Samples.{sample_fits}
@@ -64,10 +64,10 @@ drawn = sample (fin false 1 (pos 1))
 -- Sums of nothing; sums from 3 to 8 and from 1 to 5, which are mended to 3 to 5 in both places, and from 6 to 8 and from 1 to 5, which leave no number;
 -- and sums of which one half is -2^20 and the other 0: mended they are sums of nothing, and the half that is mended away would have left its range.
 taken :
-    (gathered drawn no_sums ≡ Outcome.taken (summed low high))
-    × (gathered drawn (apart 1 (pos 3) (pos 1) (pos 8) (pos 5)) ≡ Outcome.taken (summed (halves low 1 (pos 3) (pos 3)) (halves high 1 (pos 21) (pos 21))))
-    × (gathered drawn (apart 1 (pos 6) (pos 1) (pos 8) (pos 5)) ≡ Outcome.refused Refused.Lopsided)
-    × (gathered drawn (apart 2 (negsuc 1048575) (pos 0) (pos 0) (pos 0)) ≡ Outcome.taken (summed low high))
+    (gathered drawn no_sums ≡ Ok (summed low high))
+    × (gathered drawn (apart 1 (pos 3) (pos 1) (pos 8) (pos 5)) ≡ Ok (summed (halves low 1 (pos 3) (pos 3)) (halves high 1 (pos 21) (pos 21))))
+    × (gathered drawn (apart 1 (pos 6) (pos 1) (pos 8) (pos 5)) ≡ Err Refused.Lopsided)
+    × (gathered drawn (apart 2 (negsuc 1048575) (pos 0) (pos 0) (pos 0)) ≡ Ok (summed low high))
     × (sums_within (plus (gains_of drawn) (apart 2 (negsuc 1048575) (pos 0) (pos 0) (pos 0))) ≡ false)
 unfolding gathering gains plus fitted added_in halved sums_within sample_fits no_sums constraint_entered entered after first_refusal entry_checks bounds_checks ends_checks
     order_ok order_of within all_within linear_within tables_within nowhere_crossed mended_by all at table tabulate
@@ -81,13 +81,13 @@ first v = constraint_of 4 (set no_sums.low 0 v) (set no_sums.high 0 v) no_sums.l
 abbrev rolling : Sample
 rolling = let none = fin false 0 (pos 0) in record { rolling = fin false 1 (pos 0); climb = none; air = none; start = none; draw = none }
 
-halved-first : gathered rolling (first (pos 1048576)) ≡ Outcome.taken (first (pos 524544))
+halved-first : gathered rolling (first (pos 1048576)) ≡ Ok (first (pos 524544))
 unfolding gathering gains plus fitted added_in halved sums_within sample_fits no_sums constraint_entered entered after first_refusal entry_checks bounds_checks ends_checks
     order_ok order_of within all_within linear_within tables_within nowhere_crossed mended_by all at table tabulate
     signed units_of sixteenth finite_within in_range whole_next_to floor_div ceil_div min_ℤ max_ℤ
 halved-first = refl
 
 -- a draw that is no number
-refused : gathered (sample nan) no_sums ≡ Outcome.refused Refused.Sample
+refused : gathered (sample nan) no_sums ≡ Err Refused.Sample
 unfolding gathering sample_fits all finite_within in_range
 refused = refl

@@ -1,6 +1,6 @@
 -- Gathering into lent buffers: the sizes of the buffers, and the checks behind these.
-use mathlib.Core.Path.{◌≡◌, sym}
-use mathlib.Core.Bool.{Bool, true, ◌&&◌}
+use mathlib.Core.Path.{◌≡◌, sym, ◌∙◌}
+use mathlib.Core.Bool.{Bool, true, false≢true, ◌&&◌}
 use Prim.Native.Nat.{ℕ, ◌*◌}
 use lib.Dec.{eqb}
 use lib.IntN.{ℤ}
@@ -12,11 +12,17 @@ use Rattle.tables.specs.declared.problem.Constraint.{Constraint}
 use Rattle.tables.specs.declared.problem.Sizes.{Sizes}
 use Rattle.tables.specs.declared.problem.Lengths.{Lengths}
 use Rattle.tables.proofs.Checks.{and_left, and_right}
+use Rattle.tables.proofs.Admission.{order-none}
 use Rattle.tables.proofs.Problems.{constraint_sized_lem, constraint_sizes-of}
 use Rattle.floats.specs.declared.Neighbours.{Neighbours}
-use Rattle.sums.specs.Sums.{refused, terms_in}
+use Rattle.std.specs.Prelude.{Err}
+use Rattle.sums.specs.Sums.{terms_in}
 use Rattle.samples.specs.Samples.{factor_count}
 use Rattle.samples.specs.Gathering.{sums_sized, added_within, checked_sums, entered_sums}
+
+-- ---- check 1
+pub order_given : (n : ℤ) → order_ok n ≡ true → order_of n ≡ 0 → ⊥
+order_given n o z = false≢true (sym (order-none n z) ∙ o)
 
 -- ---- check 2
 pub record SumsSizes (unit n : ℕ) (b : Lengths) (α : ℕ) : Type 0 where
@@ -45,4 +51,4 @@ sums-sizes-of unit n b α e =
 -- where n is an order and the buffers have their sizes, 3, 4, 5, 16 and 18 are all that is left to ask
 pub sums-sized : (F : ℕ → Neighbours) (D : Neighbours) (n : ℤ) (sized : Bool) (c : Constraint) → order_ok n ≡ true → sized ≡ true → c.order ≡ order_of n → checked_sums F D c ≡ entered_sums F D n sized c
 unfolding checked_sums
-sums-sized F D n sized c o z e = sym (constraint_sized_lem refused n sized (terms_in (within limit_range c.limit) c) c (added_within F D c) o z e)
+sums-sized F D n sized c o z e = sym (constraint_sized_lem Err n sized (terms_in (within limit_range c.limit) c) c (added_within F D c) o z e)

@@ -15,7 +15,7 @@ use Rattle.tables.specs.declared.problem.Constraint.{Constraint}
 use Rattle.sums.specs.Sums.{Outcome}
 use Rattle.sums.specs.Lent.{Lent, laid_sums, sums_of}
 use Rattle.sums.specs.Explaining.{Explained}
-use Rattle.sums.specs.declared.Gathered.TheVariants as Gathered
+use Rattle.std.specs.Prelude.{Ok}
 use Rattle.sums.proofs.Explained.{mended_explains, fitted-ordered}
 use Rattle.sums.proofs.Laying.{laid_answer}
 use Rattle.samples.specs.declared.sample.Sample.{Sample}
@@ -37,7 +37,7 @@ pub gather-means : (s : Sample) → Narrow s → (n : ℤ) (b : Lent (List ℤ))
 unfolding gather tabulate
 gather-means s narrow n b = record {
   explains =
-      by_outcome s n sized c (λ (o : Outcome). let j = laid_sums (λ t. t) (λ x. x) (λ α. tabulate 1 (λ i. α)) o b in j.answer ≡ Gathered.Taken → Explaining s c (sums_of (order_of n) j.sums))
+      by_outcome s n sized c (λ (o : Outcome). let j = laid_sums (λ t. t) (λ x. x) (λ α. tabulate 1 (λ i. α)) o b in j.answer ≡ Ok tt → Explaining s c (sums_of (order_of n) j.sums))
       (λ z d f q u v w X p P. by_order d (fitted-ordered (gains_of s) (mended_constraint c) f)
       (added_explains s X p (mended_constraint c) (sums-sizes-of _ _ _ _ z).order (≤ℤ_trans (pos_nonneg 1) w) (mended_explains c P) f))
       (λ r q. absurd (false≢true cc));

@@ -15,7 +15,8 @@ use Rattle.tables.proofs.Checks.{and_right, within_of}
 use Rattle.tables.proofs.Problems.{constraint_means, constraint_sized_lem}
 use Rattle.enclosure.specs.Points.{Allowed}
 use Rattle.sums.specs.Sums.{terms_in}
-use Rattle.rides.specs.declared.reading.Reading.{Reading}
+use Rattle.std.specs.Prelude.{Result, Ok, Err}
+use Rattle.tables.specs.declared.Refusal.{Refusal}
 use Rattle.rides.specs.Reading.{allowance_range, limits_in, read_limit, checked_reading, read_sums, ReadingMeaning}
 use Rattle.rides.proofs.Wanted.{allowed}
 
@@ -28,13 +29,13 @@ limit_fits K α e =
 -- where n is an order and the buffers have their sizes, 3, 4, 5 and 16 are all that is left to ask
 pub reading-sized : (n : ℤ) (sized : Bool) (K : ℤ) (c : Constraint) → order_ok n ≡ true → sized ≡ true → c.order ≡ order_of n → checked_reading K c ≡ read_sums n sized K c
 unfolding checked_reading read_sums
-reading-sized n sized K c o z e = sym (constraint_sized_lem Reading.Refused n sized (terms_in (limits_in K c.limit) c) c (read_limit K c) o z e)
+reading-sized n sized K c o z e = sym (constraint_sized_lem Err n sized (terms_in (limits_in K c.limit) c) c (read_limit K c) o z e)
 
 -- so a limit that is handed out fits
-pub reading_fits : (n : ℤ) (sized : Bool) (K : ℤ) (c : Constraint) (α : ℤ) → read_sums n sized K c ≡ Reading.Limit α → SFits w64 α
+pub reading_fits : (n : ℤ) (sized : Bool) (K : ℤ) (c : Constraint) (α : ℤ) → read_sums n sized K c ≡ Ok α → SFits w64 α
 unfolding read_sums
 reading_fits n sized K c =
-    constraint_means Reading.Refused n sized _ c (read_limit K c) (λ (r : Reading). (α : ℤ) → r ≡ Reading.Limit α → SFits w64 α)
+    constraint_means Err n sized _ c (read_limit K c) (λ (r : Result ℤ Refusal). (α : ℤ) → r ≡ Ok α → SFits w64 α)
     (λ r α e. absurd (false≢true cc))
     (λ b α e.
     let f : (K +ℤ c.limit) ≡ α = cc in
@@ -44,7 +45,7 @@ reading_fits n sized K c =
 pub reading-means : (n : ℤ) (sized : Bool) (K : ℤ) (c : Constraint) → ReadingMeaning (read_sums n sized K c) K c
 unfolding read_sums
 reading-means n sized K c =
-    constraint_means Reading.Refused n sized _ c (read_limit K c) (λ (r : Reading). ReadingMeaning r K c)
+    constraint_means Err n sized _ c (read_limit K c) (λ (r : Result ℤ Refusal). ReadingMeaning r K c)
     (λ r. record { allows = λ α e. absurd (false≢true cc) })
     (λ b. record {
       allows = λ α e u v whole h X p one P.

@@ -26,7 +26,8 @@ use Rattle.enclosure.specs.Act.{laid_sides}
 use Rattle.enclosure.specs.declared.enclose.BoxAnswer.TheVariants as BoxAnswer
 use Rattle.enclosure.proofs.BoxMeanings.{boxing-means}
 use Rattle.floats.specs.Brackets.{sixteenth}
-use Rattle.sums.specs.Sums.{Outcome, taken, refused, terms_in, allowing}
+use Rattle.sums.specs.Sums.{Outcome, terms_in, allowing}
+use Rattle.std.specs.Prelude.{Ok, Err}
 use Rattle.sums.specs.Halving.{fitted}
 use Rattle.sums.specs.Explaining.{Explained}
 use Rattle.sums.proofs.Explained.{whole-*, mended_explains, fitted-ordered}
@@ -80,16 +81,16 @@ abbrev pub with_sample : Sample → Constraint → Outcome
 with_sample s c = fitted (gains_of s) (mended_constraint c)
 
 module _ (s : Sample) (n : ℤ) (sized : Bool) (c : Constraint) where
-  pub by_outcome : (P : Outcome → Type 0) → (sized ≡ true → (d : Constraint) → with_sample s c ≡ taken d → P (taken d)) → ((r : Refusal) → P (refused r)) → P (gathering s n sized c)
+  pub by_outcome : (P : Outcome → Type 0) → (sized ≡ true → (d : Constraint) → with_sample s c ≡ Ok d → P (Ok d)) → ((r : Refusal) → P (Err r)) → P (gathering s n sized c)
   unfolding gathering
   by_outcome P f g = go (sample_fits s)
     where
       last : sized ≡ true → (o : Outcome) → with_sample s c ≡ o → P o
-      last z (taken d) e = f z d e
-      last z (refused r) e = g r
+      last z (Ok d) e = f z d e
+      last z (Err r) e = g r
 
-      go : (b : Bool) → P (elim b as (λ z. Outcome) [ true ↦ entered_sums (factor_next s) (draw_next s) n sized c | false ↦ refused Refused.Sample ])
-      go true = constraint_means refused n sized (terms_in (within limit_range c.limit) c) c (with_sample s c) P g (λ d. last d.sizes (with_sample s c) refl)
+      go : (b : Bool) → P (elim b as (λ z. Outcome) [ true ↦ entered_sums (factor_next s) (draw_next s) n sized c | false ↦ Err Refused.Sample ])
+      go true = constraint_means Err n sized (terms_in (within limit_range c.limit) c) c (with_sample s c) P g (λ d. last d.sizes (with_sample s c) refl)
       go false = g Refused.Sample
 
 -- ---- no sample: the sums of zeros explain 0 at every point
@@ -136,7 +137,7 @@ module _ (X : ℕ → ℤ) (p : ℤ) (whole : pos 1 ≤ℤ p) where
   abbrev σ : Sample → ℤ
   σ s = misfit s X p *ℤ misfit s X p
 
-  taken_explained : (s : Sample) (c : Constraint) → c.order ≡ factor_count → (u : ℤ) → Explained c u Z X p → {d : Constraint} → with_sample s c ≡ taken d → Explained d (u +ℤ σ s) Z X p
+  taken_explained : (s : Sample) (c : Constraint) → c.order ≡ factor_count → (u : ℤ) → Explained c u Z X p → {d : Constraint} → with_sample s c ≡ Ok d → Explained d (u +ℤ σ s) Z X p
   taken_explained s c e u P {d} q =
       reduced d Z one-Z
       (subst (λ (z : ℤ). Explained d z (Z *ℤ Z) X p) (ring (u ∷ Z ∷ misfit s X p ∷ []) (search solver depth 40 fits 20000) refl)
@@ -171,7 +172,7 @@ module _ (X : ℕ → ℤ) (p : ℤ) (whole : pos 1 ≤ℤ p) where
   pub gathered-boxed : (ss : List Sample) (K : ℤ) → squares ss no_sums X p ≤ℤ (K *ℤ Z) → (sized : Bool) (centre sides : List ℤ) →
       (let c = allowing K (gathered_all ss no_sums) in
       let j = laid_sides (λ x. x) (boxing (pos factor_count) sized (record { constraint = c; centre = centre })) sides in
-      (j.answer ≡ BoxAnswer.Sides → Contains factor_count j.sides X p) × (j.answer ≡ BoxAnswer.Empty → ⊥))
+      (j.answer ≡ Ok BoxAnswer.Sides → Contains factor_count j.sides X p) × (j.answer ≡ Ok BoxAnswer.Empty → ⊥))
   unfolding order_of order_ok no_sums
   gathered-boxed ss K h sized centre sides =
       let g = gathered_all ss no_sums in

@@ -1,14 +1,13 @@
 -- R22.6 and R15 of docs/RULES.md: the gathering act over the lent sums: what it answers, how it leaves each buffer, and what that means.
-use Rattle.std.specs.Prelude.{◌≡◌, List, ℕ, ℤ, pos, ◌+ℤ◌, ◌*ℤ◌, ◌≤ℤ◌, length}
+use Rattle.std.specs.Prelude.{◌≡◌, List, ℕ, ℤ, pos, ◌+ℤ◌, ◌*ℤ◌, ◌≤ℤ◌, length, Ok, Err}
 use Rattle.tables.specs.Matrix.{tabulate}
-use Rattle.tables.specs.Checks.{order_of}
+use Rattle.tables.specs.Checks.{Checked, order_of}
 use Rattle.tables.specs.Problem.{lengths_of}
 use Rattle.tables.specs.declared.Refusal.TheVariants.{Full}
 use Rattle.tables.specs.declared.problem.Constraint.{Constraint}
 use Rattle.floats.specs.Brackets.{sixteenth}
 use Rattle.sums.specs.Lent.{Lent, Left, laid_sums, sums_of}
 use Rattle.sums.specs.Explaining.{Explained}
-use Rattle.sums.specs.declared.Gathered.{Gathered}
 use Rattle.samples.specs.declared.sample.Sample.{Sample}
 use Rattle.samples.specs.Gathering.{sums_sized, gathering}
 use Rattle.samples.specs.Explaining.{misfit}
@@ -29,6 +28,6 @@ Explaining s c d =
     (let z = p *ℤ p *ℤ (sixteenth *ℤ sixteenth) in Explained d (u *ℤ z +ℤ misfit s X p *ℤ misfit s X p *ℤ v) (v *ℤ z) X p)
 
 -- what an answer means of the sums c before it and d after it; and R23.7: it is never 18
-pub record Meaning (s : Sample) (r : Gathered) (c d : Constraint) : Type 0 where
-  pub explains : r ≡ Gathered.Taken → Explaining s c d
-  pub room : r ≡ Gathered.Refused Full → ⊥
+pub record Meaning (s : Sample) (r : Checked) (c d : Constraint) : Type 0 where
+  pub explains : r ≡ Ok tt → Explaining s c d
+  pub room : r ≡ Err Full → ⊥

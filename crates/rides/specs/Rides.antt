@@ -1,9 +1,9 @@
 -- R23 of docs/RULES.md: samples gathered one after the other.
-use Rattle.std.specs.Prelude.{List, [], ◌∷◌, ℕ, ℤ, pos, ◌+ℤ◌, ◌*ℤ◌, true}
+use Rattle.std.specs.Prelude.{List, [], ◌∷◌, ℕ, ℤ, pos, ◌+ℤ◌, ◌*ℤ◌, true, Ok, Err}
 use Rattle.tables.specs.Matrix.{table, tabulate}
 use Rattle.tables.specs.Problem.{constraint_of}
 use Rattle.tables.specs.declared.problem.Constraint.{Constraint}
-use Rattle.sums.specs.Sums.{Outcome, taken, refused}
+use Rattle.sums.specs.Sums.{Outcome}
 use Rattle.samples.specs.declared.sample.Sample.{Sample}
 use Rattle.samples.specs.Samples.{factor_count}
 use Rattle.samples.specs.Gathering.{gathering}
@@ -23,8 +23,8 @@ gathered s c = gathering s (pos factor_count) true c
 
 -- the sums as a sample leaves them: a refused one leaves them as they are
 unfoldable pub sums_after : Constraint → Outcome → Constraint
-sums_after c (taken d) = d
-sums_after c (refused r) = c
+sums_after c (Ok d) = d
+sums_after c (Err r) = c
 
 -- the sums after samples, one after the other
 unfoldable pub gathered_all : List Sample → Constraint → Constraint
@@ -33,8 +33,8 @@ gathered_all (s ∷ ss) c = gathered_all ss (sums_after c (gathered s c))
 
 -- x where the sample was taken, and 0 where it was refused
 unfoldable pub if_taken : Outcome → ℤ → ℤ
-if_taken (taken d) x = x
-if_taken (refused r) x = pos 0
+if_taken (Ok d) x = x
+if_taken (Err r) x = pos 0
 
 -- the squares of 16·draw − 16·factors·x of all samples that were taken, added up, times the square of `sixteenth` and of p
 unfoldable pub squares : List Sample → Constraint → (ℕ → ℤ) → ℤ → ℤ

@@ -11,11 +11,10 @@ ghost use Rattle.rides.specs.Act.{gather, Meaning};
 
 use samples::adding::add_checked;
 use samples::checking::sums_sized;
-use samples::sample::{FACTOR_COUNT, Measured, Measures, PRODUCT_COUNT, Sample, measure};
+use samples::sample::{FACTOR_COUNT, Measures, PRODUCT_COUNT, Sample, measure};
 use sums::copying::copy_sums;
-use sums::{Gathered, Summed};
 use tables::Refusal;
-use tables::entering::order_of;
+use tables::entering::order;
 use tables::problem::lengths_of;
 
 // The checks behind 17, and the addition, of a sample whose numbers lie between those of m.
@@ -27,7 +26,7 @@ fn gather_measured(
     from: &mut [i64],
     to: &mut [i64],
     limit: &mut [i64],
-) -> Gathered
+) -> Result<(), Refusal>
     requires { MeasuresNear m }
     ensures { ◌≡◌ {A = Left (List ℤ)} (record {
       answer = result;
@@ -48,13 +47,10 @@ fn gather_measured(
           limit = limit.old;
         })) }
 {
-    let order = order_of(n);
-    if order == 0 {
-        return Gathered::Refused(Refusal::Order);
-    }
+    let order = order(n)?;
     let lengths = lengths_of(low.len(), high.len(), from.len(), to.len());
     if !sums_sized(1, order, lengths, limit.len()) {
-        return Gathered::Refused(Refusal::Length);
+        return Err(Refusal::Length);
     }
     let mut l = [0i64; PRODUCT_COUNT];
     let mut u = [0i64; PRODUCT_COUNT];
@@ -71,15 +67,10 @@ fn gather_measured(
         &mut a,
         &mut b,
     );
-    let summed = add_checked(m, limit[0], &mut l, &mut u, &mut a, &mut b);
-    match summed {
-        Summed::Within(sum) => {
-            copy_sums(FACTOR_COUNT, &l, &u, &a, &b, low, high, from, to);
-            limit[0] = sum;
-            Gathered::Taken
-        }
-        Summed::Refused(r) => Gathered::Refused(r),
-    }
+    let sum = add_checked(m, limit[0], &mut l, &mut u, &mut a, &mut b)?;
+    copy_sums(FACTOR_COUNT, &l, &u, &a, &b, low, high, from, to);
+    limit[0] = sum;
+    Ok(())
 }
 
 // Gathers a sample into running sums, of any numbers at all: n is an order or not, and each slice has any length; the running limit is the
@@ -93,7 +84,7 @@ pub fn gather(
     from: &mut [i64],
     to: &mut [i64],
     limit: &mut [i64],
-) -> Gathered
+) -> Result<(), Refusal>
     ensures exact { ◌≡◌ {A = Left (List ℤ)} (record {
       answer = result;
       sums = record {
@@ -125,9 +116,6 @@ pub fn gather(
       limit = limit.new;
     })) }
 {
-    let measured = measure(sample);
-    match measured {
-        Measured::Inside(m) => gather_measured(m, n, low, high, from, to, limit),
-        Measured::Outside => Gathered::Refused(Refusal::Sample),
-    }
+    let measures = measure(sample).ok_or(Refusal::Sample)?;
+    gather_measured(measures, n, low, high, from, to, limit)
 }

@@ -3,32 +3,15 @@ ghost use Rattle.std.specs.Prelude.{◌≡◌, ◌*◌, ◌≤◌, length};
 ghost use Rattle.tables.specs.Ranges.{greatest_order};
 ghost use Rattle.tables.specs.Checks.{order_of};
 ghost use Rattle.tables.specs.Problem.{constraint_of, lengths_of, constraint_sized};
-ghost use Rattle.rides.specs.Reading.{limits_in, checked_reading, read_sums, reading_code, ReadingMeaning};
+ghost use Rattle.rides.specs.Reading.{limits_in, checked_reading, read_sums, ReadingMeaning};
 
 use sums::checking::check_sums;
-use tables::entering::order_of;
+use tables::entering::order;
 use tables::problem::{Sizes, constraint_sized, lengths_of};
-use tables::{Checked, LIMIT_RANGE, Refusal, within};
+use tables::{LIMIT_RANGE, Refusal, within};
 
 // An allowance is from 0 to this.
 pub const ALLOWANCE_RANGE: i64 = 1 << 40;
-
-// What reading sums answers: the limit of the problem that they are with the allowance, or a refusal.
-#[derive(Drop)]
-pub enum Reading {
-    Limit(i64),
-    Refused(Refusal),
-}
-
-// An answer's number at a C entry: 0 a limit, else the refusal's.
-pub fn reading_code(a: Reading) -> i64
-    ensures { result ≡ reading_code a }
-{
-    match a {
-        Reading::Limit(limit) => 0,
-        Reading::Refused(r) => tables::refusal_number(r) as i64,
-    }
-}
 
 // Check 3, of the running limit, the allowance and their sum: each is compared before it is added.
 fn limits_in(allowance: i64, running: i64) -> bool
@@ -55,16 +38,13 @@ pub fn read_checked(
     to: &[i64],
     running: i64,
     allowance: i64,
-) -> Reading
+) -> Result<i64, Refusal>
     requires { (n ≤ greatest_order) × (n * n ≤ length low.now) × (n * n ≤ length high.now) × (n ≤ length from.now)
         × (n ≤ length to.now) }
     ensures { result ≡ checked_reading allowance (constraint_of n low.now high.now from.now to.now running) }
 {
-    let checked = check_sums(n, limits_in(allowance, running), low, high, from, to);
-    match checked {
-        Checked::Passed => Reading::Limit(allowance + running),
-        Checked::Refused(r) => Reading::Refused(r),
-    }
+    check_sums(n, limits_in(allowance, running), low, high, from, to)?;
+    Ok(allowance + running)
 }
 
 // Reads running sums of any order with an allowance, of any numbers at all: the limit of the problem that they are, whose bounds and linear
@@ -77,24 +57,21 @@ pub fn read_sums(
     to: &[i64],
     running: i64,
     allowance: i64,
-) -> Reading
+) -> Result<i64, Refusal>
     ensures exact { result ≡ read_sums n (constraint_sized (record { table = order_of n * order_of n; vector = order_of n })
         (lengths_of (length low.now) (length high.now) (length from.now)
         (length to.now))) allowance
         (constraint_of (order_of n) low.now high.now from.now to.now running) }
     ensures meaning { ReadingMeaning result allowance (constraint_of (order_of n) low.now high.now from.now to.now running) }
 {
-    let m = order_of(n);
-    if m == 0 {
-        return Reading::Refused(Refusal::Order);
-    }
+    let m = order(n)?;
     let sizes = Sizes {
         table: m * m,
         vector: m,
     };
     let lengths = lengths_of(low.len(), high.len(), from.len(), to.len());
     if !constraint_sized(sizes, lengths) {
-        return Reading::Refused(Refusal::Length);
+        return Err(Refusal::Length);
     }
     read_checked(m, low, high, from, to, running, allowance)
 }

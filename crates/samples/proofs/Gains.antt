@@ -19,7 +19,7 @@ use Rattle.tables.proofs.Matrix.{at_table, nth-tabulate}
 use Rattle.floats.specs.Brackets.{sixteenth, whole_next_to}
 use Rattle.floats.specs.declared.Neighbours.{Neighbours}
 use Rattle.floats.proofs.Next.{NextTo, next-to}
-use Rattle.sums.specs.Sums.{taken}
+use Rattle.std.specs.Prelude.{Ok}
 use Rattle.sums.specs.Halving.{fitted}
 use Rattle.sums.specs.Explaining.{Explained}
 use Rattle.sums.proofs.Explained.{whole-*, fitted_explains}
@@ -145,7 +145,7 @@ module _ (s : Sample) (X : ℕ → ℤ) (p : ℤ) where
       }
 
   -- sums with the sample in them explain, beside what they did, the square of how far it is
-  pub added_explains : (c : Constraint) → c.order ≡ factor_count → {u v : ℤ} → pos 0 ≤ℤ v → Explained c u v X p → {d : Constraint} → fitted (gains_of s) c ≡ taken d →
+  pub added_explains : (c : Constraint) → c.order ≡ factor_count → {u v : ℤ} → pos 0 ≤ℤ v → Explained c u v X p → {d : Constraint} → fitted (gains_of s) c ≡ Ok d →
       (let z = p *ℤ p *ℤ (sixteenth *ℤ sixteenth) in Explained d (u *ℤ z +ℤ misfit s X p *ℤ misfit s X p *ℤ v) (v *ℤ z) X p)
   unfolding gains
   added_explains c ordered h P = fitted_explains (gains_of s) c (sym ordered) h (*ℤ-nonneg (square_nonneg p) (*ℤ-nonneg nonneg nonneg)) P sample_explains

@@ -8,12 +8,12 @@ use lib.ListN.{length}
 use Rattle.tables.specs.Checks.{first_refusal}
 use Rattle.tables.specs.Problem.{constraint_of, mended_constraint}
 use Rattle.tables.specs.declared.Refusal.{Refusal}
-use Rattle.tables.specs.declared.Checked.TheVariants as Checked
+use Rattle.std.specs.Prelude.{Ok, Err}
 use Rattle.tables.specs.declared.problem.Constraint.{Constraint}
 use Rattle.tables.proofs.Matrix.{length-tabulate, length-table}
 use Rattle.tables.proofs.Answers.{after-refused, after-passed}
 use Rattle.floats.specs.declared.Neighbours.{Neighbours}
-use Rattle.sums.specs.Sums.{refused, own_checks, sums_within}
+use Rattle.sums.specs.Sums.{own_checks, sums_within}
 use Rattle.sums.specs.Halving.{fitted}
 use Rattle.sums.specs.Required.{sums_at, Rooms, Ranged}
 use Rattle.sums.proofs.Fronts.{front-whole, constraint_by}
@@ -56,10 +56,10 @@ gains-ranged m near e = record {
 
 -- ---- the outcome
 module _ (F : ℕ → Neighbours) (D : Neighbours) (c : Constraint) where
-  pub sums-refused : {r : Refusal} → first_refusal (own_checks c) ≡ Checked.Refused r → checked_sums F D c ≡ refused r
+  pub sums-refused : {r : Refusal} → first_refusal (own_checks c) ≡ Err r → checked_sums F D c ≡ Err r
   unfolding checked_sums
-  sums-refused {r} e = sym (after-refused refused r _ e)
+  sums-refused {r} e = sym (after-refused Err r _ e)
 
-  pub sums-added : {g d : Constraint} → first_refusal (own_checks c) ≡ Checked.Passed → g ≡ gains F D → d ≡ mended_constraint c → fitted g d ≡ checked_sums F D c
+  pub sums-added : {g d : Constraint} → first_refusal (own_checks c) ≡ Ok tt → g ≡ gains F D → d ≡ mended_constraint c → fitted g d ≡ checked_sums F D c
   unfolding checked_sums
-  sums-added e f h = ap₂ fitted f h ∙ after-passed refused (added_within F D c) e
+  sums-added e f h = ap₂ fitted f h ∙ after-passed Err (added_within F D c) e

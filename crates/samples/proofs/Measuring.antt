@@ -19,11 +19,11 @@ use Rattle.tables.proofs.Matrix.{row_inside, column_inside, tabulate_ext}
 use Rattle.floats.specs.Brackets.{in_range}
 use Rattle.floats.proofs.Meaning.{inside, Bracket, Means, bracket-means}
 use Rattle.floats.specs.declared.Neighbours.{Neighbours}
-use Rattle.sums.specs.Sums.{refused, terms_in}
+use Rattle.sums.specs.Sums.{terms_in}
 use Rattle.sums.specs.Halving.{fitted}
 use Rattle.samples.specs.declared.sample.Sample as Declared
 use Rattle.samples.specs.declared.sample.Measures.{Measures}
-use Rattle.samples.specs.declared.sample.Measured.TheVariants.{Inside, Outside}
+use Rattle.std.specs.Prelude.{Option, Some, None, Err}
 use Rattle.samples.specs.Samples.{factors_in, factor_count, number_count, next_to, factor_next, draw_next, sample_fits, measures_of, measured, lows_of, highs_of, factor_of}
 use Rattle.samples.specs.Gains.{least_product, greatest_product, gains}
 use Rattle.samples.specs.Gathering.{entered_sums, gathering}
@@ -46,7 +46,7 @@ module _ (F G : ℕ → Neighbours) (D : Neighbours) (same : (i : ℕ) → i < f
   -- to the mended sums too
   pub entered-same : (c : Constraint) (n : ℤ) (sized : Bool) → entered_sums F D n sized c ≡ entered_sums G D n sized c
   entered-same c n sized =
-      ap (λ (g : Constraint). constraint_entered refused n sized (terms_in (within limit_range c.limit) c) c (fitted g (mended_constraint c))) gains-same
+      ap (λ (g : Constraint). constraint_entered Err n sized (terms_in (within limit_range c.limit) c) c (fitted g (mended_constraint c))) gains-same
 
 -- ---- a number of a sample, of 32 bits and in range, lies between small ones
 module _ (x : Float) (f : fits binary32 x ≡ true) (r : in_range x ≡ true) where
@@ -94,31 +94,31 @@ module _ (s : Declared.Sample) where
   factor-same (suc (suc (suc (suc i)))) h = absurd (omega arith)
 
   -- 17
-  pub measured_inside : {m : Measures} → Inside m ≡ measured s → (sample_fits s ≡ true) × (m ≡ measures_of s)
+  pub measured_inside : {m : Measures} → Some m ≡ measured s → (sample_fits s ≡ true) × (m ≡ measures_of s)
   unfolding measured
   measured_inside {m} e = go (sample_fits s) refl e
     where
-      go : (b : Bool) → sample_fits s ≡ b → Inside m ≡ elim b [ true ↦ Inside (measures_of s) | false ↦ Outside ] → (b ≡ true) × (m ≡ measures_of s)
+      go : (b : Bool) → sample_fits s ≡ b → Some m ≡ elim b [ true ↦ Some (measures_of s) | false ↦ None ] → (b ≡ true) × (m ≡ measures_of s)
       go true q e = (refl, cc)
       go false q e = absurd (false≢true cc)
 
-  pub measured_outside : Outside ≡ measured s → sample_fits s ≡ false
+  pub measured_outside : None ≡ measured s → sample_fits s ≡ false
   unfolding measured
   measured_outside e = go (sample_fits s) e
     where
-      go : (b : Bool) → Outside ≡ elim b [ true ↦ Inside (measures_of s) | false ↦ Outside ] → b ≡ false
+      go : (b : Bool) → ◌≡◌ {A = Option Measures} None (elim b [ true ↦ Some (measures_of s) | false ↦ None ]) → b ≡ false
       go true e = absurd (false≢true cc)
       go false e = refl
 
-  pub inside_near : Narrow s → {m : Measures} → Inside m ≡ measured s → MeasuresNear m
+  pub inside_near : Narrow s → {m : Measures} → Some m ≡ measured s → MeasuresNear m
   inside_near n e = let f = measured_inside e in rw f.1 (measures_near s n f.0)
 
-  pub gathering_inside : (n : ℤ) (sized : Bool) (c : Constraint) {m : Measures} → Inside m ≡ measured s → entered_sums (factor_of m) m.draw n sized c ≡ gathering s n sized c
+  pub gathering_inside : (n : ℤ) (sized : Bool) (c : Constraint) {m : Measures} → Some m ≡ measured s → entered_sums (factor_of m) m.draw n sized c ≡ gathering s n sized c
   unfolding gathering
   gathering_inside n sized c {m} e =
       let f = measured_inside e in
       rw f.1 (entered-same (factor_of (measures_of s)) (factor_next s) (draw_next s) factor-same c n sized ∙ rw (gathering, f.0))
 
-  pub gathering_outside : (n : ℤ) (sized : Bool) (c : Constraint) → Outside ≡ measured s → refused Sample ≡ gathering s n sized c
+  pub gathering_outside : (n : ℤ) (sized : Bool) (c : Constraint) → None ≡ measured s → Err Sample ≡ gathering s n sized c
   unfolding gathering
   gathering_outside n sized c e = rw (gathering, measured_outside e)

@@ -13,18 +13,18 @@ use Rattle.integers.proofs.Division.{floor_law, ceil_law}
 use Rattle.integers.proofs.Machine.{within_more, within-+, within--, within_in, within_low, within-high}
 use Rattle.tables.specs.Ranges.{entry_range, linear_range, limit_range}
 use Rattle.tables.specs.Matrix.{nth, table, tabulate}
-use Rattle.tables.specs.Checks.{Check, first_refusal, within, all_within, linear_within, tables_within, order_of, entry_checks, bounds_checks, ends_checks}
+use Rattle.tables.specs.Checks.{Check, Checked, first_refusal, within, all_within, linear_within, tables_within, order_of, entry_checks, bounds_checks, ends_checks}
 use Rattle.tables.specs.Answers.{after}
 use Rattle.tables.specs.Entering.{door_checks, entered}
 use Rattle.tables.specs.Problem.{mended_constraint, constraint_ends, constraint_entered}
 use Rattle.tables.specs.declared.Refusal.{Refusal}
 use Rattle.tables.specs.declared.Refusal.TheVariants.{Sample, Full}
-use Rattle.tables.specs.declared.Checked.{Checked}
+use Rattle.std.specs.Prelude.{Ok, Err}
 use Rattle.tables.specs.declared.problem.Constraint.{Constraint}
 use Rattle.tables.proofs.Checks.{and_of, all_of, within_true, more-checks}
 use Rattle.tables.proofs.Matrix.{row_inside, column_inside, nth-tabulate}
 use Rattle.tables.proofs.Admission.{behind}
-use Rattle.sums.specs.Sums.{Outcome, refused, terms_in, own_checks, added_to, plus, sums_within}
+use Rattle.sums.specs.Sums.{Outcome, terms_in, own_checks, added_to, plus, sums_within}
 use Rattle.sums.specs.Halving.{half_down, half_up, halved, fitted}
 use Rattle.sums.proofs.Checked.{within_linear, within-limit, within-tables, mended-within}
 use Rattle.sums.proofs.Explained.{fitted_cases}
@@ -95,9 +95,9 @@ room_after_halving g c w e =
       rw (added-half (n * n) half_up g.high c.high k h) (high_room (2 ^ 19) (omega arith) x.1 y.1),
     ))
 
-pub fitted_never : (g c : Constraint) → GainsNear c.order g → sums_within c ≡ true → (r : Refusal) → fitted g c ≡ refused r → ⊥
+pub fitted_never : (g c : Constraint) → GainsNear c.order g → sums_within c ≡ true → (r : Refusal) → fitted g c ≡ Err r → ⊥
 fitted_never g c w e r =
-    fitted_cases (λ (o : Outcome). o ≡ refused r → ⊥) g c (λ h q. false≢true cc) (λ h q. false≢true cc)
+    fitted_cases (λ (o : Outcome). o ≡ Err r → ⊥) g c (λ h q. false≢true cc) (λ h q. false≢true cc)
     (λ h q. false≢true (sym h ∙ room_after_halving g c w e))
 
 -- ---- the gains of small numbers
@@ -133,16 +133,16 @@ Others r [] = Unit {0}
 Others r (c ∷ cs) = (c.otherwise ≡ r → ⊥) × Others r cs
 
 -- refused by r: not by them
-behind-checks : (r : Refusal) (cs : List Check) (a : Outcome) → Others r cs → after refused (first_refusal cs) a ≡ refused r → (first_refusal cs ≡ Checked.Passed) × (a ≡ refused r)
+behind-checks : (r : Refusal) (cs : List Check) (a : Outcome) → Others r cs → after Err (first_refusal cs) a ≡ Err r → (first_refusal cs ≡ Ok tt) × (a ≡ Err r)
 unfolding after first_refusal
 behind-checks r [] a w e = (refl, e)
 behind-checks r (c ∷ cs) a w e = go c.passes e (behind-checks r cs a w.1)
   where
     here : Bool → Checked
-    here b = elim b as (λ z. Checked) [ true ↦ first_refusal cs | false ↦ Checked.Refused c.otherwise ]
+    here b = elim b as (λ z. Checked) [ true ↦ first_refusal cs | false ↦ Err c.otherwise ]
 
-    go : (b : Bool) → after refused (here b) a ≡ refused r → (after refused (first_refusal cs) a ≡ refused r → (first_refusal cs ≡ Checked.Passed) × (a ≡ refused r)) →
-        (here b ≡ Checked.Passed) × (a ≡ refused r)
+    go : (b : Bool) → after Err (here b) a ≡ Err r → (after Err (first_refusal cs) a ≡ Err r → (first_refusal cs ≡ Ok tt) × (a ≡ Err r)) →
+        (here b ≡ Ok tt) × (a ≡ Err r)
     go true e f = f e
     go false e f = absurd (w.0 cc)
 
@@ -152,7 +152,7 @@ pub record TablesRoom (c : Constraint) : Type 0 where
   pub low : factor_count * factor_count ≤ length c.low
   pub high : factor_count * factor_count ≤ length c.high
 
-pub never_full : (s : Declared.Sample) → Narrow s → (n : ℤ) (sized : Bool) (c : Constraint) → c.order ≡ order_of n → (sized ≡ true → TablesRoom c) → gathering s n sized c ≡ refused Full → ⊥
+pub never_full : (s : Declared.Sample) → Narrow s → (n : ℤ) (sized : Bool) (c : Constraint) → c.order ≡ order_of n → (sized ≡ true → TablesRoom c) → gathering s n sized c ≡ Err Full → ⊥
 unfolding gathering constraint_entered entered entry_checks bounds_checks ends_checks
 never_full s narrow n sized c ordered roomy e = go (sample_fits s) refl e
   where
@@ -162,17 +162,17 @@ never_full s narrow n sized c ordered roomy e = go (sample_fits s) refl e
     a : Outcome
     a = fitted (gains_of s) (mended_constraint c)
 
-    inside : sample_fits s ≡ true → entered_sums (factor_next s) (draw_next s) n sized c ≡ refused Full → ⊥
+    inside : sample_fits s ≡ true → entered_sums (factor_next s) (draw_next s) n sized c ≡ Err Full → ⊥
     inside f e =
-        let door = behind-checks Full (door_checks n sized terms c.low c.high) (after refused (first_refusal (constraint_ends c)) a)
+        let door = behind-checks Full (door_checks n sized terms c.low c.high) (after Err (first_refusal (constraint_ends c)) a)
         (λ q. false≢true cc, (λ q. false≢true cc, (λ q. false≢true cc, (λ q. false≢true cc, (λ q. false≢true cc, tt))))) e in
         let ends = behind-checks Full (constraint_ends c) a (λ q. false≢true cc, tt) door.1 in
         let b = behind n sized terms c.low c.high door.0 in
         let r = roomy b.sizes in
-        let passed : first_refusal (own_checks c) ≡ Checked.Passed = more-checks (bounds_checks terms c.order c.low c.high) (constraint_ends c)
-        (subst (λ (m : ℕ). first_refusal (bounds_checks terms m c.low c.high) ≡ Checked.Passed) (sym ordered) b.checked) ∙ ends.0 in
+        let passed : first_refusal (own_checks c) ≡ Ok tt = more-checks (bounds_checks terms c.order c.low c.high) (constraint_ends c)
+        (subst (λ (m : ℕ). first_refusal (bounds_checks terms m c.low c.high) ≡ Ok tt) (sym ordered) b.checked) ∙ ends.0 in
         fitted_never (gains_of s) (mended_constraint c) (rw r.order (sample-near s narrow f)) (mended-within c (rw r.order r.low) (rw r.order r.high) passed) Full ends.1
 
-    go : (b : Bool) → sample_fits s ≡ b → elim b as (λ z. Outcome) [ true ↦ entered_sums (factor_next s) (draw_next s) n sized c | false ↦ refused Sample ] ≡ refused Full → ⊥
+    go : (b : Bool) → sample_fits s ≡ b → elim b as (λ z. Outcome) [ true ↦ entered_sums (factor_next s) (draw_next s) n sized c | false ↦ Err Sample ] ≡ Err Full → ⊥
     go true f e = inside f e
     go false f e = false≢true cc

@@ -1,5 +1,5 @@
 -- R22.1 and R22.2 of docs/RULES.md: the numbers of a sample, exactly and between whole numbers.
-use Rattle.std.specs.Prelude.{Bool, true, false, List, [], ◌∷◌, ℕ, suc, Float, ℤ, get_or}
+use Rattle.std.specs.Prelude.{Bool, true, false, List, [], ◌∷◌, ℕ, suc, Float, ℤ, Option, None, Some, get_or}
 use Rattle.std.specs.Float.{nan}
 use Rattle.tables.specs.Matrix.{nth}
 use Rattle.tables.specs.Checks.{all}
@@ -7,8 +7,6 @@ use Rattle.floats.specs.Brackets.{units_of, sixteenth, in_range, whole_next_to}
 use Rattle.floats.specs.declared.Neighbours.{Neighbours}
 use Rattle.samples.specs.declared.sample.Sample.{Sample}
 use Rattle.samples.specs.declared.sample.Measures.{Measures}
-use Rattle.samples.specs.declared.sample.Measured.{Measured}
-use Rattle.samples.specs.declared.sample.Measured.TheVariants.{Inside, Outside}
 
 -- the factors, in the order of the sums, and how many there are: the order of the sums
 abbrev pub factors_in : Sample → List Float
@@ -51,8 +49,8 @@ measures_of s = record {
 }
 
 -- the same, where 17 lets the sample through
-unfoldable pub measured : Sample → Measured
-measured s = elim (sample_fits s) [ true ↦ Inside (measures_of s) | false ↦ Outside ]
+unfoldable pub measured : Sample → Option Measures
+measured s = elim (sample_fits s) [ true ↦ Some (measures_of s) | false ↦ None ]
 
 -- the ends of these numbers, the draw behind the factors, and number i between two ends of such lists
 abbrev pub number_count : ℕ

@@ -12,10 +12,9 @@ ghost use Rattle.samples.specs.Required.{NumbersNear, MeasuresNear, Arrays};
 use crate::sample::{FACTOR_COUNT, Factors, Measures, Numbers, PRODUCT_COUNT, Products};
 use floats::Neighbours;
 use integers::{greater, smaller};
-use sums::Summed;
 use sums::adding::add_fitted;
 use sums::checking::mend_sums;
-use tables::{Checked, LIMIT_RANGE, within};
+use tables::{LIMIT_RANGE, Refusal, within};
 
 // The least and the greatest of the four products of an end of number i and an end of number j of a sample: number i is from low(i) to
 // high(i).
@@ -56,14 +55,10 @@ fn lay_products(low: &Numbers, high: &Numbers, l: &mut Products, u: &mut Product
         × (u.new ≡ table factor_count (λ i j. greatest_product (between low.now high.now i)
         (between low.now high.now j))) }
 {
-    let mut k = 0;
-    while k < PRODUCT_COUNT {
+    for k in 0..PRODUCT_COUNT {
         let gain = product_ends(low, high, k / FACTOR_COUNT, k % FACTOR_COUNT);
-        let least = gain.low;
-        let greatest = gain.high;
-        l[k] = least;
-        u[k] = greatest;
-        k += 1;
+        l[k] = gain.low;
+        u[k] = gain.high;
     }
 }
 
@@ -75,12 +70,10 @@ fn lay_draws(low: &Numbers, high: &Numbers, a: &mut Factors, b: &mut Factors)
         × (b.new ≡ tabulate factor_count (λ i. pos 0 -ℤ
         least_product (between low.now high.now i) (between low.now high.now factor_count))) }
 {
-    let mut i = 0;
-    while i < FACTOR_COUNT {
+    for i in 0..FACTOR_COUNT {
         let loss = product_ends(low, high, i, FACTOR_COUNT);
         a[i] = -loss.high;
         b[i] = -loss.low;
-        i += 1;
     }
 }
 
@@ -117,14 +110,11 @@ pub fn add_checked(
     u: &mut [i64],
     a: &mut [i64],
     b: &mut [i64],
-) -> Summed
+) -> Result<i64, Refusal>
     requires { MeasuresNear m × Arrays l.old u.old a.old b.old }
     ensures { Stated factor_count (checked_sums (factor_of m) m.draw (constraint_of factor_count l.old u.old a.old b.old limit)) result l.new u.new a.new b.new }
 {
-    let checked = mend_sums(FACTOR_COUNT, within(limit, LIMIT_RANGE), l, u, a, b);
-    if let Checked::Refused(r) = checked {
-        return Summed::Refused(r);
-    }
+    mend_sums(FACTOR_COUNT, within(limit, LIMIT_RANGE), l, u, a, b)?;
     let mut gl = [0i64; PRODUCT_COUNT];
     let mut gu = [0i64; PRODUCT_COUNT];
     let mut ga = [0i64; FACTOR_COUNT];

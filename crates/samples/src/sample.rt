@@ -2,7 +2,7 @@
 ghost use Rattle.std.specs.Prelude.{◌≡◌};
 ghost use Rattle.samples.specs.Samples.{measured};
 
-use floats::{Bracketed, Neighbours, bracket};
+use floats::{Neighbours, bracket};
 
 // How many factors a sample has, which is the order of the sums (R22.3), and the numbers of a table of that order; and how many numbers,
 // the factors and behind them the draw.
@@ -21,7 +21,7 @@ pub type Numbers = [i64; NUMBER_COUNT];
 
 // Four factors, and the draw that was measured with them.
 #[repr(C)]
-#[derive(Drop)]
+#[derive(Clone, Copy, Debug, PartialEq)]
 pub struct Sample {
     pub rolling: f32,
     pub climb: f32,
@@ -31,7 +31,7 @@ pub struct Sample {
 }
 
 // What the numbers of a sample, times 16, lie between.
-#[derive(Drop)]
+#[derive(Clone, Copy, Debug, PartialEq, Eq)]
 pub struct Measures {
     pub rolling: Neighbours,
     pub climb: Neighbours,
@@ -40,41 +40,15 @@ pub struct Measures {
     pub draw: Neighbours,
 }
 
-#[derive(Drop)]
-pub enum Measured {
-    Inside(Measures),
-    Outside,
-}
-
-// Check 17, and what the sample's numbers lie between.
-pub fn measure(sample: Sample) -> Measured
+// What the sample's numbers lie between, where check 17 lets it through.
+pub fn measure(sample: Sample) -> Option<Measures>
     ensures { result ≡ measured sample }
 {
-    let rolling = bracket(sample.rolling);
-    let climb = bracket(sample.climb);
-    let air = bracket(sample.air);
-    let start = bracket(sample.start);
-    let draw = bracket(sample.draw);
-    match rolling {
-        Bracketed::Inside(rolling) => match climb {
-            Bracketed::Inside(climb) => match air {
-                Bracketed::Inside(air) => match start {
-                    Bracketed::Inside(start) => match draw {
-                        Bracketed::Inside(draw) => Measured::Inside(Measures {
-                            rolling,
-                            climb,
-                            air,
-                            start,
-                            draw,
-                        }),
-                        Bracketed::Outside => Measured::Outside,
-                    },
-                    Bracketed::Outside => Measured::Outside,
-                },
-                Bracketed::Outside => Measured::Outside,
-            },
-            Bracketed::Outside => Measured::Outside,
-        },
-        Bracketed::Outside => Measured::Outside,
-    }
+    Some(Measures {
+        rolling: bracket(sample.rolling)?,
+        climb: bracket(sample.climb)?,
+        air: bracket(sample.air)?,
+        start: bracket(sample.start)?,
+        draw: bracket(sample.draw)?,
+    })
 }

@@ -1,5 +1,5 @@
 -- Laws of a table that is scaled number by number.
-use mathlib.Core.Path.{◌≡◌, refl, sym, ap₂, ◌∙◌}
+use mathlib.Core.Path.{◌≡◌, sym, ap₂, ◌∙◌}
 use mathlib.Core.Bool.{true, false}
 use mathlib.Core.Logic.{by_cases}
 use mathlib.Core.List.{List}
@@ -18,14 +18,6 @@ use Rattle.scaling.specs.Scaling.{rescaled, entries_within}
 use Rattle.scaling.specs.Scratch.{InRange, Part}
 
 module _ {n : ℕ} {k : ℕ → ℕ} where
-  pub part_none : (t : List ℤ) (a : ℕ) → Part n k (at n t) a a t
-  part_none t a = record {
-    scaled = λ i j h l m. absurd (omega arith);
-    inside = λ i j h l m. absurd (omega arith);
-    before = λ i j h l. refl;
-    behind = λ i j h l. refl;
-  }
-
   -- one number more
   pub part-more : {M : Matrix} {a : ℕ} {t : List ℤ} (i j : ℕ) → j < n → a ≤ i * n + j → i * n + j < length t →
       within entry_range (rescaled k M i j) ≡ true → Part n k M a (i * n + j) t → Part n k M a (suc (i * n + j)) (set t (i * n + j) (rescaled k M i j))

@@ -6,7 +6,7 @@ use Prim.Native.Nat.{ℕ, ◌+◌, ◌≤◌, ◌<◌}
 use native.Mathlib.Omega.{arith}
 use native.Mathlib.Decide.{ℕ_discrete}
 use lib.IntN.{ℤ, pos, nat_abs}
-use lib.ListN.{length, set, length-set}
+use lib.ListN.{set, length-set}
 use lib.Seq.{get_or-set_same, get_or-set_other}
 use Rattle.integers.proofs.Parts.{pos_nonneg}
 use Rattle.tables.specs.Ranges.{greatest_order}
@@ -15,9 +15,6 @@ use Rattle.scaling.specs.Scaling.{greatest_exponent}
 use Rattle.scaling.specs.Scratch.{Exponent, scale_in, Scale}
 
 module _ {k : ℕ → ℕ} {x : List ℤ} where
-  pub scale-none : length x ≡ greatest_order → Scale k 0 x
-  scale-none e = record { size = e; numbers = λ i h. absurd (omega arith); small = λ i h. absurd (omega arith) }
-
   pub scale-more : (m : ℕ) → m < greatest_order → k m ≤ greatest_exponent → Scale k m x → Scale k (m + 1) (set x m (pos (k m)))
   scale-more m h b s = record {
     size = length-set x m (pos (k m)) ∙ s.size;

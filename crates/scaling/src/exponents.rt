@@ -33,12 +33,10 @@ fn exponent(u: i64) -> usize
     requires { Within entry_range u }
     ensures { result ≡ exponent u }
 {
-    let mut k = GREATEST_EXPONENT;
-    while 0 < k {
+    for k in (1..GREATEST_EXPONENT + 1).rev() {
         if stays_within(u, k) {
             return k;
         }
-        k -= 1;
     }
     0
 }
@@ -48,9 +46,7 @@ pub fn find_scale(n: usize, low: &[i64], high: &[i64], x: &mut Vector)
     requires { CheckedTables n low.now high.now × (length x.old ≡ greatest_order) }
     ensures { Scale (exponents (at n high.now)) n x.new }
 {
-    let mut i = 0;
-    while i < n {
+    for i in 0..n {
         x[i] = exponent(high[i * n + i]) as i64;
-        i += 1;
     }
 }

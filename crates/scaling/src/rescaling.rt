@@ -28,14 +28,12 @@ fn scale_row(n: usize, x: &Vector, i: usize, t: &mut Table) -> bool
 {
     let start = i * n;
     let k = x[i];
-    let mut j = 0;
-    while j < n {
+    for j in 0..n {
         let scaled = scaled_entry(k, x[j], t[start + j]);
         if !within(scaled, ENTRY_RANGE) {
             return false;
         }
         t[start + j] = scaled;
-        j += 1;
     }
     true
 }
@@ -46,12 +44,10 @@ fn scale_table(n: usize, x: &Vector, t: &mut Table) -> bool
     ensures { Rescaling n (scale_in x.now) (at n t.old) 0 (n * n)
         (entries_within n (rescaled (scale_in x.now) (at n t.old))) result t.new }
 {
-    let mut i = 0;
-    while i < n {
+    for i in 0..n {
         if !scale_row(n, x, i, t) {
             return false;
         }
-        i += 1;
     }
     true
 }

@@ -8,7 +8,7 @@ use native.Mathlib.Omega.{arith}
 use native.Mathlib.Decide.{ℕ_discrete}
 use lib.IntN.{ℤ, pos, ◌+ℤ◌, ◌-ℤ◌, ◌*ℤ◌}
 use lib.Signed.{le_z}
-use lib.ListN.{length, set, length-set}
+use lib.ListN.{set, length-set}
 use lib.Seq.{get_or-set_same, get_or-set_other}
 use mir.Syntax.{w64}
 use mir.Val.{SFits}
@@ -19,7 +19,7 @@ use Rattle.integers.specs.Root.{least_root}
 use Rattle.integers.proofs.Parts.{choice_by}
 use Rattle.integers.proofs.Sums.{sum_ext}
 use Rattle.integers.proofs.Machine.{within_more, within-+, within-*, fits_within}
-use Rattle.tables.specs.Ranges.{greatest_order, sides_room}
+use Rattle.tables.specs.Ranges.{greatest_order}
 use Rattle.tables.specs.Matrix.{nth, tabulate}
 use Rattle.sides.specs.Sides.{bound, first_half, second_bound, smaller_half, half_side, sides_from, Box, sides, empty, box_of}
 use Rattle.tables.specs.Buffers.{Filled}
@@ -45,9 +45,6 @@ module _ {n : ℕ} {t : ℤ} {g : List ℤ} (q : Near n t g) where
   pub bound-within : {d : ℤ} → Within difference_range d → Within bound_range (bound n d t (nth g))
   unfolding bound
   bound-within w = within_more (omega arith) (within-+ w (within_ceil t (terms-within square_terms n (omega arith))))
-
-  pub gradient_numerator : {k : ℕ} → k < n → Within bound_range (nth g k)
-  gradient_numerator {k} h = within_more (omega arith) (q.entries k h)
 
   -- Y(k)
   module _ {b : ℤ} (w : Within bound_range b) where
@@ -92,9 +89,6 @@ module _ (y t b : ℤ) where
 
 -- ---- the sides as they are written
 module _ {c h : ℕ → ℤ} {x : List ℤ} where
-  pub sides_none : length x ≡ sides_room → SidesIn 0 c h x
-  sides_none e = record { size = e; low = λ k l. absurd (omega arith); high = λ k l. absurd (omega arith) }
-
   pub sides_more : {m : ℕ} → m < greatest_order → SidesIn m c h x → SidesIn (suc m) c h (set (set x (2 * m) (c m -ℤ h m)) (2 * m + 1) (c m +ℤ h m))
   sides_more {m} l w = record {
     size = length-set (set x (2 * m) (c m -ℤ h m)) (2 * m + 1) (c m +ℤ h m) ∙ length-set x (2 * m) (c m -ℤ h m) ∙ w.size;

@@ -32,10 +32,8 @@ fn first_halves(n: usize, t: i64, g: &Vector, b: i64, y: &mut Vector)
     ensures { Filled greatest_order n (λ k. ceil_div (nth g.now k) t +ℤ least_root t b) y.new }
 {
     let s = least_root(t, b);
-    let mut k = 0;
-    while k < n {
+    for k in 0..n {
         y[k] = ceil_div(g[k], t) + s;
-        k += 1;
     }
 }
 
@@ -66,15 +64,13 @@ fn write_sides(n: usize, c: &[i64], tk: &Vector, y: &Vector, b: i64, out: &mut S
     ensures { SidesIn n (nth c.now)
         (λ k. smaller_half (nth y.now k) (nth tk.now k) b) out.new }
 {
-    let mut k = 0;
-    while k < n {
+    for k in 0..n {
         let h = half_side(y[k], tk[k], b);
         let x = c[k];
         let low = x - h;
         let high = x + h;
         out[2 * k] = low;
         out[2 * k + 1] = high;
-        k += 1;
     }
 }
 

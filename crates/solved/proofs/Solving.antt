@@ -7,8 +7,9 @@ use Prim.Native.Nat.{ℕ, zero, suc, ◌+◌, ◌-◌, ◌≤◌, ◌<◌}
 use native.Mathlib.Omega.{arith}
 use native.Mathlib.Decide.{ℕ_discrete}
 use lib.IntN.{ℤ, pos, neg_ℤ, ◌+ℤ◌, ◌*ℤ◌, zero-*ℤ}
-use lib.ListN.{length, set, length-set}
+use lib.ListN.{length, set, drop, replicate, length-set, length-append, length-drop, length-replicate}
 use lib.Seq.{get_or-set_same, get_or-set_other}
+use Rattle.std.proofs.lemmas.List.{get_or_append_left, get_or-replicate}
 use Rattle.integers.specs.Numbers.{Within}
 use Rattle.integers.specs.Sum.{sum}
 use Rattle.integers.specs.Division.{floor_div}
@@ -24,7 +25,15 @@ use Rattle.solved.specs.Solved.{solved_entry, solved_rows, solved}
 use Rattle.solved.specs.Stopped.{stopped_at, Stopped, start_range, Started, Ready, row_sum, entry_of, solved_of}
 use Rattle.solved.proofs.StoppedFactor.{factor, factor-at, factor_past}
 
--- ---- the start: all entries are set to 0, and then entry j to s
+-- ---- the start: the first n entries are set to 0, and then entry j to s
+pub cleared : (n : ℕ) (x : List ℤ) → length x ≡ greatest_order → n ≤ greatest_order → Filled greatest_order n (λ k. pos 0) (replicate n (pos 0) ++ drop n x)
+cleared n x e h =
+    record {
+      size = rw (length-append, length-replicate, length-drop) (omega (arith, e));
+      entries = λ k l.
+          get_or_append_left (replicate n (pos 0)) (drop n x) (pos 0) k (rw length-replicate l) ∙ get_or-replicate n k (pos 0) (pos 0) l;
+    }
+
 pub cleared_end : {x : List ℤ} {n j : ℕ} {s : ℤ} → j < greatest_order → Filled greatest_order n (λ k. pos 0) x → Started n (set x j s) j s
 cleared_end {x} {n} {j} {s} h c =
     record {

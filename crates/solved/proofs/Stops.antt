@@ -1,5 +1,5 @@
 -- Where factoring stops: the columns that were done are those of a factor, and the entries of the column that it stopped in are within stop_range.
-use mathlib.Core.Path.{◌≡◌, refl, sym, subst}
+use mathlib.Core.Path.{◌≡◌, refl, sym, ap, subst}
 use mathlib.Core.Bool.{Bool, true, false, not}
 use mathlib.Core.Logic.{by_cases}
 use mathlib.Core.List.{List, [], ◌∷◌, ◌++◌}
@@ -18,9 +18,9 @@ use Rattle.tables.specs.Matrix.{Matrix, nth}
 use Rattle.tables.specs.Bounds.{Bounds}
 use Rattle.cholesky.specs.Scale.{scaled}
 use Rattle.cholesky.specs.Factoring.{Factoring, entries, next_entry, rows, next_column, columns_from, factoring, factored}
-use Rattle.cholesky.specs.Store.{upper, columns_of, outcome_of, Stored}
-use Rattle.cholesky.specs.declared.factoring.Outcome.{Outcome}
-use Rattle.cholesky.specs.declared.factoring.Outcome.TheVariants.{Ends, Stops}
+use Rattle.std.specs.Prelude.{Err}
+use Rattle.cholesky.specs.declared.factoring.Stop.{Stop as StopPlace}
+use Rattle.cholesky.specs.Store.{upper, columns_of, outcome_of, Stored, Outcome, Ends, Stops}
 use Rattle.cholesky.specs.Rows.{product_range}
 use Rattle.cholesky.proofs.Factored.{ρ}
 use Rattle.cholesky.proofs.Lists.{length_snoc, nth-before, nth_last}
@@ -110,13 +110,16 @@ record StoppedIn (f : Factoring) (j m : ℕ) : Type 0 where
   column : length f.columns ≡ j
   rows : length f.stopped ≡ m
 
+one_stop : {s t : StopPlace} → ◌≡◌ {A = Outcome} (Err s) (Err t) → s ≡ t
+one_stop e = cc e
+
 stopped_in : (f : Factoring) (j m : ℕ) → Stops j m ≡ outcome_of f → StoppedIn f j m
 unfolding outcome_of
 stopped_in f j m e = go f.ends refl e
   where
     go : (b : Bool) → f.ends ≡ b → ◌≡◌ {A = Outcome} (Stops j m) (elim b [ true ↦ Ends | false ↦ Stops (length f.columns) (length f.stopped) ]) → StoppedIn f j m
     go true q e = record { ends = cc; column = cc; rows = cc }
-    go false q e = record { ends = q; column = cc; rows = cc }
+    go false q e = let s = sym (one_stop e) in record { ends = q; column = ap (λ (s : StopPlace). s.column) s; rows = ap (λ (s : StopPlace). s.rows) s }
 
 -- the factoring is the one of the table
 pub stopped-at : {f : Factoring} {j m : ℕ} {t : List ℤ} → Stored f (Stops j m) t → f ≡ stopped_at t j m

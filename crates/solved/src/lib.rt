@@ -9,6 +9,7 @@ ghost use Rattle.solved.specs.Solved.{solved};
 ghost use Rattle.solved.specs.Stopped.{stopped_at, Stopped, start_range, Started, Ready, row_sum, entry_of, Answered};
 
 use cholesky::STRIDE;
+use cholesky::factoring::Stop;
 use tables::{Table, VECTOR_RANGE, Vector};
 
 // T: the sum of r(i,k) x(k) over k from i + 1 to j.
@@ -17,10 +18,8 @@ fn row_sum(t: &Table, x: &Vector, i: usize, j: usize) -> i64
     ensures { result ≡ row_sum t.now x.now i (suc j) }
 {
     let mut s: i64 = 0;
-    let mut k = i + 1;
-    while k <= j {
+    for k in i + 1..j + 1 {
         s += t[STRIDE * k + i] * x[k];
-        k += 1;
     }
     s
 }
@@ -40,30 +39,23 @@ fn start(n: usize, j: usize, s: i64, x: &mut Vector)
     requires { (n ≤ greatest_order) × (j < n) × (length x.old ≡ greatest_order) }
     ensures { Started n x.new j s }
 {
-    let mut k = 0;
-    while k < n {
-        x[k] = 0;
-        k += 1;
-    }
+    x[..n].fill(0);
     x[j] = s;
 }
 
-// The solved vector for s, of a factoring of order n that stopped in column j after m rows. Answers false where an entry passes ±2^15:
-// there is none.
-pub fn solve(n: usize, t: &Table, j: usize, m: usize, s: i64, x: &mut Vector) -> bool
-    requires { Stopped n t.now j m × Within start_range s × (length x.old ≡ greatest_order) }
-    ensures { Answered (solved n (stopped_at t.now j m) s) n result x.new }
+// The solved vector for s, of a factoring of order n that stopped. Answers false where an entry passes ±2^15: there is none.
+pub fn solve(n: usize, t: &Table, stop: Stop, s: i64, x: &mut Vector) -> bool
+    requires { Stopped n t.now stop.column stop.rows × Within start_range s × (length x.old ≡ greatest_order) }
+    ensures { Answered (solved n (stopped_at t.now stop.column stop.rows) s) n result x.new }
 {
+    let j = stop.column;
     start(n, j, s, x);
-    let mut left = m;
-    while 0 < left {
-        let i = left - 1;
+    for i in (0..stop.rows).rev() {
         let e = entry(t, x, i, j);
         if !tables::within(e, VECTOR_RANGE) {
             return false;
         }
         x[i] = e;
-        left -= 1;
     }
     true
 }

@@ -1,7 +1,7 @@
 -- The starred cases of docs/RULES.md, W1 to W12, W24 to W33, W39 to W44 and W47 to W60: what the definitions give, beside what is expected.
 -- One list with one proof.
 use mathlib.Core.Path.{◌≡◌, refl}
-use mathlib.Core.Bool.{true}
+use mathlib.Core.Bool.{Bool, true, false}
 use mathlib.Core.List.{List, [], ◌∷◌, map}
 use Prim.Native.Nat.{ℕ}
 use lib.IntN.{ℤ, pos, negsuc}
@@ -10,7 +10,7 @@ use Rattle.integers.specs.Sum.{sum, only, except}
 use Rattle.integers.specs.Division.{floor_div, ceil_div}
 use Rattle.integers.specs.Root.{whole_root, root_within, root_above, least_root}
 use Rattle.tables.specs.Matrix.{at, nth, table, tabulate, form, norm_squared, gram, row_width}
-use Rattle.tables.specs.Checks.{all, first_refusal, order_ok, order_of, entry_checks, within, all_within, tables_within, linear_within, terms_within, nowhere_crossed, same, bounds_checks, ends_checks}
+use Rattle.tables.specs.Checks.{Checked, all, first_refusal, order_ok, order_of, entry_checks, within, all_within, tables_within, linear_within, terms_within, nowhere_crossed, same, bounds_checks, ends_checks}
 use Rattle.tables.specs.Mending.{mended_by}
 use Rattle.tables.specs.Entering.{entered}
 use Rattle.tables.specs.Problem.{problem_of, constraint_entered}
@@ -18,9 +18,7 @@ use Rattle.tables.specs.Answers.{after}
 use Rattle.tables.specs.Members.{PositiveDefinite}
 use Rattle.tables.specs.declared.Refusal.TheVariants.{Range, Crossed, Lopsided, Again, Reversed, Falling}
 use Rattle.tables.specs.declared.Refusal.{Refusal}
-use Rattle.tables.specs.declared.Checked.{Checked}
-use Rattle.tables.specs.declared.Answer.{Answer as VectorAnswer}
-use Rattle.tables.specs.declared.Answer.TheVariants.{No}
+use Rattle.std.specs.Prelude.{Result, Ok, Err}
 use Rattle.cholesky.specs.Scale.{take_off, scaled_by}
 use Rattle.cholesky.specs.Factoring.{factoring, columns_from, next_column, rows, goes_on, next_entry, entries}
 use Rattle.residual.specs.Residual.{residual, radius, row_passes, rows_pass, accepts, row_over, least_over, over}
@@ -41,13 +39,13 @@ use Rattle.enclosure.specs.Box.{Box, sides, empty, refused, boxed, problem_box, 
 use Rattle.stiffness.specs.Bracket.{Bracketing, between, at_most, quotient, least_quotient, least_bound, first_under, bracketed, bracketing}
 use Rattle.words.specs.Numbers.{from_le_bytes, unsigned_at}
 use Rattle.fields.specs.Fields.{kind_in, kind_of, tagged, field_at}
-use Rattle.fields.specs.Layouts.{start_of, seen, unseen, placed, walk_on, walk_fields, walk, walked}
-use Rattle.summary.specs.Problems.{read_as, read_walked, reading}
+use Rattle.fields.specs.Layouts.{part_of, start_of, seen, unseen, placed, walk_on, walk_fields, walk, walked}
+use Rattle.summary.specs.Problems.{checked_of, read_walked, reading}
 
 data Answer : Type 0 where
   verdict : Judgement → Answer
-  factor : FactorAnswer → Answer
-  vector : VectorAnswer → Answer
+  factor : Result FactorAnswer Refusal → Answer
+  vector : Result Bool Refusal → Answer
   value : ℤ → Answer
   box : Box → Answer
   bracket : Bracketing → Answer
@@ -65,14 +63,14 @@ abbrev thin : ℕ → List ℤ → Judgement → Line
 thin n t j = bounded n t t j
 
 -- the factor test's answer to a factor that is offered, for a thin table and for others
-abbrev offered_for : ℕ → List ℤ → List ℤ → List ℤ → FactorAnswer → Line
+abbrev offered_for : ℕ → List ℤ → List ℤ → List ℤ → Result FactorAnswer Refusal → Line
 offered_for n l u f a = record { rules = factor (factor_tested (pos n) true l u f); expected = factor a }
 
-abbrev offered : ℕ → List ℤ → List ℤ → FactorAnswer → Line
+abbrev offered : ℕ → List ℤ → List ℤ → Result FactorAnswer Refusal → Line
 offered n t f a = offered_for n t t f a
 
 -- the vector test's answer to a vector that is offered
-abbrev tried_on : ℕ → List ℤ → List ℤ → List ℤ → VectorAnswer → Line
+abbrev tried_on : ℕ → List ℤ → List ℤ → List ℤ → Result Bool Refusal → Line
 tried_on n l u x a = record { rules = vector (vector_tested (pos n) true l u x); expected = vector a }
 
 -- the least value of x over the one member of a thin table
@@ -105,7 +103,7 @@ fields_of [] s = s
 fields_of (t ∷ ts) s = t ∷ 0 ∷ 0 ∷ fields_of ts s
 
 abbrev refused_file : List ℕ → Refusal → Line
-refused_file s r = record { rules = file (reading s).checked; expected = file (Checked.Refused r) }
+refused_file s r = record { rules = file (checked_of (reading s)); expected = file (Err r) }
 
 -- [1 3; 3 10], and 2^16 times its exact Cholesky factor
 abbrev narrow : List ℤ
@@ -159,7 +157,7 @@ lines =
     ∷ refused_file (fields_of (2 ∷ 1 ∷ []) (3 ∷ [])) Falling
     -- halves rounded apart: judge, vector test and box on the mended tables, W39, W43 and W44
     ∷ bounded 2 apart_low apart_high (definite judged_factor (pos 536914293))
-    ∷ tried_on 2 (pos 1 ∷ negsuc 2 ∷ pos 1 ∷ pos 1 ∷ []) (pos 1 ∷ pos 1 ∷ pos 2 ∷ pos 1 ∷ []) (pos 1 ∷ pos 1 ∷ []) No
+    ∷ tried_on 2 (pos 1 ∷ negsuc 2 ∷ pos 1 ∷ pos 1 ∷ []) (pos 1 ∷ pos 1 ∷ pos 2 ∷ pos 1 ∷ []) (pos 1 ∷ pos 1 ∷ []) (Ok false)
     ∷ boxed_for 2 (pos 9 ∷ negsuc 8 ∷ pos 0 ∷ pos 9 ∷ []) (pos 9 ∷ pos 0 ∷ pos 9 ∷ pos 9 ∷ []) (pos 0 ∷ pos 0 ∷ []) (pos 0 ∷ pos 0 ∷ []) (pos 9) (pos 0 ∷ pos 0 ∷ [])
     (sides (negsuc 1 ∷ pos 2 ∷ negsuc 1 ∷ pos 2 ∷ []))
     -- a pair that leaves no number, 5; but 4 and 3 of the tables as they are handed in come first, W40 to W42
@@ -167,13 +165,13 @@ lines =
     ∷ bounded 2 (pos 2 ∷ pos 3 ∷ pos 1 ∷ pos 2 ∷ []) apart_high (Judge.refused Crossed)
     ∷ bounded 2 (pos 2 ∷ negsuc 1048576 ∷ pos 1 ∷ pos 2 ∷ []) apart_high (Judge.refused Range)
     -- the factor test, with what the rows have over: 0 and less than 0, W47 and W48
-    ∷ offered 1 (pos 1 ∷ []) (pos 65536 ∷ []) (Accepted (pos 0))
-    ∷ offered 1 (pos 1 ∷ []) (pos 65537 ∷ []) (NotAccepted (negsuc 131072))
+    ∷ offered 1 (pos 1 ∷ []) (pos 65536 ∷ []) (Ok (Accepted (pos 0)))
+    ∷ offered 1 (pos 1 ∷ []) (pos 65537 ∷ []) (Ok (NotAccepted (negsuc 131072)))
     -- W10 is definite all the same, since its exact factor is accepted; and a factor with less over in its first row, W49 and W50
-    ∷ offered 2 narrow exact_factor (Accepted (pos 0))
-    ∷ offered 2 narrow (pos 65536 ∷ pos 196607 ∷ pos 0 ∷ pos 65536 ∷ []) (NotAccepted (negsuc 65535))
+    ∷ offered 2 narrow exact_factor (Ok (Accepted (pos 0)))
+    ∷ offered 2 narrow (pos 65536 ∷ pos 196607 ∷ pos 0 ∷ pos 65536 ∷ []) (Ok (NotAccepted (negsuc 65535)))
     -- halves rounded apart, W39 and W51
-    ∷ offered_for 2 apart_low apart_high judged_factor (Accepted (pos 536914293))
+    ∷ offered_for 2 apart_low apart_high judged_factor (Ok (Accepted (pos 536914293)))
     -- the bracket: t and v, and v alone where factoring stops, W52 to W56
     ∷ bracketed-thin 1 (pos 1 ∷ []) (between (pos 0) (pos 1) (pos 1 ∷ []))
     ∷ bracketed-thin 1 (pos 4 ∷ []) (between (pos 3) (pos 4) (pos 1 ∷ []))
@@ -189,7 +187,7 @@ lines =
     ∷ []
 
 as_printed : map (λ (l : Line). l.rules) lines ≡ map (λ (l : Line). l.expected) lines
-unfolding bracketing bracketed least_bound least_quotient quotient first_under under norm_squared judging judged listed vector_tested vector_answer vector_shape factor_tested factor_answer factor_shape factor_entry tested accepts rows_pass row_passes over least_over least_of row_over radius residual gram except after entered first_refusal entry_checks order_ok order_of bounds_checks ends_checks constraint_entered tables_within all_within nowhere_crossed mended_by same all within factoring columns_from next_column rows goes_on next_entry entries take_off scaled_by at table tabulate form row_width least_member least_value nonzero shows tried first stopped_factor solved_entry solved_rows solved sum only floor_div whole_root root_within boxing problem_box linear_within terms_within boxed box_of sides_from half_side smaller_half second_bound first_half bound at_centre gradient high_gradient low_gradient step step_at bits trial lowered abs_ℤ min_ℤ max_ℤ ceil_div root_above least_root reading read_walked read_as walked walk walk_fields walk_on seen start_of unseen placed field_at tagged kind_of kind_in unsigned_at from_le_bytes
+unfolding bracketing bracketed least_bound least_quotient quotient first_under under norm_squared judging judged listed vector_tested vector_answer vector_shape factor_tested factor_answer factor_shape factor_entry tested accepts rows_pass row_passes over least_over least_of row_over radius residual gram except after entered first_refusal entry_checks order_ok order_of bounds_checks ends_checks constraint_entered tables_within all_within nowhere_crossed mended_by same all within factoring columns_from next_column rows goes_on next_entry entries take_off scaled_by at table tabulate form row_width least_member least_value nonzero shows tried first stopped_factor solved_entry solved_rows solved sum only floor_div whole_root root_within boxing problem_box linear_within terms_within boxed box_of sides_from half_side smaller_half second_bound first_half bound at_centre gradient high_gradient low_gradient step step_at bits trial lowered abs_ℤ min_ℤ max_ℤ ceil_div root_above least_root reading read_walked walked walk walk_fields walk_on seen part_of start_of unseen placed field_at tagged kind_of kind_in unsigned_at from_le_bytes
 as_printed = refl
 
 -- so every member of [1 3; 3 10], on which the judge is undecided, is positive definite

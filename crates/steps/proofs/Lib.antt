@@ -4,4 +4,5 @@ pub mod Diagonals
 pub mod Searches
 pub mod Trials
 pub mod Walked
+pub mod Stored
 pub mod Strong

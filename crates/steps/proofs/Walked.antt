@@ -1,18 +1,17 @@
 -- The steps on H, and those of one diagonal entry on what is left of H after the rows before it.
-use mathlib.Core.Path.{◌≡◌, refl, sym, ap₂, ◌∙◌, subst}
+use mathlib.Core.Path.{◌≡◌, refl, sym, ap₂, ◌∙◌}
 use mathlib.Core.Bool.{false}
 use mathlib.Core.Logic.{by_cases}
 use mathlib.Core.List.{List, [], ◌∷◌}
 use Prim.Native.Nat.{ℕ, zero, suc, ◌-◌, ◌^◌, ◌≤◌, ◌<◌}
 use native.Mathlib.Omega.{arith}
 use native.Mathlib.Decide.{dec_lt, ℕ_discrete}
-use lib.Dec.{T}
 use lib.IntN.{ℤ, pos, ◌*ℤ◌}
-use lib.Signed.{◌≤ℤ◌, ◌<ℤ◌, le_z}
+use lib.Signed.{◌≤ℤ◌, ◌<ℤ◌, clash_ℤ}
 use Rattle.integers.specs.Sum.{only}
 use Rattle.integers.specs.Division.{floor_div}
 use Rattle.integers.specs.Root.{whole_root}
-use Rattle.integers.proofs.Parts.{≤ℤ_trans, pos_nonneg, *ℤ-nonneg, le_z_true, le_z_false}
+use Rattle.integers.proofs.Parts.{≤ℤ_trans, pos_nonneg, *ℤ-nonneg, le_z_false}
 use Rattle.integers.proofs.Solver.{◌&◌, order, ring, solver}
 use Rattle.integers.proofs.Sums.{only_by, only_other}
 use Rattle.tables.specs.Ranges.{greatest_order}
@@ -142,13 +141,12 @@ module _ (n : ℕ) (H : Matrix) (k : ℕ) (d : ℕ → ℤ) (alone : (i : ℕ) �
 pub record StoppedBefore (n : ℕ) (H : Matrix) (k : ℕ) : Type 0 where
   pub stops : 0 < n → pos 1 ≤ℤ H 0 0 → ((i : ℕ) → i < k → RowPasses (left_of H i) i n) → ⊥
 
-pub first_stops : {n : ℕ} {L U : Matrix} {h : List ℤ} → Scaled n L U h n → le_z (pos 1) (upper h 0 0) ≡ false → StoppedBefore n (scaled n L U) 0
-first_stops {h = h} w e =
-    record { stops = λ z one f. subst T (sym (le_z_true {x = pos 1} {y = upper h 0 0} (rw (w.entries 0 0 (omega arith) z) one)) ∙ e) tt }
+pub first_stops : {n : ℕ} {L U : Matrix} {h : List ℤ} → Scaled n L U h n → upper h 0 0 <ℤ pos 1 → StoppedBefore n (scaled n L U) 0
+first_stops w e = record { stops = λ z one f. clash_ℤ e (rw (w.entries 0 0 (omega arith) z) one) }
 
 module _ {n k : ℕ} {H : Matrix} where
-  pub stopped_more : StoppedBefore n H k → StoppedBefore n H (suc k)
-  stopped_more s = record { stops = λ z o f. s.stops z o (λ i q. f i (omega arith)) }
+  pub stopped_later : StoppedBefore n H k → (j : ℕ) → k ≤ j → StoppedBefore n H j
+  stopped_later s j l = record { stops = λ z o f. s.stops z o (λ i q. f i (omega arith)) }
 
   module _ {h : List ℤ} (w : Walked H h k n) (l : k < n) where
     pub walked_triable : Triable n k (suc k) h

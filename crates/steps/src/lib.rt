@@ -32,12 +32,10 @@ fn stays(first: usize, last: usize, e: i64, s: &Table) -> bool
     requires { Factorable s.now last first × (first ≤ last) × Within step_range e }
     ensures { result ≡ all last (stays (upper s.now) first e) }
 {
-    let mut i = first;
-    while i < last {
+    for i in first..last {
         if s[STRIDE * i + i] - e < 1 {
             return false;
         }
-        i += 1;
     }
     true
 }
@@ -47,10 +45,8 @@ fn lower(first: usize, last: usize, e: i64, s: &mut Table)
     requires { Factorable s.old last first × (first ≤ last) × Within step_range e }
     ensures { Lowered first last e s.old s.new }
 {
-    let mut i = first;
-    while i < last {
+    for i in first..last {
         s[STRIDE * i + i] -= e;
-        i += 1;
     }
 }
 
@@ -92,9 +88,7 @@ fn search(n: usize, first: usize, last: usize, h: &Table) -> i64
         return last_step(first, h);
     }
     let mut t: i64 = 0;
-    let mut b = STEP_BITS;
-    while 0 < b {
-        b -= 1;
+    for b in (0..STEP_BITS).rev() {
         let next = t + (1 << b);
         if trial(n, first, last, SCALE * next, h) {
             t = next;
@@ -134,16 +128,14 @@ pub fn steps_at(n: usize, low: &[i64], high: &[i64], t: &mut Vector)
 {
     let mut h = [0i64; TABLE_ROOM];
     scale(n, low, high, &mut h);
-    let mut goes_on = 1 <= h[0];
-    let mut next = 0;
-    while next < n {
-        let k = next;
-        next += 1;
-        if goes_on {
-            t[k] = search(n, k, next, &h);
-            goes_on = n <= take_row(&mut h, k, n);
-        } else {
-            t[k] = 0;
+    t[..n].fill(0);
+    if h[0] < 1 {
+        return;
+    }
+    for k in 0..n {
+        t[k] = search(n, k, k + 1, &h);
+        if take_row(&mut h, k, n) < n {
+            return;
         }
     }
 }

@@ -1,28 +1,28 @@
 -- The search for the least bound: where it starts, what one number that is asked for leaves, and that it ends at the least bound.
 use mathlib.Core.Path.{◌≡◌, refl, sym, ap, ap₂, ◌∙◌}
-use mathlib.Core.Bool.{Bool, true, false}
-use mathlib.Core.Logic.{◌⊎◌, inl, inr}
-use mathlib.Core.List.{List, [], ◌∷◌, Memᴰ}
-use mathlib.Core.Option.{Option, none, some, some-injective, none-ne-some}
+use mathlib.Core.Bool.{true, false}
+use mathlib.Core.Logic.{◌⊎◌, inl, inr, ⊎_elim}
+use mathlib.Core.List.{List, [], ◌∷◌}
+use mathlib.Core.Option.{Option, none, some}
 use Prim.Native.Nat.{ℕ, ◌+◌, ◌*◌, ◌≤◌, ◌<◌}
 use native.Mathlib.Nat.{mul-le-mul_right}
 use native.Mathlib.Omega.{arith}
 use lib.IntN.{ℤ, pos, negsuc, neg_ℤ, nat_abs, ◌+ℤ◌, ◌-ℤ◌, ◌*ℤ◌}
-use lib.Signed.{◌≤ℤ◌, ◌<ℤ◌, lt_z, ≤ℤ_refl, clash_ℤ}
+use lib.Signed.{◌≤ℤ◌, ◌<ℤ◌, ≤ℤ_refl, clash_ℤ}
 use lib.ListN.{length}
+use Rattle.std.specs.Prelude.{Some, None}
 use Rattle.integers.specs.Numbers.{Within}
 use Rattle.integers.specs.Division.{ceil_div}
 use Rattle.integers.proofs.Parts.{<_out, ≤ℤ_trans, ≤ℤ_or_<ℤ}
 use Rattle.integers.proofs.Order.{<-≤}
 use Rattle.integers.proofs.Solver.{◌&◌, none as none-given, order, solver}
 use Rattle.integers.proofs.Sums.{sum_ext}
-use Rattle.integers.proofs.Machine.{within_more, within_in, within_low, within-high, within-neg, lt_holds}
+use Rattle.integers.proofs.Machine.{within_more, within_in, within_low, within-high, within-neg}
 use Rattle.tables.specs.Ranges.{greatest_order, entry_range}
 use Rattle.tables.specs.Matrix.{Matrix, at, nth, norm_squared, tabulate}
 use Rattle.tables.specs.Members.{Nonzero}
 use Rattle.tables.specs.Bounds.{Bounds, CheckedTables}
 use Rattle.tables.proofs.Buffers.{Small}
-use Rattle.tables.proofs.Checks.{true_of, false_of}
 use Rattle.tables.proofs.Matrix.{nth-tabulate, tabulate_ext}
 use Rattle.arithmetic.specs.Required.{bound_range}
 use Rattle.vectors.specs.Least.{least_value}
@@ -32,7 +32,7 @@ use Rattle.tried.specs.Tried.{tried}
 use Rattle.tried.specs.Search.{found, Searched}
 use Rattle.tried.proofs.TriedVectors.{every_at, tried-sized}
 use Rattle.stiffness.specs.Bracket.{quotient, first_under}
-use Rattle.stiffness.specs.Descent.{TriedEntries, Inside, Asked, raised, Narrowed, Least}
+use Rattle.stiffness.specs.Descent.{TriedEntries, Inside, Asked, Narrowed, Least}
 use Rattle.stiffness.proofs.Quotients.{under-parts, quotient-under, quotient-low, first_found, none_found, first_again, some_under, bound_is}
 
 -- ---- numbers
@@ -41,16 +41,6 @@ falls : {x y : ℤ} → pos 0 ≤ℤ x → x <ℤ y → nat_abs x < nat_abs y
 falls {x = pos a} {y = pos b} h k = omega (arith, <_out k)
 falls {x = pos a} {y = negsuc b} h k = omega (arith, <_out k)
 falls {x = negsuc a} h k = absurd h.le
-
--- v fell, or it stayed
-module _ (below w v : ℤ) where
-  raised_fell : {v' : ℤ} → v' <ℤ v → raised below w v v' ≡ below
-  unfolding raised
-  raised_fell {v'} h = ap (λ (b : Bool). elim b as (λ z. ℤ) [ true ↦ below | false ↦ w ]) (true_of (lt_z v' v) h.lt)
-
-  raised-stayed : raised below w v v ≡ w
-  unfolding raised
-  raised-stayed = ap (λ (b : Bool). elim b as (λ z. ℤ) [ true ↦ below | false ↦ w ]) (false_of (lt_z v v) (λ e. clash_ℤ (lt_holds e) (≤ℤ_refl v)))
 
 -- a number between those that are asked for
 pub inside_within : {below v w : ℤ} → neg_ℤ (pos under_range) ≤ℤ below → v ≤ℤ pos (entry_range + 1) → Inside below v w → Within under_range w
@@ -100,76 +90,59 @@ module _ (n : ℕ) (L U : Matrix) where
           record { index = z.index; inside = z.inside; differs = rw (same z.index z.inside) at z.differs }
 
   -- nothing was found, or a vector
-  module _ (w v : ℤ) {x : List ℤ} where
-    pub was_missed : {y : List ℤ} → Searched (first_under n L U w) false 0 n y → length x ≡ greatest_order → Asked n L U w v x v x
-    was_missed {y} s k = record {
-      missed = λ e. (refl, refl);
-      hit = λ z e. absurd (none-ne-some z (sym (searched-none w y s) ∙ e));
-      size = k;
-    }
+  module _ (w : ℤ) {x : List ℤ} where
+    pub was_missed : {y : List ℤ} → Searched (first_under n L U w) false 0 n y → length x ≡ greatest_order → Asked n L U w x None x
+    was_missed {y} s k = record { missed = λ e. (searched-none w y s, refl); hit = λ v e. cc e; size = k }
 
-    pub was_hit : {y : List ℤ} {v' : ℤ} → Searched (first_under n L U w) true 0 n y → v' ≡ quotient n L U (nth y) → Asked n L U w v x v' y
-    was_hit {y} s q =
-        let f = searched-some w y s in
-        record { missed = λ e. absurd (none-ne-some _ (sym e ∙ f)); hit = λ z e. (some-injective _ _ (sym e ∙ f), q); size = s.size }
+    pub was_hit : {y : List ℤ} {v : ℤ} → Searched (first_under n L U w) true 0 n y → v ≡ quotient n L U (nth y) → Asked n L U w x (Some v) y
+    was_hit {y} s q = record { missed = λ e. cc e; hit = λ u e. (searched-some w y s, cc (e, q)); size = s.size }
 
   -- ---- one search further: what is left between the two numbers, and that it is less than before
   pub record Further (below v below' v' : ℤ) (x : List ℤ) : Type 0 where
     pub narrowed : Narrowed n L U below' v' x
     pub less : nat_abs (v' -ℤ below') < nat_abs (v -ℤ below)
 
-  module _ {below v w : ℤ} {x₀ : List ℤ} {v' : ℤ} {x : List ℤ} (s : Narrowed n L U below v x₀) (i : Inside below v w) (g : Asked n L U w v x₀ v' x) where
-    after-hit : (y : List ℤ) → first_under n L U w ≡ some y → Further below v (raised below w v v') v' x
-    after-hit y e =
-        let h = g.hit y e in
-        let f = first_found n L U w y e in
+  module _ {below v w : ℤ} {x₀ : List ℤ} {x : List ℤ} (s : Narrowed n L U below v x₀) (i : Inside below v w) where
+    -- the first vector that is under w: no tried vector is under `below`, so its quotient is not that low
+    pub after-hit : {v' : ℤ} → Asked n L U w x₀ (Some v') x → Further below v below v' x
+    after-hit {v'} g =
+        let y = tabulate n (nth x) in
+        let h = g.hit v' refl in
+        let f = first_found n L U w y h.0 in
         let p = under-parts n L U (nth y) w f.1 in
-        let q : quotient n L U (nth y) ≡ v' = ap (λ (l : List ℤ). quotient n L U (nth l)) h.0 ∙ quotient_ext _ _ (λ i k. nth-tabulate n (nth x) i k) ∙ sym h.1 in
+        let q : quotient n L U (nth y) ≡ v' = quotient_ext _ _ (λ i k. nth-tabulate n (nth x) i k) ∙ sym h.1 in
         let most : v' ≤ℤ w = rw q at p.1 in
         let fell : v' <ℤ v = order (v ∷ w ∷ v' ∷ []) (most & i.high) (search solver depth 40 fits 20000) (omega arith) in
-        rw (raised_fell below w v fell) (record {
+        let above : below <ℤ v' = ⊎_elim (λ k. absurd (none_found n L U below s.nothing y f.0 (quotient-under n L U (nth y) below p.0 (rw q k)))) (λ k. k) (≤ℤ_or_<ℤ v' below) in
+        record {
           narrowed = record {
             low = s.low;
             high = ≤ℤ_trans (<-≤ fell) s.high;
-            apart = above y f.0 p.0 q;
+            apart = above;
             nothing = s.nothing;
-            vector = λ k. rw (q, h.0) at (first_again n L U w y e);
+            vector = λ k. rw q at (first_again n L U w y h.0);
             size = g.size;
           };
-          less = falls {x = v' -ℤ below} {y = v -ℤ below} (order (below ∷ v' ∷ []) (above y f.0 p.0 q) (search solver depth 40 fits 20000) (omega arith))
+          less = falls {x = v' -ℤ below} {y = v -ℤ below} (order (below ∷ v' ∷ []) above (search solver depth 40 fits 20000) (omega arith))
               (order (below ∷ v ∷ v' ∷ []) fell (search solver depth 40 fits 20000) (omega arith));
-        })
-      where
-        -- no tried vector is under `below`, so no quotient is that low
-        above : (y : List ℤ) → Memᴰ y (tried n) → Nonzero n (nth y) → quotient n L U (nth y) ≡ v' → below <ℤ v'
-        above y m z q = go (≤ℤ_or_<ℤ v' below)
-          where
-            go : (v' ≤ℤ below) ⊎ (below <ℤ v') → below <ℤ v'
-            go (inl k) = absurd (none_found n L U below s.nothing y m (quotient-under n L U (nth y) below z (rw q k)))
-            go (inr k) = k
+        }
 
-    after-miss : first_under n L U w ≡ none → Further below v (raised below w v v') v' x
-    after-miss e =
-        let m = g.missed e in
-        rw (m.0, m.1, raised-stayed below w v) (record {
+    -- no vector is under w
+    pub after-miss : Asked n L U w x₀ None x → Further below v w v x
+    after-miss g =
+        let m = g.missed refl in
+        rw m.1 (record {
           narrowed = record {
             low = ≤ℤ_trans s.low (<-≤ i.low);
             high = s.high;
             apart = i.high;
-            nothing = e;
+            nothing = m.0;
             vector = s.vector;
             size = s.size;
           };
           less = falls {x = v -ℤ w} {y = v -ℤ below} (order (w ∷ v ∷ []) i.high (search solver depth 40 fits 20000) (omega arith))
               (order (below ∷ w ∷ v ∷ []) i.low (search solver depth 40 fits 20000) (omega arith));
         })
-
-    pub further : Further below v (raised below w v v') v' x
-    further = go (first_under n L U w) refl
-      where
-        go : (q : Option (List ℤ)) → first_under n L U w ≡ q → Further below v (raised below w v v') v' x
-        go none e = after-miss e
-        go (some y) e = after-hit y e
 
   -- how large both numbers are
   module _ (b : Bounds n L U) (p : 0 < n) {below v : ℤ} {x : List ℤ} (s : Narrowed n L U below v x) where

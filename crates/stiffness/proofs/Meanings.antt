@@ -9,6 +9,7 @@ use native.Mathlib.Omega.{arith}
 use lib.IntN.{ℤ, pos, ◌*ℤ◌}
 use lib.Signed.{◌≤ℤ◌, ◌<ℤ◌}
 use borrow.Table.Steps.{cases}
+use Rattle.std.specs.Prelude.{Result, Ok, Err}
 use Rattle.integers.proofs.Parts.{≤ℤ_trans, ≤ℤ_or_<ℤ, *ℤ-nonneg, gap-nonneg, pos_nonneg}
 use Rattle.integers.proofs.Solver.{◌&◌, order, solver}
 use Rattle.tables.specs.Matrix.{Matrix, at, nth}
@@ -28,7 +29,6 @@ use Rattle.steps.proofs.Bits.{bits_by}
 use Rattle.steps.proofs.Strong.{step-above}
 use Rattle.stiffness.specs.Bracket.{Bracketing, between, at_most, refused, shown, least_bound, first_under, bracketed, bracketing, written, step_of, bound_of, Stiffer, Meaning}
 use Rattle.stiffness.specs.declared.bracket.Stiffness.{Stiffness}
-use Rattle.stiffness.specs.declared.bracket.Stiffness.TheVariants as Stiffness
 use Rattle.stiffness.proofs.Quotients.{First, bound-first, none_less}
 
 -- q·t·m < a ≤ q·v·m gives t < v, for q and m from 1 up
@@ -107,7 +107,7 @@ module _ (n : ℤ) (sized : Bool) (l u : List ℤ) (b : Behind n sized true l u)
       less_by w.member.whole (norm_positive w.differs) ((stiffer e).above w.matrix w.denominator w.member (nth x) w.differs) w.low
 
   -- an answer that gives v, and t only where factoring ends
-  answer_means : (r : Stiffness) → bound_of r ≡ some v → ((t : ℤ) → step_of r ≡ some t → (step k L U ≡ t) × ((factored k L U).ends ≡ true)) → Meaning n l u r x
+  answer_means : (r : Result Stiffness Refusal) → bound_of r ≡ some v → ((t : ℤ) → step_of r ≡ some t → (step k L U ≡ t) × ((factored k L U).ends ≡ true)) → Meaning n l u r x
   answer_means r e f =
       let same : (w : ℤ) → bound_of r ≡ some w → v ≡ w = λ w q. some-injective v w (sym e ∙ q) in
       record {
@@ -122,11 +122,11 @@ module _ (n : ℤ) (sized : Bool) (l u : List ℤ) (b : Behind n sized true l u)
   bracketed-means : (y : List ℤ) → Means n l u y (bracketed k L U)
   bracketed-means y =
       cases (factored k L U).ends
-      (λ e. subst (Means n l u y) (sym (bracketed-ends k L U e)) (answer_means (Stiffness.Between (step k L U) v) refl (λ t q. (some-injective (step k L U) t q, e))))
-      (λ e. subst (Means n l u y) (sym (bracketed_stops k L U e)) (answer_means (Stiffness.AtMost v) refl (λ t q. absurd (false≢true cc))))
+      (λ e. subst (Means n l u y) (sym (bracketed-ends k L U e)) (answer_means (Ok (Stiffness.Between (step k L U) v)) refl (λ t q. (some-injective (step k L U) t q, e))))
+      (λ e. subst (Means n l u y) (sym (bracketed_stops k L U e)) (answer_means (Ok (Stiffness.AtMost v)) refl (λ t q. absurd (false≢true cc))))
 
 -- ---- of any call at all
-refused-means : (n : ℤ) (l u y : List ℤ) (r : Refusal) → Meaning n l u (Stiffness.Refused r) y
+refused-means : (n : ℤ) (l u y : List ℤ) (r : Refusal) → Meaning n l u (Err r) y
 refused-means n l u y r = record {
   nonneg = λ t e. absurd (false≢true cc);
   stiffer = λ t e. absurd (false≢true cc);

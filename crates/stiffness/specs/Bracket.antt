@@ -1,13 +1,13 @@
 -- The bracket of the stiffness, R26 of docs/RULES.md: what it is, what the act answers and writes, and what its answer means (D3.9).
-use Rattle.std.specs.Prelude.{◌≡◌, Bool, true, false, ℕ, ◌*◌, ℤ, pos, negsuc, ◌-ℤ◌, ◌*ℤ◌, ◌≤ℤ◌, ◌<ℤ◌, length}
+use Rattle.std.specs.Prelude.{◌≡◌, Bool, true, false, ℕ, ◌*◌, ℤ, pos, negsuc, ◌-ℤ◌, ◌*ℤ◌, ◌≤ℤ◌, ◌<ℤ◌, length, Result, Ok, Err}
 use mathlib.Core.List.{List, [], ◌∷◌, Memᴰ}
 use Rattle.std.proofs.Math.Option.{Option, none, some}
 use Rattle.integers.specs.Numbers.{min_ℤ}
 use Rattle.integers.specs.Division.{ceil_div}
 use Rattle.tables.specs.Matrix.{Matrix, at, nth, form, norm_squared}
 use Rattle.tables.specs.Members.{Member, Nonzero}
-use Rattle.tables.specs.Refusals.{refusal_number}
 use Rattle.tables.specs.Checks.{order_of, sizes_ok}
+use Rattle.tables.specs.Answers.{answer_code}
 use Rattle.tables.specs.Entering.{low_bounds, high_bounds, entered}
 use Rattle.tables.specs.declared.Refusal.{Refusal}
 use Rattle.cholesky.specs.Factoring.{factored}
@@ -15,7 +15,6 @@ use Rattle.vectors.specs.Least.{least_value, nonzero, under, WitnessAt}
 use Rattle.tried.specs.Tried.{tried, first}
 use Rattle.steps.specs.Steps.{step}
 use Rattle.stiffness.specs.declared.bracket.Stiffness.{Stiffness}
-use Rattle.stiffness.specs.declared.bracket.Stiffness.TheVariants as Stiffness
 
 -- R26.2: least(x) / x'x, rounded up
 unfoldable pub quotient : ℕ → Matrix → Matrix → (ℕ → ℤ) → ℤ
@@ -62,14 +61,14 @@ bracketing n sized l u =
 
 -- ---- the act: its answer, and the vector's buffer as it leaves it
 pub record Bracketed : Type 0 where
-  pub stiffness : Stiffness
+  pub stiffness : Result Stiffness Refusal
   pub vector : List ℤ
 
 -- R26.6: the vector is written with every answer, and kept by a refusal
 abbrev pub written : Bracketing → List ℤ → Bracketed
-written (between t v x) y = record { stiffness = Stiffness.Between t v; vector = x }
-written (at_most v x) y = record { stiffness = Stiffness.AtMost v; vector = x }
-written (refused r) y = record { stiffness = Stiffness.Refused r; vector = y }
+written (between t v x) y = record { stiffness = Ok (Stiffness.Between t v); vector = x }
+written (at_most v x) y = record { stiffness = Ok (Stiffness.AtMost v); vector = x }
+written (refused r) y = record { stiffness = Err r; vector = y }
 
 -- the bracket of anything at all, and a buffer that holds anything
 unfoldable pub bracket : ℤ → List ℤ → List ℤ → List ℤ → Bracketed
@@ -78,22 +77,24 @@ bracket n l u y =
     written (bracketing n (sizes_ok (k * k) k (length l) (length u) (length y)) l u) y
 
 -- R15.4: the number at the C entry, 0, -1, or the refusal's
-unfoldable pub bracket_code : Stiffness → ℤ
-bracket_code (Stiffness.Between t v) = pos 0
-bracket_code (Stiffness.AtMost v) = negsuc 0
-bracket_code (Stiffness.Refused r) = pos (refusal_number r)
+abbrev pub bracket_number : Stiffness → ℤ
+bracket_number (Stiffness.Between t v) = pos 0
+bracket_number (Stiffness.AtMost v) = negsuc 0
+
+abbrev pub bracket_code : Result Stiffness Refusal → ℤ
+bracket_code r = answer_code bracket_number r
 
 -- ---- what an answer means
 -- the step and the bound that an answer gives
-abbrev pub step_of : Stiffness → Option ℤ
-step_of (Stiffness.Between t v) = some t
-step_of (Stiffness.AtMost v) = none
-step_of (Stiffness.Refused r) = none
+abbrev pub step_of : Result Stiffness Refusal → Option ℤ
+step_of (Ok (Stiffness.Between t v)) = some t
+step_of (Ok (Stiffness.AtMost v)) = none
+step_of (Err r) = none
 
-abbrev pub bound_of : Stiffness → Option ℤ
-bound_of (Stiffness.Between t v) = some v
-bound_of (Stiffness.AtMost v) = some v
-bound_of (Stiffness.Refused r) = none
+abbrev pub bound_of : Result Stiffness Refusal → Option ℤ
+bound_of (Ok (Stiffness.Between t v)) = some v
+bound_of (Ok (Stiffness.AtMost v)) = some v
+bound_of (Err r) = none
 
 -- x'Mx > t·x'x for every member M and every nonzero x. For X over p both sides have the factor 1/p²: so X stands for it
 pub record Stiffer (n : ℕ) (L U : Matrix) (t : ℤ) : Type 0 where
@@ -105,7 +106,7 @@ module _ (n : ℤ) (l u : List ℤ) where
   abbrev k : ℕ
   k = order_of n
 
-  pub record Meaning (r : Stiffness) (x : List ℤ) : Type 0 where
+  pub record Meaning (r : Result Stiffness Refusal) (x : List ℤ) : Type 0 where
     -- t is 0 or more, and every member is stiffer than that
     pub nonneg : (t : ℤ) → step_of r ≡ some t → pos 0 ≤ℤ t
     pub stiffer : (t : ℤ) → step_of r ≡ some t → Stiffer k (at k l) (at k u) t

@@ -1,14 +1,12 @@
 -- How the code finds the least bound: it narrows the numbers between one that no tried vector is under and one that some vector is under.
-use Rattle.std.specs.Prelude.{◌≡◌, true, false, List, ℕ, ◌≤◌, ◌<◌, ℤ, pos, neg_ℤ, ◌+ℤ◌, ◌≤ℤ◌, ◌<ℤ◌, length}
+use Rattle.std.specs.Prelude.{◌≡◌, List, ℕ, ◌≤◌, ◌<◌, ℤ, pos, neg_ℤ, ◌+ℤ◌, ◌≤ℤ◌, ◌<ℤ◌, length, Option, Some, None}
 use Rattle.std.proofs.Math.Option.{none, some}
-use Rattle.std.specs.Int.Signed.{lt_z}
 use Rattle.integers.specs.Numbers.{Within}
 use Rattle.tables.specs.Ranges.{greatest_order}
 use Rattle.tables.specs.Matrix.{Matrix, nth, tabulate}
 use Rattle.lookahead.specs.Pairs.{under_range}
-use Rattle.stiffness.specs.Bracket.{Bracketing, between, at_most, refused, quotient, least_bound, first_under}
+use Rattle.stiffness.specs.Bracket.{Bracketing, between, at_most, quotient, least_bound, first_under}
 use Rattle.stiffness.specs.declared.bracket.Stiffness.{Stiffness}
-use Rattle.stiffness.specs.declared.bracket.Stiffness.TheVariants as Stiffness
 
 -- a vector whose entries are 0, 1 and -1
 pub record TriedEntries (n : ℕ) (x : List ℤ) : Type 0 where
@@ -20,16 +18,12 @@ pub record Inside (a b w : ℤ) : Type 0 where
   pub low : a <ℤ w
   pub high : w <ℤ b
 
--- w is asked of the tried vectors, and v' comes of it after v: where none is under w it is v again, and the vector in x₀ is kept. Else
--- x holds the first one, and v' is its quotient
-pub record Asked (n : ℕ) (L U : Matrix) (w v : ℤ) (x₀ : List ℤ) (v' : ℤ) (x : List ℤ) : Type 0 where
-  pub missed : first_under n L U w ≡ none → (v' ≡ v) × (x ≡ x₀)
-  pub hit : (y : List ℤ) → first_under n L U w ≡ some y → (y ≡ tabulate n (nth x)) × (v' ≡ quotient n L U (nth x))
+-- w is asked of the tried vectors, and r is answered: where none is under w the vector in x₀ is kept, and else x holds the first one, whose
+-- quotient r is
+pub record Asked (n : ℕ) (L U : Matrix) (w : ℤ) (x₀ : List ℤ) (r : Option ℤ) (x : List ℤ) : Type 0 where
+  pub missed : r ≡ None → (first_under n L U w ≡ none) × (x ≡ x₀)
+  pub hit : (v : ℤ) → r ≡ Some v → (first_under n L U w ≡ some (tabulate n (nth x))) × (v ≡ quotient n L U (nth x))
   pub size : length x ≡ greatest_order
-
--- the number below v' that no tried vector is under: w where v stayed, and else the one before
-unfoldable pub raised : ℤ → ℤ → ℤ → ℤ → ℤ
-raised below w v v' = elim (lt_z v' v) [ true ↦ below | false ↦ w ]
 
 -- so far: no tried vector is under `below`, and x holds the first that is under v, or v is one above L(1,1), where the search starts
 pub record Narrowed (n : ℕ) (L U : Matrix) (below v : ℤ) (x : List ℤ) : Type 0 where
@@ -50,7 +44,6 @@ pub record Least (n : ℕ) (L U : Matrix) (v : ℤ) (x : List ℤ) : Type 0 wher
 unfoldable pub stated : ℕ → Stiffness → List ℤ → Bracketing
 stated n (Stiffness.Between t v) x = between t v (tabulate n (nth x))
 stated n (Stiffness.AtMost v) x = at_most v (tabulate n (nth x))
-stated n (Stiffness.Refused r) x = refused r
 
 pub record Stated (g : Bracketing) (n : ℕ) (r : Stiffness) (x : List ℤ) : Type 0 where
   pub stiffness : g ≡ stated n r x

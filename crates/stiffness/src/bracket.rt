@@ -1,32 +1,32 @@
 // The bracket of the stiffness, R26 of docs/RULES.md.
-ghost use Rattle.std.specs.Prelude.{◌≡◌, ◌<◌, length};
+ghost use Rattle.std.specs.Prelude.{◌≡◌, ◌<◌, length, Ok};
 ghost use Rattle.tables.specs.Ranges.{greatest_order};
 ghost use Rattle.tables.specs.Matrix.{at};
 ghost use Rattle.tables.specs.Bounds.{CheckedTables};
-ghost use Rattle.stiffness.specs.Bracket.{Bracketed, bracketed, written, bracket, bracket_code, Meaning};
+ghost use Rattle.stiffness.specs.Bracket.{Bracketed, bracketed, written, bracket, bracket_number, Meaning};
 ghost use Rattle.stiffness.specs.Descent.{Stated};
 
 use crate::least_bound::least_bound;
-use tables::entering::{enter, order_of};
-use tables::{Checked, GREATEST_ORDER, Refusal, TABLE_ROOM, Vector};
+use tables::entering::{enter, order};
+use tables::{Answer, GREATEST_ORDER, Refusal, TABLE_ROOM, Vector};
 
 // What the act answers: the step t and the bound v, where factoring ends, and else the bound alone. Every member M has x'Mx > t x'x for
 // every nonzero x, and one of them has x'Mx <= v x'x for the vector that is written.
-#[derive(Clone, Copy)]
+#[derive(Clone, Copy, Debug, PartialEq, Eq)]
 pub enum Stiffness {
     Between(i64, i64),
     AtMost(i64),
-    Refused(Refusal),
 }
 
-// An answer's number at a C entry: 0 with step and bound, -1 with the bound alone, else the refusal's.
-pub fn bracket_code(s: Stiffness) -> i64
-    ensures { result ≡ bracket_code s }
-{
-    match s {
-        Stiffness::Between(_, _) => 0,
-        Stiffness::AtMost(_) => -1,
-        Stiffness::Refused(r) => tables::refusal_number(r) as i64,
+// At a C entry step and bound are 0, and the bound alone is -1.
+impl Answer for Stiffness {
+    ghost code = { bracket_number };
+
+    fn code(self) -> i64 {
+        match self {
+            Stiffness::Between(_, _) => 0,
+            Stiffness::AtMost(_) => -1,
+        }
     }
 }
 
@@ -45,7 +45,7 @@ pub fn find(n: usize, low: &[i64], high: &[i64], x: &mut Vector) -> Stiffness
 // The bracket of bounds of order n, with the vector written to a buffer of n numbers.
 fn bracket_bounds(n: usize, low: &[i64], high: &[i64], vector: &mut [i64]) -> Stiffness
     requires { CheckedTables n low.now high.now × (0 < n) × (length vector.old ≡ n) }
-    ensures { ◌≡◌ {A = Bracketed} (record { stiffness = result; vector = vector.new })
+    ensures { ◌≡◌ {A = Bracketed} (record { stiffness = Ok result; vector = vector.new })
         (written (bracketed n (at n low.now) (at n high.now)) vector.old) }
 {
     let mut x = [0i64; GREATEST_ORDER];
@@ -56,21 +56,15 @@ fn bracket_bounds(n: usize, low: &[i64], high: &[i64], vector: &mut [i64]) -> St
 
 // The bracket, of any numbers at all: n is an order or not, and each slice has any length.
 // Refused by the first of the checks 1 to 5 that fails, with the vector kept. Else the vector that is shown is written.
-pub fn bracket(n: i64, low: &[i64], high: &[i64], vector: &mut [i64]) -> Stiffness
+pub fn bracket(n: i64, low: &[i64], high: &[i64], vector: &mut [i64]) -> Result<Stiffness, Refusal>
     ensures exact { ◌≡◌ {A = Bracketed} (record { stiffness = result; vector = vector.new })
         (bracket n low.now high.now vector.old) }
     ensures meaning { Meaning n low.now high.now result vector.new }
 {
-    let m = order_of(n);
-    if m == 0 {
-        return Stiffness::Refused(Refusal::Order);
-    }
+    let m = order(n)?;
     let sized = tables::sizes_ok(m * m, m, low.len(), high.len(), vector.len());
     let mut l = [0i64; TABLE_ROOM];
     let mut u = [0i64; TABLE_ROOM];
-    let checked = enter(n, sized, true, low, high, &mut l, &mut u);
-    if let Checked::Refused(r) = checked {
-        return Stiffness::Refused(r);
-    }
-    bracket_bounds(m, &l, &u, vector)
+    enter(n, sized, true, low, high, &mut l, &mut u)?;
+    Ok(bracket_bounds(m, &l, &u, vector))
 }

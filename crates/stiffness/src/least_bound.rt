@@ -7,7 +7,7 @@ ghost use Rattle.tables.specs.Members.{Nonzero};
 ghost use Rattle.tables.specs.Bounds.{CheckedTables};
 ghost use Rattle.lookahead.specs.Pairs.{under_range};
 ghost use Rattle.stiffness.specs.Bracket.{quotient};
-ghost use Rattle.stiffness.specs.Descent.{TriedEntries, Inside, Asked, raised, Least};
+ghost use Rattle.stiffness.specs.Descent.{TriedEntries, Inside, Asked, Least};
 
 use arithmetic::{ceil_div, product_sum};
 use integers::floor_div;
@@ -29,17 +29,17 @@ fn quotient(n: usize, low: &[i64], high: &[i64], x: &Vector) -> i64
     ceil_div(least_value(n, low, high, x), product_sum(n, x, x))
 }
 
-// The quotient of the first tried vector that is under w, which then stands in x. Where there is none it is v, and x is kept.
-fn ask(n: usize, low: &[i64], high: &[i64], w: i64, v: i64, x: &mut Vector) -> i64
+// The quotient of the first tried vector that is under w, which then stands in x. Where there is none, x is kept.
+fn ask(n: usize, low: &[i64], high: &[i64], w: i64, x: &mut Vector) -> Option<i64>
     requires { CheckedTables n low.now high.now × Within under_range w × (length x.old ≡ greatest_order) }
-    ensures { Asked n (at n low.now) (at n high.now) w v x.old result x.new }
+    ensures { Asked n (at n low.now) (at n high.now) w x.old result x.new }
 {
     let mut y = [0i64; GREATEST_ORDER];
     if !first_under(n, low, high, w, &mut y) {
-        return v;
+        return None;
     }
     *x = y;
-    quotient(n, low, high, x)
+    Some(quotient(n, low, high, x))
 }
 
 // The next number to ask for, between two others: one less than the upper one, so often as is left, and after that the middle.
@@ -53,24 +53,6 @@ fn next(below: i64, v: i64, left: usize) -> i64
     floor_div(below + v, 2)
 }
 
-// The number that no tried vector is under, after w was asked for and v became next.
-fn raised(below: i64, w: i64, v: i64, next: i64) -> i64
-    ensures { result ≡ raised below w v next }
-{
-    if next < v {
-        return below;
-    }
-    w
-}
-
-// One less, down to 0.
-fn fewer(left: usize) -> usize {
-    if left == 0 {
-        return 0;
-    }
-    left - 1
-}
-
 // v, with the vector that is shown in x. A vector that is found is the first that is under its own quotient, so that only less than that is
 // asked for: one less at first, which most tables answer soon, and where DESCENTS searches did not do, the middle of what is left.
 pub fn least_bound(n: usize, low: &[i64], high: &[i64], x: &mut Vector) -> i64
@@ -82,10 +64,11 @@ pub fn least_bound(n: usize, low: &[i64], high: &[i64], x: &mut Vector) -> i64
     let mut left = DESCENTS;
     while below + 1 < v {
         let w = next(below, v, left);
-        let found = ask(n, low, high, w, v, x);
-        below = raised(below, w, v, found);
-        v = found;
-        left = fewer(left);
+        left = left.saturating_sub(1);
+        match ask(n, low, high, w, x) {
+            Some(found) => v = found,
+            None => below = w,
+        }
     }
     v
 }

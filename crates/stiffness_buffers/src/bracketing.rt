@@ -1,5 +1,5 @@
 // The bracket of the stiffness on buffers of bytes.
-ghost use Rattle.std.specs.Prelude.{◌≡◌, ◌*◌, ◌≤◌, ◌<◌, length};
+ghost use Rattle.std.specs.Prelude.{◌≡◌, ◌*◌, ◌≤◌, ◌<◌, length, Ok};
 ghost use Rattle.std.specs.Int.{w64};
 ghost use mir.Val.{bytes};
 ghost use Rattle.words.specs.Numbers.{bytes_of};
@@ -13,8 +13,8 @@ ghost use Rattle.stiffness_buffers.specs.StiffnessBuffers.{stiffness_buffers, St
 
 use buffers::entering::load_bounds;
 use stiffness::bracket::{Stiffness, find};
-use tables::entering::{check_laid, order_of};
-use tables::{Checked, GREATEST_ORDER, Refusal, TABLE_ROOM, Vector};
+use tables::entering::{check_laid, order};
+use tables::{GREATEST_ORDER, Refusal, TABLE_ROOM, Vector};
 use words::SIZE;
 
 // The bound v, and the vector of order n in x, into buffers of their sizes.
@@ -40,7 +40,7 @@ fn bracket_bounds(
     requires { CheckedTables n low.now high.now × (0 < n) × (length step.old ≡ bytes w64) × (length bound.old ≡ bytes
         w64) × (length vector.old ≡ n * bytes w64) }
     ensures { ◌≡◌ {A = StoredStiffness} (record {
-      stiffness = result;
+      stiffness = Ok result;
       step = step.new;
       bound = bound.new;
       vector = vector.new;
@@ -59,8 +59,6 @@ fn bracket_bounds(
             store_bound(n, v, &x, bound, vector);
             Stiffness::AtMost(v)
         }
-        // bounds that were let in are never refused
-        Stiffness::Refused(r) => Stiffness::Refused(r),
     }
 }
 
@@ -80,7 +78,7 @@ pub fn bracket(
     step: &mut [u8],
     bound: &mut [u8],
     vector: &mut [u8],
-) -> Stiffness
+) -> Result<Stiffness, Refusal>
     ensures { ◌≡◌ {A = StoredStiffness} (record {
       stiffness = result;
       step = step.new;
@@ -91,10 +89,7 @@ pub fn bracket(
         (table_of (order_of n) low.now) (table_of (order_of n) high.now))
         step.old bound.old vector.old) }
 {
-    let m = order_of(n);
-    if m == 0 {
-        return Stiffness::Refused(Refusal::Order);
-    }
+    let m = order(n)?;
     let sized = sizes_ok(
         m,
         low.len(),
@@ -104,14 +99,11 @@ pub fn bracket(
         vector.len(),
     );
     if !sized {
-        return Stiffness::Refused(Refusal::Length);
+        return Err(Refusal::Length);
     }
     let mut l = [0i64; TABLE_ROOM];
     let mut u = [0i64; TABLE_ROOM];
     load_bounds(m, sized, low, high, &mut l, &mut u);
-    let checked = check_laid(m, true, &mut l, &mut u);
-    if let Checked::Refused(r) = checked {
-        return Stiffness::Refused(r);
-    }
-    bracket_bounds(m, &l, &u, step, bound, vector)
+    check_laid(m, true, &mut l, &mut u)?;
+    Ok(bracket_bounds(m, &l, &u, step, bound, vector))
 }

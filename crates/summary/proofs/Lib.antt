@@ -4,3 +4,4 @@ pub mod OneFile
 pub mod ReadingExamples
 pub mod RoundTrip
 pub mod Padding
+pub mod Tests

@@ -15,7 +15,8 @@ use Rattle.tables.specs.Mending.{mended_by}
 use Rattle.tables.specs.Checks.{order_ok, first_refusal}
 use Rattle.tables.specs.Entering.{Mended}
 use Rattle.tables.specs.Problem.{problem_of, problem_checks, mended_problem}
-use Rattle.tables.specs.declared.Checked.{Checked}
+use Rattle.tables.specs.Checks.{Checked}
+use Rattle.std.specs.Prelude.{Ok}
 use Rattle.tables.specs.declared.problem.Problem.{Problem}
 use Rattle.tables.proofs.Matrix.{inside, nth-padded, table_fits}
 use Rattle.tables.proofs.MendedTables.{Pairing, greater_pairing, smaller_pairing, at-mended, mended-length, mended_as}
@@ -57,7 +58,7 @@ mended-padded-problem p h k =
 
 -- put together of tables that were mended in their place
 pub mended_together : (p : Problem) {α : ℤ} {r : Checked} {l u : List ℤ} → let c = p.constraint in
-    α ≡ c.limit → Mended (problem_checks p) c.order c.low c.high r l u → r ≡ Checked.Passed →
+    α ≡ c.limit → Mended (problem_checks p) c.order c.low c.high r l u → r ≡ Ok tt →
     problem_of c.order l u c.linear.low c.linear.high α p.centre ≡ mended_problem p
 mended_together p q m e = rw (q, m.low e, m.high e)
 
@@ -84,7 +85,7 @@ module _ (p : Problem) (z : ProblemRooms p) where
       }
 
   -- where it passes the checks, it is mended let through
-  pub mended-through : order_ok (pos n) ≡ true → first_refusal (problem_checks p) ≡ Checked.Passed → padded p ≡ p → LetThrough (mended_problem p)
+  pub mended-through : order_ok (pos n) ≡ true → first_refusal (problem_checks p) ≡ Ok tt → padded p ≡ p → LetThrough (mended_problem p)
   mended-through o e q =
       record {
         order = o;

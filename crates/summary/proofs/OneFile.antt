@@ -4,9 +4,8 @@ use mathlib.Core.Path.{◌≡◌, refl, sym, ap, ◌∙◌}
 use mathlib.Core.Bool.{true}
 use mathlib.Core.List.{List, [], ◌∷◌}
 use Prim.Native.Nat.{ℕ, ◌*◌, ◌^◌, ◌≤◌, ◌<◌}
-use native.Mathlib.Decide.{dec_le}
 use native.Mathlib.Omega.{arith}
-use lib.Dec.{ltb, eqb}
+use lib.Dec.{eqb}
 use lib.IntN.{pos}
 use lib.ListN.{length, get_or}
 use lib.Seq.{take_all}
@@ -20,45 +19,30 @@ use Rattle.tables.specs.Ranges.{greatest_order, table_room}
 use Rattle.tables.specs.Checks.{order_ok, first_refusal}
 use Rattle.tables.specs.Problem.{problem_checks, mended_problem}
 use Rattle.tables.specs.declared.problem.Problem.{Problem}
-use Rattle.tables.specs.declared.Checked.{Checked}
+use Rattle.std.specs.Prelude.{Ok, None, is_some}
 use Rattle.tables.proofs.Matrix.{table_fits}
 use Rattle.tables.proofs.Checks.{all_of, all-at, first-none, first_passes, first-passed, order-of}
 use Rattle.fields.specs.declared.field.Kind.{Kind}
 use Rattle.fields.specs.declared.layout.Layout.{Layout}
 use Rattle.fields.specs.Fields.{kind_count, place_of}
-use Rattle.fields.specs.Layouts.{start_of, length_of, seen, walked, content}
+use Rattle.fields.specs.Layouts.{part_of, length_in, start_of, length_of, seen, layout_of, content}
 use Rattle.fields.specs.Entries.{whole_file}
 use Rattle.fields.proofs.Finding.{place-below, each_place}
 use Rattle.fields.proofs.Parts.{walked_inside, length-content}
 use Rattle.fields.proofs.Whole.{whole-passes, whole-found, passed-whole, length_whole, whole_ext}
-use Rattle.summary.specs.declared.problem.Reading.{Reading}
 use Rattle.summary.specs.Problems.{longest, all_present, order_in, length_for, lengths_for, file_size, lengths_ok, field_checks, problem_from, contents_of, file_of, problem_in, reading_of, reading, ProblemRooms, spelled_by}
-use Rattle.summary.proofs.Spelled.{length_is, called_for, fields_order, order_small, fields_fit, problem_rooms, read_in_passed, read_in_refused, reading_checked, reading-long, reading-walked, reading-stopped, reading-handed, refused_not}
+use Rattle.summary.proofs.Spelled.{length_is, called_for, fields_order, order_small, fields_fit, problem_rooms, read_in_passed, reading-walked, reading-handed, accepted}
 
 -- ---- a file that is accepted
-pub record Accepted (s : List ℕ) : Type 0 where
-  pub passed : (walked s).checked ≡ Checked.Passed
-  pub checked : first_refusal (field_checks s (walked s).layout) ≡ Checked.Passed
-  pub read : reading s ≡ reading_of (spelled_by s)
-
-pub accepted : (s : List ℕ) → (reading s).checked ≡ Checked.Passed → Accepted s
-accepted s e = go (dec_le (length s) longest) (walked s).checked refl (first_refusal (field_checks s (walked s).layout)) refl
-  where
-    go : Dec (length s ≤ longest) → (k : Checked) → (walked s).checked ≡ k → (c : Checked) → first_refusal (field_checks s (walked s).layout) ≡ c → Accepted s
-    go (yes h) Checked.Passed p Checked.Passed q = record { passed = p; checked = q; read = reading-walked s h p ∙ read_in_passed s (walked s).layout q }
-    go (yes h) Checked.Passed p (Checked.Refused r) q = absurd (refused_not r (reading-walked s h p ∙ read_in_refused s (walked s).layout r q) e)
-    go (yes h) (Checked.Refused r) p c q = absurd (refused_not r (reading-stopped s h r p) e)
-    go (no h) k p c q = absurd (refused_not _ (reading-long s (omega arith)) e)
-
 -- every field is there, with the length that the order calls for
-module _ (s : List ℕ) (e : first_refusal (field_checks s (walked s).layout) ≡ Checked.Passed) where
-  all_seen : (k : Kind) → seen (walked s).layout k ≡ true
-  unfolding field_checks all_present seen start_of
+module _ (s : List ℕ) (e : first_refusal (field_checks s (layout_of s)) ≡ Ok tt) where
+  all_seen : (k : Kind) → seen (layout_of s) k ≡ true
+  unfolding field_checks all_present seen part_of
   all_seen k = all-at _ kind_count (first-passed _ _ e) (place_of k) (place-below k)
 
-  field-length : (k : Kind) → length (content s (walked s).layout k) ≡ length_for (order_in s (walked s).layout) k
+  field-length : (k : Kind) → length (content s (layout_of s) k) ≡ length_for (order_in s (layout_of s)) k
   field-length k =
-      let l = (walked s).layout in
+      let l = (layout_of s) in
       let i = walked_inside s in
       length-content s l k i ∙ length_is l (order_in s l) (fields_fit s l e i).sizes k
 
@@ -107,41 +91,36 @@ contents_back c v z Kind.Centre = numbers-back (narrow-of 8) greatest_order (c K
 contents_back c v z Kind.LinearHigh = numbers-back (narrow-of 8) greatest_order (c Kind.LinearHigh) _ (v Kind.LinearHigh) (z Kind.LinearHigh)
 
 -- ---- a file that is accepted is the file of its contents, which are those of the problem that it spells
-module _ (s : List ℕ) (e : (reading s).checked ≡ Checked.Passed) where
-  abbrev layout_of : Layout
-  layout_of = (walked s).layout
-
+module _ (s : List ℕ) {p : Problem} (e : reading s ≡ Ok p) where
   -- the problem that it spells has an order, checks 3, 4, 5 and 16 let it through, and its arrays have their sizes
   pub accepted-order : order_ok (pos (spelled_by s).constraint.order) ≡ true
   unfolding problem_in
-  accepted-order = fields_order s layout_of (accepted s e).checked
+  accepted-order = fields_order s (layout_of s) (accepted s e).checked
 
-  pub accepted-checks : first_refusal (problem_checks (spelled_by s)) ≡ Checked.Passed
-  accepted-checks = sym (reading_checked (spelled_by s)) ∙ sym (ap (λ (x : Reading). x.checked) (accepted s e).read) ∙ e
+  pub accepted-checks : first_refusal (problem_checks (spelled_by s)) ≡ Ok tt
+  accepted-checks = (reading-handed (spelled_by s) (sym (accepted s e).read ∙ e)).0
 
   pub accepted_rooms : ProblemRooms (spelled_by s)
-  accepted_rooms = problem_rooms s layout_of (order_small s layout_of (accepted s e).checked)
+  accepted_rooms = problem_rooms s (layout_of s) (order_small s (layout_of s) (accepted s e).checked)
 
   -- what is handed out is that problem, mended
-  pub accepted-problem : (reading s).problem ≡ mended_problem (spelled_by s)
-  accepted-problem =
-      let r = (accepted s e).read in
-      ap (λ (x : Reading). x.problem) r ∙ reading-handed (spelled_by s) (sym (ap (λ (x : Reading). x.checked) r) ∙ e)
+  pub accepted-problem : p ≡ mended_problem (spelled_by s)
+  accepted-problem = (reading-handed (spelled_by s) (sym (accepted s e).read ∙ e)).1
 
   module _ (v : AllBytes s) where
-    pub accepted-whole : s ≡ whole_file (content s (walked s).layout)
+    pub accepted-whole : s ≡ whole_file (content s (layout_of s))
     accepted-whole = let a = accepted s e in passed-whole s v a.passed (all_seen s a.checked)
 
-    pub accepted-size : length s ≡ file_size (reading s).problem.constraint.order
+    pub accepted-size : length s ≡ file_size p.constraint.order
     unfolding problem_in
     accepted-size =
-        ap length accepted-whole ∙ whole-size (content s (walked s).layout) (order_in s (walked s).layout) (field-length s (accepted s e).checked)
+        ap length accepted-whole ∙ whole-size (content s (layout_of s)) (order_in s (layout_of s)) (field-length s (accepted s e).checked)
         ∙ ap file_size (sym (ap (λ (p : Problem). p.constraint.order) accepted-problem))
 
-    pub accepted_contents : (k : Kind) → contents_of (spelled_by s) k ≡ content s (walked s).layout k
+    pub accepted_contents : (k : Kind) → contents_of (spelled_by s) k ≡ content s (layout_of s) k
     unfolding problem_in order_in content
     accepted_contents k =
-        let l = (walked s).layout in
+        let l = (layout_of s) in
         contents_back (content s l) (λ k. part_bytes (length_of l k) (start_of l k) s v) (field-length s (accepted s e).checked) k
 
     pub accepted-back : s ≡ file_of (spelled_by s)
@@ -149,8 +128,8 @@ module _ (s : List ℕ) (e : (reading s).checked ≡ Checked.Passed) where
     accepted-back = accepted-whole ∙ sym (whole_ext _ _ accepted_contents)
 
 -- ---- so the same contents, or the same problem in the fields, have one file
-module _ (s s' : List ℕ) (v : AllBytes s) (v' : AllBytes s') (e : (reading s).checked ≡ Checked.Passed) (e' : (reading s').checked ≡ Checked.Passed) where
-  pub same-file : ((k : Kind) → content s (walked s).layout k ≡ content s' (walked s').layout k) → s ≡ s'
+module _ (s s' : List ℕ) (v : AllBytes s) (v' : AllBytes s') {p p' : Problem} (e : reading s ≡ Ok p) (e' : reading s' ≡ Ok p') where
+  pub same-file : ((k : Kind) → content s (layout_of s) k ≡ content s' (layout_of s') k) → s ≡ s'
   same-file h = accepted-whole s e v ∙ whole_ext _ _ h ∙ sym (accepted-whole s' e' v')
 
   pub same-problem : spelled_by s ≡ spelled_by s' → s ≡ s'
@@ -165,7 +144,7 @@ module _ (c : Kind → List ℕ) (o : order_ok (pos (get_or (c Kind.Order) 0 0))
   file = whole_file c
 
   abbrev layout : Layout
-  layout = (walked file).layout
+  layout = layout_of file
 
   -- two bytes hold each length
   short : (k : Kind) → length_for order k < 256 ^ 2
@@ -195,17 +174,17 @@ module _ (c : Kind → List ℕ) (o : order_ok (pos (get_or (c Kind.Order) 0 0))
 
   -- 13, 14, 1 and 14 pass
   present : all_present layout ≡ true
-  unfolding all_present seen start_of
-  present = all_of _ kind_count (each_place (λ i. ltb 0 (get_or layout.starts i 0) ≡ true) (λ k. (found k).0))
+  unfolding all_present seen part_of
+  present = all_of _ kind_count (each_place (λ i. is_some (get_or layout.parts i None) ≡ true) (λ k. (found k).0))
 
   sized : lengths_ok layout order ≡ true
-  unfolding lengths_ok length_of
+  unfolding lengths_ok length_of part_of
   sized =
       all_of _ kind_count
-      (each_place (λ i. eqb (get_or layout.lengths i 0) (get_or (lengths_for order) i 0) ≡ true)
+      (each_place (λ i. eqb (length_in (get_or layout.parts i None)) (get_or (lengths_for order) i 0) ≡ true)
       (λ k. eq-eqb _ _ (size-found k ∙ sym (called_for order k))))
 
-  pub whole-checks : first_refusal (field_checks file layout) ≡ Checked.Passed
+  pub whole-checks : first_refusal (field_checks file layout) ≡ Ok tt
   unfolding field_checks
   whole-checks =
       first_passes _ _ present ∙ first_passes _ _ (eq-eqb _ _ (size-found Kind.Order)) ∙ first_passes _ _ (rw whole-order o)

@@ -17,14 +17,13 @@ use Rattle.tables.specs.Matrix.{nth}
 use Rattle.tables.specs.Checks.{order_ok, linear_within, terms_within, ends_checks, first_refusal}
 use Rattle.tables.specs.Problem.{problem_within, constraint_ends, problem_checks, mended_problem}
 use Rattle.tables.specs.declared.problem.Problem.{Problem}
-use Rattle.tables.specs.declared.Checked.TheVariants as Checked
+use Rattle.std.specs.Prelude.{Ok}
 use Rattle.tables.proofs.Matrix.{table_fits}
 use Rattle.tables.proofs.Checks.{order-of}
 use Rattle.tables.proofs.Admission.{Padded, padded-nth, range_same, crossed_same, checks-padded}
 use Rattle.fields.specs.declared.field.Kind.{Kind}
 use Rattle.fields.proofs.Whole.{whole_ext}
-use Rattle.summary.specs.Problems.{contents_of, file_of, padded_to, padded, reading, ProblemRooms, LetThrough}
-use Rattle.summary.specs.declared.problem.Reading.{Reading}
+use Rattle.summary.specs.Problems.{contents_of, file_of, padded_to, padded, checked_of, reading, ProblemRooms, LetThrough}
 use Rattle.summary.proofs.Spelled.{reading_checked}
 use Rattle.summary.proofs.MendedProblems.{nth-padded_to, mended-padded-problem, mended-through}
 use Rattle.summary.proofs.RoundTrip.{InFields, Holds, bytes_ext, file-read}
@@ -138,12 +137,12 @@ module _ (p : Problem) (z : Sized p) where
   padded-mending = mended-padded-problem p (omega (arith, z.low)) (omega (arith, z.high))
 
   -- so where they pass the mended one in arrays is let through
-  pub padded-through : order_ok (pos p.constraint.order) ≡ true → first_refusal (problem_checks p) ≡ Checked.Passed → LetThrough (padded (mended_problem p))
+  pub padded-through : order_ok (pos p.constraint.order) ≡ true → first_refusal (problem_checks p) ≡ Ok tt → LetThrough (padded (mended_problem p))
   padded-through o e =
       subst LetThrough (sym padded-mending) (mended-through (padded p) (padded_rooms (order-of o).1) o (ap first_refusal padded-checks ∙ e) zeros-behind)
 
   -- and a file whose numbers fit their fields gets the refusal that the checks find
-  pub file_checked : order_ok (pos p.constraint.order) ≡ true → InFields p → (reading (file_of p)).checked ≡ first_refusal (problem_checks p)
+  pub file_checked : order_ok (pos p.constraint.order) ≡ true → InFields p → checked_of (reading (file_of p)) ≡ first_refusal (problem_checks p)
   file_checked o f =
       let w : Holds p = record { low = omega (arith, z.low); high = omega (arith, z.high); linear_low = omega (arith, z.linear_low); linear_high = omega (arith, z.linear_high); centre = omega (arith, z.centre) } in
-      ap (λ (r : Reading). r.checked) (file-read p w f o) ∙ reading_checked (padded p) ∙ ap first_refusal padded-checks
+      ap checked_of (file-read p w f o) ∙ reading_checked (padded p) ∙ ap first_refusal padded-checks

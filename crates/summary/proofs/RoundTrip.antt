@@ -19,10 +19,11 @@ use Rattle.integers.specs.Numbers.{Within}
 use Rattle.tables.specs.Ranges.{greatest_order, table_room, entry_range, linear_range, limit_range, centre_range}
 use Rattle.tables.specs.Matrix.{nth}
 use Rattle.tables.specs.Checks.{order_ok, within, all_within, tables_within, linear_within, terms_within, bounds_checks, first_refusal}
+use Rattle.tables.specs.Answers.{after}
 use Rattle.tables.specs.Problem.{problem_within, problem_checks}
 use Rattle.tables.specs.declared.problem.Problem.{Problem}
 use Rattle.tables.specs.declared.Refusal.TheVariants.{Range}
-use Rattle.tables.specs.declared.Checked.{Checked}
+use Rattle.std.specs.Prelude.{Ok, Err}
 use Rattle.tables.proofs.Matrix.{table_fits}
 use Rattle.tables.proofs.Checks.{all-at, within_of, and_left, and_right, first-passed, first-refuses}
 use Rattle.tables.proofs.Answers.{prefix_passed}
@@ -31,8 +32,7 @@ use Rattle.fields.specs.declared.field.Kind.{Kind}
 use Rattle.fields.specs.Fields.{kinds}
 use Rattle.fields.specs.Entries.{head_bytes, entry_bytes, bytes_of_entries, entry_with, whole_file}
 use Rattle.fields.proofs.Finding.{place-below}
-use Rattle.summary.specs.declared.problem.Reading.{Reading}
-use Rattle.summary.specs.Problems.{problem_from, contents_of, file_of, padded_to, padded, read_as, reading_of, reading, ProblemRooms, LetThrough, spelled_by, SymmetricTables, ReadingMeaning}
+use Rattle.summary.specs.Problems.{problem_from, contents_of, file_of, padded_to, padded, reading_of, reading, ProblemRooms, LetThrough, spelled_by, SymmetricTables, ReadingMeaning}
 use Rattle.summary.proofs.MendedProblems.{low-holds, high-holds}
 use Rattle.summary.proofs.Spelled.{reading_as, reading-through}
 use Rattle.summary.proofs.OneFile.{contents_length_lem, accepted_rooms, accepted-problem, accepted-back, problem-there, whole-read}
@@ -145,16 +145,16 @@ fields_within p r =
       centre = all_fit w64 centre_range (omega arith) n p.centre (and_right (within limit_range c.limit) _ o);
     }
 
-pub fields_of_lem : (p : Problem) → first_refusal (problem_checks p) ≡ Checked.Passed → InFields p
+pub fields_of_lem : (p : Problem) → first_refusal (problem_checks p) ≡ Ok tt → InFields p
 unfolding bounds_checks
 fields_of_lem p e = let c = p.constraint in fields_within p (first-passed _ _ (prefix_passed (bounds_checks (problem_within p) c.order c.low c.high) _ e))
 
 -- a number that does not fit its field is refused by 3
-pub outside_range : (p : Problem) → (InFields p → ⊥) → first_refusal (problem_checks p) ≡ Checked.Refused Range
+pub outside_range : (p : Problem) → (InFields p → ⊥) → first_refusal (problem_checks p) ≡ Err Range
 unfolding bounds_checks
 outside_range p f = go (in_range p) refl
   where
-    go : (b : Bool) → in_range p ≡ b → first_refusal (problem_checks p) ≡ Checked.Refused Range
+    go : (b : Bool) → in_range p ≡ b → first_refusal (problem_checks p) ≡ Err Range
     go true e = absurd (f (fields_within p e))
     go false e = first-refuses _ _ e
 
@@ -177,33 +177,25 @@ module _ (p : Problem) (t : LetThrough p) where
   pub file-spelled : spelled_by (file_of p) ≡ p
   file-spelled = file_spells p (holds_of p t.rooms) (fields_of_lem p t.checks) t.order ∙ t.zeros
 
-  pub read_back : reading (file_of p) ≡ read_as Checked.Passed p
+  pub read_back : reading (file_of p) ≡ Ok p
+  unfolding after
   read_back =
-      file-read p (holds_of p t.rooms) (fields_of_lem p t.checks) t.order ∙ ap reading_of t.zeros ∙ reading_as p t.checks
-      ∙ ap (read_as Checked.Passed) t.mended
+      file-read p (holds_of p t.rooms) (fields_of_lem p t.checks) t.order ∙ ap reading_of t.zeros ∙ reading_as p t.checks ∙ ap Ok t.mended
 
 -- ---- a file that is accepted
-module _ (s : List ℕ) (v : AllBytes s) (e : (reading s).checked ≡ Checked.Passed) where
+module _ (s : List ℕ) (v : AllBytes s) {p : Problem} (e : reading s ≡ Ok p) where
   -- with symmetric tables: nothing is mended, and it is the file of its problem
-  symmetric_read : SymmetricTables (spelled_by s) → (reading s).problem ≡ spelled_by s
+  symmetric_read : SymmetricTables (spelled_by s) → p ≡ spelled_by s
   symmetric_read h =
       let z = accepted_rooms s e in
       accepted-problem s e ∙ symmetric_problem (spelled_by s) (low-holds (spelled_by s) z) (high-holds (spelled_by s) z) h
 
-  accepted-file : SymmetricTables (spelled_by s) → file_of (reading s).problem ≡ s
+  accepted-file : SymmetricTables (spelled_by s) → file_of p ≡ s
   accepted-file h = ap file_of (symmetric_read h) ∙ sym (accepted-back s e v)
 
   -- and only then
-  accepted_symmetric : file_of (reading s).problem ≡ s → SymmetricTables (spelled_by s)
-  accepted_symmetric f =
-      let t = reading-through s e in
-      subst SymmetricTables (sym (file-spelled (reading s).problem t) ∙ ap spelled_by f) (let_symmetric (reading s).problem t)
-
-  -- the file of its problem is read as it was
-  accepted_again : reading (file_of (reading s).problem) ≡ reading s
-  unfolding read_as
-  accepted_again =
-      read_back (reading s).problem (reading-through s e) ∙ ap (λ (k : Checked). record { checked = k; problem = (reading s).problem }) (sym e)
+  accepted_symmetric : file_of p ≡ s → SymmetricTables (spelled_by s)
+  accepted_symmetric f = let t = reading-through s e in subst SymmetricTables (sym (file-spelled p t) ∙ ap spelled_by f) (let_symmetric p t)
 
 pub reading-means : (s : List ℕ) → AllBytes s → ReadingMeaning s (reading s)
 reading-means s v =
@@ -213,7 +205,8 @@ reading-means s v =
       spelled = λ e. sym (accepted-back s e v);
       back = accepted-file s v;
       only = accepted_symmetric s v;
-      again = accepted_again s v;
+      -- the file of its problem is read as it was
+      again = λ {p} e. read_back p (reading-through s e) ∙ sym e;
     }
 
 -- ---- the file is made of bytes
@@ -266,21 +259,19 @@ file_bytes p h = entry_bytes_lem (contents_of p) (content_bytes p (omega arith))
 pub record OnlyFile (p : Problem) (s : List ℕ) : Type 0 where
   pub bytes : AllBytes s
   pub symmetric : SymmetricTables (spelled_by s)
-  pub read : reading s ≡ read_as Checked.Passed p
-  pub only : (s' : List ℕ) → AllBytes s' → SymmetricTables (spelled_by s') → reading s' ≡ read_as Checked.Passed p → s' ≡ s
+  pub read : reading s ≡ Ok p
+  pub only : (s' : List ℕ) → AllBytes s' → SymmetricTables (spelled_by s') → reading s' ≡ Ok p → s' ≡ s
 
 -- for each problem that is let through
 pub one-file : (p : Problem) → LetThrough p → OnlyFile p (file_of p)
-unfolding read_as
 one-file p t =
     record {
       bytes = file_bytes p t.rooms.order;
       symmetric = subst SymmetricTables (sym (file-spelled p t)) (let_symmetric p t);
       read = read_back p t;
-      only = λ s v h e. sym (accepted-file s v (ap (λ (r : Reading). r.checked) e) h) ∙ ap (λ (r : Reading). file_of r.problem) e;
+      only = λ s v h e. sym (accepted-file s v e h);
     }
 
 -- and each file with symmetric tables that is accepted is that of its problem
-pub accepted-one : (s : List ℕ) → AllBytes s → SymmetricTables (spelled_by s) → (reading s).checked ≡ Checked.Passed →
-    LetThrough (reading s).problem × (s ≡ file_of (reading s).problem)
+pub accepted-one : (s : List ℕ) {p : Problem} → AllBytes s → SymmetricTables (spelled_by s) → reading s ≡ Ok p → LetThrough p × (s ≡ file_of p)
 accepted-one s v h e = (reading-through s e, sym (accepted-file s v e h))

@@ -1,6 +1,6 @@
 -- Laws of the problem that a file spells: what the checks of its fields say, and what a problem that is handed out is.
 use mathlib.Core.Path.{◌≡◌, refl, sym, ap, ◌∙◌}
-use mathlib.Core.Bool.{true, false≢true}
+use mathlib.Core.Bool.{true}
 use mathlib.Core.List.{List, ◌++◌}
 use Prim.Native.Nat.{ℕ, ◌*◌, ◌-◌, ◌≤◌, ◌<◌}
 use native.Mathlib.Decide.{dec_le}
@@ -19,17 +19,20 @@ use Rattle.tables.specs.Entering.{Mended}
 use Rattle.tables.specs.Problem.{problem_of, problem_checks, mended_problem}
 use Rattle.tables.specs.declared.Refusal.{Refusal}
 use Rattle.tables.specs.declared.Refusal.TheVariants.{Long}
-use Rattle.tables.specs.declared.Checked.{Checked}
+use Rattle.tables.specs.Checks.{Checked}
+use Rattle.tables.specs.Answers.{after}
+use Rattle.std.specs.Prelude.{Ok, Err}
 use Rattle.tables.proofs.Matrix.{table_fits}
+use Rattle.tables.proofs.Answers.{after-passed, after-refused, after_ok}
 use Rattle.tables.proofs.Checks.{all-at, first-passed, rest-passed, order-of}
 use Rattle.fields.specs.declared.field.Kind.{Kind}
 use Rattle.fields.specs.declared.layout.Layout.{Layout}
 use Rattle.fields.specs.Fields.{kind_count, place_of}
-use Rattle.fields.specs.Layouts.{length_of, content, Inside, walked}
+use Rattle.fields.specs.Layouts.{part_of, length_of, content, Inside, Walked, walked, layout_of}
 use Rattle.fields.proofs.Finding.{place-below}
-use Rattle.summary.specs.declared.problem.Reading.{Reading}
+use Rattle.fields.proofs.Parts.{layout_is}
 use Rattle.summary.proofs.MendedProblems.{mended_together, mended-through}
-use Rattle.summary.specs.Problems.{longest, order_in, length_for, lengths_for, lengths_ok, field_checks, padded_to, padded, problem_in, no_problem, read_as, reading_of, read_in, read_walked, reading, ProblemRooms, FieldsFit, LetThrough}
+use Rattle.summary.specs.Problems.{longest, order_in, length_for, lengths_for, lengths_ok, field_checks, padded_to, padded, problem_in, checked_of, reading_of, read_in, read_walked, reading, ProblemRooms, FieldsFit, LetThrough, spelled_by}
 
 -- ---- the lengths of the fields
 pub called_for : (n : ℕ) (k : Kind) → get_or (lengths_for n) (place_of k) 0 ≡ length_for n k
@@ -43,11 +46,11 @@ called_for n Kind.LinearHigh = refl
 
 -- each field has the length that n calls for
 pub length_is : (l : Layout) (n : ℕ) → lengths_ok l n ≡ true → (k : Kind) → length_of l k ≡ length_for n k
-unfolding lengths_ok length_of
+unfolding lengths_ok length_of part_of
 length_is l n e k = eqb-true _ _ (all-at _ kind_count e (place_of k) (place-below k)) ∙ called_for n k
 
 -- ---- fields that pass
-module _ (s : List ℕ) (l : Layout) (e : first_refusal (field_checks s l) ≡ Checked.Passed) where
+module _ (s : List ℕ) (l : Layout) (e : first_refusal (field_checks s l) ≡ Ok tt) where
   pub fields_order : order_ok (pos (order_in s l)) ≡ true
   unfolding field_checks
   fields_order = first-passed _ _ (rest-passed _ _ (rest-passed _ _ e))
@@ -97,90 +100,81 @@ problem-padded s l =
     )
 
 -- ---- the cases of a reading
-pub reading_as : (p : Problem) {k : Checked} → first_refusal (problem_checks p) ≡ k → reading_of p ≡ read_as k (mended_problem p)
+pub reading_as : (p : Problem) {k : Checked} → first_refusal (problem_checks p) ≡ k → reading_of p ≡ after Err k (Ok (mended_problem p))
 unfolding reading_of
-reading_as p e = ap (λ (k : Checked). read_as k (mended_problem p)) e
+reading_as p e = ap (λ (k : Checked). after Err k (Ok (mended_problem p))) e
 
--- tables that were mended in their place
-pub reading-mended : (p : Problem) {α : ℤ} {r : Checked} {l u : List ℤ} → let c = p.constraint in
-    α ≡ c.limit → Mended (problem_checks p) c.order c.low c.high r l u → r ≡ Checked.Passed →
-    record { checked = Checked.Passed; problem = problem_of c.order l u c.linear.low c.linear.high α p.centre } ≡ reading_of p
-unfolding read_as
-reading-mended p q m e = ap (read_as Checked.Passed) (mended_together p q m e) ∙ sym (reading_as p (sym m.answered ∙ e))
+-- by tables that were mended in their place, or were refused
+module _ (p : Problem) {r : Checked} {l u : List ℤ} (m : let c = p.constraint in Mended (problem_checks p) c.order c.low c.high r l u) where
+  pub reading-mended : r ≡ Ok tt → let c = p.constraint in Ok (problem_of c.order l u c.linear.low c.linear.high c.limit p.centre) ≡ reading_of p
+  unfolding after
+  reading-mended e = ap Ok (mended_together p refl m e) ∙ sym (reading_as p (sym m.answered ∙ e))
 
-pub reading_checked : (p : Problem) → (reading_of p).checked ≡ first_refusal (problem_checks p)
-unfolding read_as
+  pub reading-refused : {k : Refusal} → r ≡ Err k → Err k ≡ reading_of p
+  unfolding after
+  reading-refused e = sym (reading_as p (sym m.answered ∙ e))
+
+pub reading_checked : (p : Problem) → checked_of (reading_of p) ≡ first_refusal (problem_checks p)
+unfolding after
 reading_checked p = go (first_refusal (problem_checks p)) refl
   where
-    go : (k : Checked) → first_refusal (problem_checks p) ≡ k → (reading_of p).checked ≡ k
-    go Checked.Passed h = ap (λ (r : Reading). r.checked) (reading_as p h)
-    go (Checked.Refused r) h = ap (λ (q : Reading). q.checked) (reading_as p h)
+    go : (k : Checked) → first_refusal (problem_checks p) ≡ k → checked_of (reading_of p) ≡ k
+    go (Ok tt) h = ap checked_of (reading_as p h)
+    go (Err r) h = ap checked_of (reading_as p h)
 
--- what is handed out is the mended problem
-pub reading-handed : (p : Problem) → (reading_of p).checked ≡ Checked.Passed → (reading_of p).problem ≡ mended_problem p
-unfolding read_as
-reading-handed p e = go (first_refusal (problem_checks p)) refl
-  where
-    go : (k : Checked) → first_refusal (problem_checks p) ≡ k → (reading_of p).problem ≡ mended_problem p
-    go Checked.Passed h = ap (λ (r : Reading). r.problem) (reading_as p h)
-    go (Checked.Refused r) h = absurd (false≢true (cc (reading_as p h)))
+-- what is handed out is the mended problem, and the checks pass
+pub reading-handed : (p : Problem) {q : Problem} → reading_of p ≡ Ok q → (first_refusal (problem_checks p) ≡ Ok tt) × (q ≡ mended_problem p)
+unfolding reading_of
+reading-handed p {q} e = let h = after_ok (first_refusal (problem_checks p)) (mended_problem p) q e in (h.0, sym h.1)
 
 module _ (s : List ℕ) (l : Layout) where
-  pub read_in_passed : first_refusal (field_checks s l) ≡ Checked.Passed → read_in s l ≡ reading_of (problem_in s l)
+  pub read_in_passed : first_refusal (field_checks s l) ≡ Ok tt → read_in s l ≡ reading_of (problem_in s l)
   unfolding read_in
-  read_in_passed e = rw (e, read_in)
+  read_in_passed e = sym (after-passed Err (reading_of (problem_in s l)) e)
 
-  pub read_in_refused : (r : Refusal) → first_refusal (field_checks s l) ≡ Checked.Refused r → read_in s l ≡ read_as (Checked.Refused r) no_problem
+  pub read_in_refused : (r : Refusal) → first_refusal (field_checks s l) ≡ Err r → read_in s l ≡ Err r
   unfolding read_in
-  read_in_refused r e = rw (e, read_in)
+  read_in_refused r e = sym (after-refused Err r (reading_of (problem_in s l)) e)
 
 module _ (s : List ℕ) where
-  pub reading-long : longest < length s → reading s ≡ read_as (Checked.Refused Long) no_problem
+  pub reading-long : longest < length s → reading s ≡ Err Long
   unfolding reading
   reading-long h = rw (lt-leb _ _ h, reading)
 
   module _ (h : length s ≤ longest) where
-    pub reading-walked : (walked s).checked ≡ Checked.Passed → reading s ≡ read_in s (walked s).layout
+    pub reading-walked : {l : Layout} → walked s ≡ Ok l → reading s ≡ read_in s l
     unfolding reading read_walked
     reading-walked e = rw (le-leb _ _ h, e, reading, read_walked)
 
-    pub reading-stopped : (r : Refusal) → (walked s).checked ≡ Checked.Refused r → reading s ≡ read_as (Checked.Refused r) no_problem
+    pub reading-stopped : (r : Refusal) → walked s ≡ Err r → reading s ≡ Err r
     unfolding reading read_walked
     reading-stopped r e = rw (le-leb _ _ h, e, reading, read_walked)
 
--- a refusal is no problem
-pub refused_not : (r : Refusal) {q : Reading} → q ≡ read_as (Checked.Refused r) no_problem → q.checked ≡ Checked.Passed → ⊥
-unfolding read_as
-refused_not r {q} e p = let o : q.checked ≡ Checked.Refused r = ap (λ (x : Reading). x.checked) e in false≢true (cc)
+-- ---- a reading that hands out a problem
+-- the walk passed, and so did the checks of the fields
+pub record Accepted (s : List ℕ) : Type 0 where
+  pub passed : walked s ≡ Ok (layout_of s)
+  pub checked : first_refusal (field_checks s (layout_of s)) ≡ Ok tt
+  pub read : reading s ≡ reading_of (spelled_by s)
 
--- ---- what a problem that is handed out is
-abbrev pub Through : Reading → Type 0
-Through r = r.checked ≡ Checked.Passed → LetThrough r.problem
+pub accepted : (s : List ℕ) {p : Problem} → reading s ≡ Ok p → Accepted s
+accepted s {p} e = go (dec_le (length s) longest) (walked s) refl
+  where
+    fields : (l : Layout) → walked s ≡ Ok l → layout_of s ≡ l → reading s ≡ read_in s l → (c : Checked) → first_refusal (field_checks s l) ≡ c → Accepted s
+    fields l w m q (Ok tt) f = record { passed = w ∙ ap Ok (sym m); checked = rw m f; read = q ∙ read_in_passed s l f ∙ ap (λ (l : Layout). reading_of (problem_in s l)) (sym m) }
+    fields l w m q (Err r) f = cc (e, q, read_in_refused s l r f)
 
-read_as_through : (k : Checked) (p : Problem) → (k ≡ Checked.Passed → LetThrough p) → Through (read_as k p)
-unfolding read_as
-read_as_through Checked.Passed p f e = f refl
-read_as_through (Checked.Refused r) p f e = absurd (false≢true (cc))
+    go : Dec (length s ≤ longest) → (w : Walked) → walked s ≡ w → Accepted s
+    go (yes h) (Ok l) f = fields l f (layout_is s f) (reading-walked s h f) (first_refusal (field_checks s l)) refl
+    go (yes h) (Err r) f = cc (e, reading-stopped s h r f)
+    go (no h) w f = cc (e, reading-long s (omega arith))
 
-refused-through : (r : Refusal) → Through (read_as (Checked.Refused r) no_problem)
-refused-through r = read_as_through (Checked.Refused r) no_problem (λ e. absurd (false≢true (cc)))
-
-reading-of-through : (p : Problem) → order_ok (pos p.constraint.order) ≡ true → ProblemRooms p → padded p ≡ p → Through (reading_of p)
-unfolding reading_of
-reading-of-through p h z o = read_as_through (first_refusal (problem_checks p)) (mended_problem p) (λ e. mended-through p z h e o)
-
-read_in_through : (s : List ℕ) (l : Layout) → Through (read_in s l)
+-- what it hands out is let through
+pub reading-through : (s : List ℕ) {p : Problem} → reading s ≡ Ok p → LetThrough p
 unfolding problem_in
-read_in_through s l = go (first_refusal (field_checks s l)) refl
-  where
-    go : (k : Checked) → first_refusal (field_checks s l) ≡ k → Through (read_in s l)
-    go Checked.Passed e = rw (read_in_passed s l e) (reading-of-through (problem_in s l) (fields_order s l e) (problem_rooms s l (order_small s l e)) (problem-padded s l))
-    go (Checked.Refused r) e = rw (read_in_refused s l r e) (refused-through r)
-
-pub reading-through : (s : List ℕ) → Through (reading s)
-reading-through s = go (dec_le (length s) longest) (walked s).checked refl
-  where
-    go : Dec (length s ≤ longest) → (k : Checked) → (walked s).checked ≡ k → Through (reading s)
-    go (yes h) Checked.Passed e = rw (reading-walked s h e) (read_in_through s (walked s).layout)
-    go (yes h) (Checked.Refused r) e = rw (reading-stopped s h r e) (refused-through r)
-    go (no h) k e = rw (reading-long s (omega arith)) (refused-through Long)
+reading-through s {p} e =
+    let a = accepted s e in
+    let l = layout_of s in
+    let h = reading-handed (spelled_by s) (sym a.read ∙ e) in
+    let z = problem_rooms s l (order_small s l a.checked) in
+    rw h.1 (mended-through (problem_in s l) z (fields_order s l a.checked) h.0 (problem-padded s l))

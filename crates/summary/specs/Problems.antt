@@ -1,22 +1,22 @@
 -- R17 and R5.11 of docs/RULES.md: the problem that a file spells, or the refusal that it gets.
-use Rattle.std.specs.Prelude.{◌≡◌, Bool, true, false, List, [], ◌∷◌, ◌++◌, map, ℕ, ◌+◌, ◌*◌, ◌-◌, ◌≤◌, leb, ltb, eqb, ℤ, pos, length, get_or, take, replicate}
+use Rattle.std.specs.Prelude.{◌≡◌, Bool, true, false, List, [], ◌∷◌, ◌++◌, map, ℕ, ◌+◌, ◌*◌, ◌-◌, ◌≤◌, leb, eqb, ℤ, pos, length, get_or, take, replicate}
 use Rattle.std.specs.Int.{w32, w64}
 use mir.Val.{bytes}
 use Rattle.words.specs.Numbers.{signed_at, padded_numbers_of, bytes_of}
 use Rattle.tables.specs.Ranges.{greatest_order, table_room}
-use Rattle.tables.specs.Checks.{Check, all, order_ok, first_refusal}
+use Rattle.std.specs.Prelude.{None, is_some, Result, Ok, Err}
+use Rattle.tables.specs.Checks.{Check, Checked, all, order_ok, first_refusal}
+use Rattle.tables.specs.Answers.{after}
 use Rattle.tables.specs.declared.problem.Problem.{Problem}
 use Rattle.tables.specs.Mending.{Symmetric}
 use Rattle.tables.specs.Problem.{problem_of, problem_checks, mended_problem}
+use Rattle.tables.specs.declared.Refusal.{Refusal}
 use Rattle.tables.specs.declared.Refusal.TheVariants.{Order, Absent, Size, Long}
-use Rattle.tables.specs.declared.Checked.{Checked}
 use Rattle.fields.specs.declared.field.Kind.{Kind}
 use Rattle.fields.specs.declared.layout.Layout.{Layout}
-use Rattle.fields.specs.declared.layout.Walked.{Walked}
 use Rattle.fields.specs.Fields.{kinds, kind_count}
-use Rattle.fields.specs.Layouts.{length_of, content, Inside, walked}
+use Rattle.fields.specs.Layouts.{length_in, length_of, content, Inside, Walked, walked, layout_of}
 use Rattle.fields.specs.Entries.{whole_file}
-use Rattle.summary.specs.declared.problem.Reading.{Reading}
 
 -- R17.1: the longest file that 15 lets through
 abbrev pub longest : ℕ
@@ -24,7 +24,7 @@ longest = 4096
 
 -- 13: a tag is missing
 unfoldable pub all_present : Layout → Bool
-all_present l = all kind_count (λ k. ltb 0 (get_or l.starts k 0))
+all_present l = all kind_count (λ k. is_some (get_or l.parts k None))
 
 -- R17.3: n, the byte of tag 01, unsigned
 unfoldable pub order_in : List ℕ → Layout → ℕ
@@ -49,7 +49,7 @@ file_size n = 8 * (n * n) + 24 * n + 30
 
 -- 14: each field has the length that n calls for
 unfoldable pub lengths_ok : Layout → ℕ → Bool
-lengths_ok l n = all kind_count (λ k. eqb (get_or l.lengths k 0) (get_or (lengths_for n) k 0))
+lengths_ok l n = all kind_count (λ k. eqb (length_in (get_or l.parts k None)) (get_or (lengths_for n) k 0))
 
 -- R5.11: 13; 14 of tag 01; 1; 14 of tags 02 to 07
 unfoldable pub field_checks : List ℕ → Layout → List Check
@@ -108,37 +108,31 @@ padded p =
 unfoldable pub problem_in : List ℕ → Layout → Problem
 problem_in s l = problem_from (order_in s l) (content s l)
 
--- R5.10: a refusal, with zeros for a problem
-unfoldable pub no_problem : Problem
-no_problem =
-    let table = replicate table_room (pos 0) in
-    let vector = replicate greatest_order (pos 0) in
-    problem_of 0 table table vector vector (pos 0) vector
+-- what the reading of a file finds: its problem, mended, or the first refusal
+abbrev pub Reading : Type 0
+Reading = Result Problem Refusal
 
--- the problem where nothing refuses it, else the refusal
-unfoldable pub read_as : Checked → Problem → Reading
-read_as Checked.Passed p = record { checked = Checked.Passed; problem = p }
-read_as (Checked.Refused r) p = record { checked = Checked.Refused r; problem = no_problem }
+-- whether it is refused, and by which refusal
+abbrev pub checked_of : Reading → Checked
+checked_of (Ok p) = Ok tt
+checked_of (Err r) = Err r
 
 -- R17.5: 3, 4, 5, 16 of the problem in the fields; what is handed out is the mended problem (R2.10)
 unfoldable pub reading_of : Problem → Reading
-reading_of p = read_as (first_refusal (problem_checks p)) (mended_problem p)
+reading_of p = after Err (first_refusal (problem_checks p)) (Ok (mended_problem p))
 
 -- what the fields of a layout give
 unfoldable pub read_in : List ℕ → Layout → Reading
-read_in s l =
-    elim (first_refusal (field_checks s l)) [
-      | Checked.Passed ↦ reading_of (problem_in s l)
-      | Checked.Refused r ↦ read_as (Checked.Refused r) no_problem
-    ]
+read_in s l = after Err (first_refusal (field_checks s l)) (reading_of (problem_in s l))
 
 -- what the walk gives
 unfoldable pub read_walked : List ℕ → Walked → Reading
-read_walked s w = elim w.checked [ Checked.Passed ↦ read_in s w.layout | Checked.Refused r ↦ read_as (Checked.Refused r) no_problem ]
+read_walked s (Ok l) = read_in s l
+read_walked s (Err r) = Err r
 
 -- R5.11: the problem of a file, of any bytes at all: 15 first
 unfoldable pub reading : List ℕ → Reading
-reading s = elim (leb (length s) longest) [ true ↦ read_walked s (walked s) | false ↦ read_as (Checked.Refused Long) no_problem ]
+reading s = elim (leb (length s) longest) [ true ↦ read_walked s (walked s) | false ↦ Err Long ]
 
 -- the arrays of a problem have their sizes
 pub record ProblemRooms (p : Problem) : Type 0 where
@@ -161,28 +155,28 @@ pub record FieldsFit (s : List ℕ) (l : Layout) : Type 0 where
 -- sizes, and zeros stand behind its numbers
 pub record LetThrough (p : Problem) : Type 0 where
   pub order : order_ok (pos p.constraint.order) ≡ true
-  pub checks : first_refusal (problem_checks p) ≡ Checked.Passed
+  pub checks : first_refusal (problem_checks p) ≡ Ok tt
   pub mended : mended_problem p ≡ p
   pub rooms : ProblemRooms p
   pub zeros : padded p ≡ p
 
 -- the problem that the fields of a file spell
 abbrev pub spelled_by : List ℕ → Problem
-spelled_by s = problem_in s (walked s).layout
+spelled_by s = problem_in s (layout_of s)
 
 -- the halves of both tables of a problem agree
 abbrev pub SymmetricTables : Problem → Type 0
 SymmetricTables p = let c = p.constraint in Symmetric c.order c.low c.high
 
--- of a reading r of the file s, where a problem is handed out
+-- of a reading r of the file s, where a problem p is handed out
 pub record ReadingMeaning (s : List ℕ) (r : Reading) : Type 0 where
   -- it is let through
-  pub through : r.checked ≡ Checked.Passed → LetThrough r.problem
+  pub through : {p : Problem} → r ≡ Ok p → LetThrough p
   -- it is the mended one of the problem that the file spells (R17.5), and the file is the seven fields of that, no more (R17.6)
-  pub problem : r.checked ≡ Checked.Passed → r.problem ≡ mended_problem (spelled_by s)
-  pub spelled : r.checked ≡ Checked.Passed → file_of (spelled_by s) ≡ s
+  pub problem : {p : Problem} → r ≡ Ok p → p ≡ mended_problem (spelled_by s)
+  pub spelled : {p : Problem} → r ≡ Ok p → file_of (spelled_by s) ≡ s
   -- R24.3: its own file is s, byte for byte, where the tables of s are symmetric, and only there
-  pub back : r.checked ≡ Checked.Passed → SymmetricTables (spelled_by s) → file_of r.problem ≡ s
-  pub only : r.checked ≡ Checked.Passed → file_of r.problem ≡ s → SymmetricTables (spelled_by s)
+  pub back : {p : Problem} → r ≡ Ok p → SymmetricTables (spelled_by s) → file_of p ≡ s
+  pub only : {p : Problem} → r ≡ Ok p → file_of p ≡ s → SymmetricTables (spelled_by s)
   -- and whatever the tables of s are, the file of the problem that is handed out is read as that problem again
-  pub again : r.checked ≡ Checked.Passed → reading (file_of r.problem) ≡ r
+  pub again : {p : Problem} → r ≡ Ok p → reading (file_of p) ≡ r

@@ -8,11 +8,11 @@ use lib.ListN.{length}
 use Rattle.integers.specs.Numbers.{Within}
 use Rattle.tables.specs.Ranges.{entry_range, linear_range, limit_range}
 use Rattle.tables.specs.Matrix.{nth}
-use Rattle.tables.specs.Checks.{Check, first_refusal, within, all_within, linear_within, tables_within, bounds_checks}
+use Rattle.tables.specs.Checks.{Check, Checked, first_refusal, within, all_within, linear_within, tables_within, bounds_checks}
 use Rattle.tables.specs.Answers.{after}
 use Rattle.tables.specs.Entering.{Mended}
 use Rattle.tables.specs.Problem.{mended_constraint, constraint_ends}
-use Rattle.tables.specs.declared.Checked.{Checked}
+use Rattle.std.specs.Prelude.{Ok, Err}
 use Rattle.tables.specs.declared.problem.Constraint.{Constraint}
 use Rattle.tables.proofs.Checks.{and_left, and_right, and_of, all-at, within_of, linear_of, first-passed, more-checks, no-more-checks}
 use Rattle.tables.proofs.Answers.{prefix_passed}
@@ -20,16 +20,16 @@ use Rattle.tables.proofs.Admission.{bounds-mended}
 use Rattle.sums.specs.Sums.{terms_in, sums_checks, own_checks, sums_within}
 
 -- ---- checks, and then more of them
-pub both_checks : (cs ds : List Check) {k r : Checked} → k ≡ first_refusal cs → r ≡ after Checked.Refused k (first_refusal ds) → r ≡ first_refusal (cs ++ ds)
+pub both_checks : (cs ds : List Check) {k r : Checked} → k ≡ first_refusal cs → r ≡ after Err k (first_refusal ds) → r ≡ first_refusal (cs ++ ds)
 unfolding after
 both_checks cs ds {k} e f = f ∙ go k e
   where
-    go : (k : Checked) → k ≡ first_refusal cs → after Checked.Refused k (first_refusal ds) ≡ first_refusal (cs ++ ds)
-    go Checked.Passed e = sym (more-checks cs ds (sym e))
-    go (Checked.Refused r) e = sym (no-more-checks cs ds r (sym e))
+    go : (k : Checked) → k ≡ first_refusal cs → after Err k (first_refusal ds) ≡ first_refusal (cs ++ ds)
+    go (Ok _) e = sym (more-checks cs ds (sym e))
+    go (Err r) e = sym (no-more-checks cs ds r (sym e))
 
 -- of tables that are mended where the first ones pass
-pub mended_both : (cs ds : List Check) {n : ℕ} {l u l' u' : List ℤ} {k r : Checked} → Mended cs n l u k l' u' → r ≡ after Checked.Refused k (first_refusal ds) →
+pub mended_both : (cs ds : List Check) {n : ℕ} {l u l' u' : List ℤ} {k r : Checked} → Mended cs n l u k l' u' → r ≡ after Err k (first_refusal ds) →
     Mended (cs ++ ds) n l u r l' u'
 mended_both cs ds m e =
     let answered = both_checks cs ds m.answered e in
@@ -49,7 +49,7 @@ tables-of m l u e k h = (
   within_of entry_range (nth u k) (all-at _ m (and_right (all_within entry_range m l) _ e) k h),
 )
 
-module _ (limits : Bool) (c : Constraint) (e : first_refusal (sums_checks limits c) ≡ Checked.Passed) where
+module _ (limits : Bool) (c : Constraint) (e : first_refusal (sums_checks limits c) ≡ Ok tt) where
   -- check 3
   terms : terms_in limits c ≡ true
   unfolding bounds_checks
@@ -67,7 +67,7 @@ module _ (limits : Bool) (c : Constraint) (e : first_refusal (sums_checks limits
 
 -- sums that pass, mended, pass again
 pub sums-mended : (limits : Bool) (c : Constraint) → c.order * c.order ≤ length c.low → c.order * c.order ≤ length c.high →
-    first_refusal (sums_checks limits c) ≡ Checked.Passed → first_refusal (sums_checks limits (mended_constraint c)) ≡ Checked.Passed
+    first_refusal (sums_checks limits c) ≡ Ok tt → first_refusal (sums_checks limits (mended_constraint c)) ≡ Ok tt
 sums-mended limits c h k e =
     let bounds = bounds_checks (terms_in limits c) c.order c.low c.high in
     let passed = prefix_passed bounds (constraint_ends c) e in
@@ -75,7 +75,7 @@ sums-mended limits c h k e =
     ∙ sym (more-checks bounds (constraint_ends c) passed) ∙ e
 
 -- sums that passed 3, 4, 5 and 16 are, mended, in their ranges
-pub mended-within : (c : Constraint) → c.order * c.order ≤ length c.low → c.order * c.order ≤ length c.high → first_refusal (own_checks c) ≡ Checked.Passed →
+pub mended-within : (c : Constraint) → c.order * c.order ≤ length c.low → c.order * c.order ≤ length c.high → first_refusal (own_checks c) ≡ Ok tt →
     sums_within (mended_constraint c) ≡ true
 unfolding sums_within
 mended-within c h k e =

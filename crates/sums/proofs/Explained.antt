@@ -19,7 +19,8 @@ use Rattle.tables.specs.declared.problem.Constraint.{Constraint}
 use Rattle.tables.proofs.Matrix.{inside, nth-tabulate}
 use Rattle.tables.proofs.Forms.{form-+, form-*}
 use Rattle.tables.proofs.MendedTables.{member_mended}
-use Rattle.sums.specs.Sums.{Outcome, taken, refused, plus, sums_within}
+use Rattle.sums.specs.Sums.{Outcome, plus, sums_within}
+use Rattle.std.specs.Prelude.{Ok, Err}
 use Rattle.sums.specs.Halving.{half_down, half_up, halved, added_in, fitted}
 use Rattle.sums.specs.Explaining.{Explains, Explained}
 
@@ -182,38 +183,38 @@ module _ (g c : Constraint) (ordered : g.order ≡ c.order) {u v u' v' : ℤ} {X
   }
 
 -- ---- adding with at most one halving
-pub fitted_cases : (P : Outcome → Type 0) (g c : Constraint) → (sums_within (plus g c) ≡ true → P (taken (plus g c))) →
-    (sums_within (plus g (halved c)) ≡ true → P (taken (plus g (halved c)))) → (sums_within (plus g (halved c)) ≡ false → P (refused Full)) → P (fitted g c)
+pub fitted_cases : (P : Outcome → Type 0) (g c : Constraint) → (sums_within (plus g c) ≡ true → P (Ok (plus g c))) →
+    (sums_within (plus g (halved c)) ≡ true → P (Ok (plus g (halved c)))) → (sums_within (plus g (halved c)) ≡ false → P (Err Full)) → P (fitted g c)
 unfolding fitted added_in
 fitted_cases P g c f k r = go (sums_within (plus g c)) refl
   where
-    halves : (b : Bool) → sums_within (plus g (halved c)) ≡ b → P (elim b as (λ z. Outcome) [ true ↦ taken (plus g (halved c)) | false ↦ refused Full ])
+    halves : (b : Bool) → sums_within (plus g (halved c)) ≡ b → P (elim b as (λ z. Outcome) [ true ↦ Ok (plus g (halved c)) | false ↦ Err Full ])
     halves true e = k e
     halves false e = r e
 
-    go : (b : Bool) → sums_within (plus g c) ≡ b → P (elim b as (λ z. Outcome) [ true ↦ taken (plus g c) | false ↦ added_in g (halved c) ])
+    go : (b : Bool) → sums_within (plus g c) ≡ b → P (elim b as (λ z. Outcome) [ true ↦ Ok (plus g c) | false ↦ added_in g (halved c) ])
     go true e = f e
     go false e = halves (sums_within (plus g (halved c))) refl
 
-pub fitted_by : (P : Outcome → Type 0) (g c : Constraint) → (sums_within (plus g c) ≡ true → P (taken (plus g c))) →
-    (sums_within (plus g (halved c)) ≡ true → P (taken (plus g (halved c)))) → P (refused Full) → P (fitted g c)
+pub fitted_by : (P : Outcome → Type 0) (g c : Constraint) → (sums_within (plus g c) ≡ true → P (Ok (plus g c))) →
+    (sums_within (plus g (halved c)) ≡ true → P (Ok (plus g (halved c)))) → P (Err Full) → P (fitted g c)
 fitted_by P g c f k r = fitted_cases P g c f k (λ e. r)
 
-pub taken-same : {c d : Constraint} → taken c ≡ taken d → c ≡ d
+pub taken-same : {c d : Constraint} → ◌≡◌ {A = Outcome} (Ok c) (Ok d) → c ≡ d
 taken-same e = cc
 
 pub fitted_explains : (g c : Constraint) → g.order ≡ c.order → {u v u' v' : ℤ} {X : ℕ → ℤ} {p : ℤ} → pos 0 ≤ℤ v → pos 0 ≤ℤ v' → Explained c u v X p →
-    Explained g u' v' X p → {d : Constraint} → fitted g c ≡ taken d → Explained d (u *ℤ v' +ℤ u' *ℤ v) (v *ℤ v') X p
+    Explained g u' v' X p → {d : Constraint} → fitted g c ≡ Ok d → Explained d (u *ℤ v' +ℤ u' *ℤ v) (v *ℤ v') X p
 unfolding halved
 fitted_explains g c ordered {u} {v} {u'} {v'} {X} {p} h k P Q {d} =
-    fitted_by (λ o. o ≡ taken d → Explained d (u *ℤ v' +ℤ u' *ℤ v) (v *ℤ v') X p) g c
+    fitted_by (λ o. o ≡ Ok d → Explained d (u *ℤ v' +ℤ u' *ℤ v) (v *ℤ v') X p) g c
     (λ w e. rw (← taken-same e) (plus_explains g c ordered h k P Q))
     (λ w e. rw (← taken-same e) (plus_explains g (halved c) ordered h k (halved_explains c h P) Q))
     (λ e. absurd (false≢true cc))
 
 -- the order stays
-pub fitted-ordered : (g c : Constraint) {d : Constraint} → fitted g c ≡ taken d → d.order ≡ c.order
+pub fitted-ordered : (g c : Constraint) {d : Constraint} → fitted g c ≡ Ok d → d.order ≡ c.order
 unfolding plus halved
 fitted-ordered g c {d} =
-    fitted_by (λ o. o ≡ taken d → d.order ≡ c.order) g c (λ w e. ap (λ (t : Constraint). t.order) (sym (taken-same e))) (λ w e. ap (λ (t : Constraint). t.order) (sym (taken-same e)))
+    fitted_by (λ o. o ≡ Ok d → d.order ≡ c.order) g c (λ w e. ap (λ (t : Constraint). t.order) (sym (taken-same e))) (λ w e. ap (λ (t : Constraint). t.order) (sym (taken-same e)))
     (λ e. absurd (false≢true cc))

@@ -14,12 +14,11 @@ use Rattle.arithmetic.proofs.Quotients.{within_ceil}
 use Rattle.tables.specs.Ranges.{entry_range, linear_range, limit_range}
 use Rattle.tables.specs.Matrix.{nth, at, tabulate}
 use Rattle.tables.specs.Buffers.{Filled}
-use Rattle.tables.specs.Checks.{all, first_refusal, within, all_within, linear_within, tables_within, nowhere_crossed, bounds_checks, ends_checks}
+use Rattle.tables.specs.Checks.{Checked, all, first_refusal, within, all_within, linear_within, tables_within, nowhere_crossed, bounds_checks, ends_checks}
 use Rattle.tables.specs.Mending.{mended_by}
 use Rattle.tables.specs.Entering.{Mended}
 use Rattle.tables.specs.Problem.{constraint_of, mended_constraint}
-use Rattle.tables.specs.declared.Checked.{Checked}
-use Rattle.tables.specs.declared.Checked.TheVariants.{Passed}
+use Rattle.std.specs.Prelude.{Ok}
 use Rattle.tables.specs.declared.problem.Constraint.{Constraint}
 use Rattle.tables.proofs.Matrix.{inside, row_inside, column_inside, nth-at, nth-tabulate, length-tabulate, tabulate_ext}
 use Rattle.tables.proofs.MendedTables.{at-mended, mended-length}
@@ -186,7 +185,7 @@ module _ (limits : Bool) {n : ℕ} {l u a b : List ℤ} (z : Rooms n l u a b) {r
     pub mended_answer : r ≡ first_refusal (sums_checks limits (sums_at n l u a b α))
     mended_answer = m.answered ∙ ap first_refusal (checks-front limits n l u a b (pos 0) α)
 
-    module _ (e : r ≡ Passed) where
+    module _ (e : r ≡ Ok tt) where
       pub mended-front : sums_at n l' u' a b α ≡ mended_constraint (sums_at n l u a b α)
       mended-front = constraint_by (ap (front (n * n)) (m.low e) ∙ front-mended max_ℤ n l) (ap (front (n * n)) (m.high e) ∙ front-mended min_ℤ n u) refl refl refl
 

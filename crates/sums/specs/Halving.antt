@@ -1,11 +1,11 @@
 -- R23.5 and R23.6 of docs/RULES.md: sums that are halved, and adding to sums with at most one halving.
-use Rattle.std.specs.Prelude.{true, false, ℕ, ◌*◌, ℤ, pos}
+use Rattle.std.specs.Prelude.{true, false, ℕ, ◌*◌, ℤ, pos, Ok, Err}
 use Rattle.integers.specs.Division.{floor_div, ceil_div}
 use Rattle.tables.specs.Matrix.{nth, tabulate}
 use Rattle.tables.specs.Problem.{constraint_of}
 use Rattle.tables.specs.declared.Refusal.TheVariants.{Full}
 use Rattle.tables.specs.declared.problem.Constraint.{Constraint}
-use Rattle.sums.specs.Sums.{Outcome, taken, refused, plus, sums_within}
+use Rattle.sums.specs.Sums.{Outcome, plus, sums_within}
 
 -- half of x, rounded down and up
 abbrev pub half_down : ℤ → ℤ
@@ -25,8 +25,8 @@ halved c =
 
 -- sums with g added, where each is in its range then
 unfoldable pub added_in : Constraint → Constraint → Outcome
-added_in g c = elim (sums_within (plus g c)) [ true ↦ taken (plus g c) | false ↦ refused Full ]
+added_in g c = elim (sums_within (plus g c)) [ true ↦ Ok (plus g c) | false ↦ Err Full ]
 
 -- R23.6: g is added to the sums, or else to their halves; 18 where that is not enough
 unfoldable pub fitted : Constraint → Constraint → Outcome
-fitted g c = elim (sums_within (plus g c)) [ true ↦ taken (plus g c) | false ↦ added_in g (halved c) ]
+fitted g c = elim (sums_within (plus g c)) [ true ↦ Ok (plus g c) | false ↦ added_in g (halved c) ]

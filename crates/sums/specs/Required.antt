@@ -1,12 +1,11 @@
 -- What the code asks of sums at the front of lists, and what it states of them.
-use Rattle.std.specs.Prelude.{◌≡◌, true, List, ℕ, ◌*◌, ◌≤◌, ◌<◌, ℤ, length}
+use Rattle.std.specs.Prelude.{◌≡◌, true, List, ℕ, ◌*◌, ◌≤◌, ◌<◌, ℤ, length, Result, Ok, Err}
 use Rattle.integers.specs.Numbers.{Within}
 use Rattle.tables.specs.Matrix.{nth, tabulate}
 use Rattle.tables.specs.Problem.{constraint_of}
 use Rattle.tables.specs.declared.Refusal.{Refusal}
 use Rattle.tables.specs.declared.problem.Constraint.{Constraint}
-use Rattle.sums.specs.declared.Summed.{Summed}
-use Rattle.sums.specs.Sums.{Outcome, taken, refused, sums_within}
+use Rattle.sums.specs.Sums.{Outcome, sums_within}
 use Rattle.sums.specs.Halving.{added_in}
 
 -- the first m numbers of x
@@ -35,11 +34,11 @@ pub record FrontWithin (m b : ℕ) (x : List ℤ) : Type 0 where
   pub small : (k : ℕ) → k < m → Within b (nth x k)
 
 -- ---- what the code states: the running limit in its answer, the other sums at the front of their lists
-unfoldable pub stated : ℕ → Summed → List ℤ → List ℤ → List ℤ → List ℤ → Outcome
-stated n (Summed.Within α) l u a b = taken (sums_at n l u a b α)
-stated n (Summed.Refused r) l u a b = refused r
+unfoldable pub stated : ℕ → Result ℤ Refusal → List ℤ → List ℤ → List ℤ → List ℤ → Outcome
+stated n (Ok α) l u a b = Ok (sums_at n l u a b α)
+stated n (Err r) l u a b = Err r
 
-pub record Stated (n : ℕ) (o : Outcome) (r : Summed) (l u a b : List ℤ) : Type 0 where
+pub record Stated (n : ℕ) (o : Outcome) (r : Result ℤ Refusal) (l u a b : List ℤ) : Type 0 where
   pub outcome : o ≡ stated n r l u a b
   pub rooms : Rooms n l u a b
 
@@ -49,6 +48,6 @@ pub record Sums (c : Constraint) (n : ℕ) (l u a b : List ℤ) (α : ℤ) : Typ
   pub rooms : Rooms n l u a b
 
 -- sums with g added, where each is in its range then; or the sums as they were
-pub record Tried (n : ℕ) (g : Constraint) (l u a b : List ℤ) (α : ℤ) (r : Summed) (l' u' a' b' : List ℤ) : Type 0 where
+pub record Tried (n : ℕ) (g : Constraint) (l u a b : List ℤ) (α : ℤ) (r : Result ℤ Refusal) (l' u' a' b' : List ℤ) : Type 0 where
   pub answered : Stated n (added_in g (sums_at n l u a b α)) r l' u' a' b'
-  pub kept : (k : Refusal) → r ≡ Summed.Refused k → Sums (sums_at n l u a b α) n l' u' a' b' α
+  pub kept : (k : Refusal) → r ≡ Err k → Sums (sums_at n l u a b α) n l' u' a' b' α

@@ -1,6 +1,6 @@
 -- R23 of docs/RULES.md: running sums of any order, which are a constraint with the running limit for its limit: their checks, and what is
 -- added to them.
-use Rattle.std.specs.Prelude.{Bool, ◌&&◌, List, ◌++◌, ℕ, ◌*◌, ℤ, ◌+ℤ◌}
+use Rattle.std.specs.Prelude.{Bool, ◌&&◌, List, ◌++◌, ℕ, ◌*◌, ℤ, ◌+ℤ◌, Result}
 use Rattle.tables.specs.Ranges.{limit_range}
 use Rattle.tables.specs.Matrix.{nth, tabulate}
 use Rattle.tables.specs.Checks.{Check, within, linear_within, tables_within, bounds_checks}
@@ -9,9 +9,8 @@ use Rattle.tables.specs.declared.Refusal.{Refusal}
 use Rattle.tables.specs.declared.problem.Constraint.{Constraint}
 
 -- the sums with something added to them, or the refusal
-pub data Outcome : Type 0 where
-  taken : Constraint → Outcome
-  refused : Refusal → Outcome
+abbrev pub Outcome : Type 0
+Outcome = Result Constraint Refusal
 
 -- ---- the checks of sums, and of problems that are added to them
 -- 3 asks beside the tables: both ends of the linear terms, and `limits`, of the call's limits

@@ -9,7 +9,6 @@ ghost use Rattle.sums.specs.Sums.{added_to, plus, sums_within};
 ghost use Rattle.sums.specs.Halving.{fitted};
 ghost use Rattle.sums.specs.Required.{sums_at, FrontWithin, Ranged, Sums, Stated, Tried};
 
-use crate::Summed;
 use crate::halving::halve;
 use tables::{ENTRY_RANGE, LIMIT_RANGE, LINEAR_RANGE, Refusal, within};
 
@@ -18,12 +17,10 @@ fn added_within(count: usize, g: &[i64], x: &[i64], bound: i64) -> bool
     requires { FrontWithin count limit_range g.now × FrontWithin count limit_range x.now × (pos 0 ≤ℤ bound) }
     ensures { result ≡ all_within (nat_abs bound) count (added_to count g.now x.now) }
 {
-    let mut k = 0;
-    while k < count {
-        if !within(x[k] + g[k], bound) {
+    for (v, more) in x[..count].iter().zip(&g[..count]) {
+        if !within(*v + *more, bound) {
             return false;
         }
-        k += 1;
     }
     true
 }
@@ -34,10 +31,8 @@ fn add_numbers(count: usize, g: &[i64], x: &mut [i64])
     ensures { Filled (length x.old) count (λ k. nth x.old k +ℤ nth g.now k)
         x.new }
 {
-    let mut k = 0;
-    while k < count {
-        x[k] = x[k] + g[k];
-        k += 1;
+    for k in 0..count {
+        x[k] += g[k];
     }
 }
 
@@ -114,17 +109,16 @@ fn add_inside(
     u: &mut [i64],
     a: &mut [i64],
     b: &mut [i64],
-) -> Summed
+) -> Result<i64, Refusal>
     requires { (n ≤ greatest_order) × Ranged n gl.now gu.now ga.now gb.now more
         × Ranged n l.old u.old a.old b.old limit }
     ensures { Tried n (sums_at n gl.now gu.now ga.now gb.now more)
         l.old u.old a.old b.old limit result l.new u.new a.new b.new }
 {
-    if sums_within(n, more, gl, gu, ga, gb, limit, l, u, a, b) {
-        let sum = add_sums(n, more, gl, gu, ga, gb, limit, l, u, a, b);
-        return Summed::Within(sum);
+    if !sums_within(n, more, gl, gu, ga, gb, limit, l, u, a, b) {
+        return Err(Refusal::Full);
     }
-    Summed::Refused(Refusal::Full)
+    Ok(add_sums(n, more, gl, gu, ga, gb, limit, l, u, a, b))
 }
 
 // Sums of order n with what is added: to the sums, or else to their halves; or check 18 refuses (R23.6).
@@ -140,18 +134,15 @@ pub fn add_fitted(
     u: &mut [i64],
     a: &mut [i64],
     b: &mut [i64],
-) -> Summed
+) -> Result<i64, Refusal>
     requires { (n ≤ greatest_order) × Ranged n gl.now gu.now ga.now gb.now more
         × Ranged n l.old u.old a.old b.old limit }
     ensures { Stated n (fitted (sums_at n gl.now gu.now ga.now gb.now more)
         (sums_at n l.old u.old a.old b.old limit)) result l.new u.new a.new b.new }
 {
-    let whole = add_inside(n, more, gl, gu, ga, gb, limit, l, u, a, b);
-    match whole {
-        Summed::Within(sum) => Summed::Within(sum),
-        Summed::Refused(_) => {
-            let half = halve(n, limit, l, u, a, b);
-            add_inside(n, more, gl, gu, ga, gb, half, l, u, a, b)
-        }
+    if let Ok(sum) = add_inside(n, more, gl, gu, ga, gb, limit, l, u, a, b) {
+        return Ok(sum);
     }
+    let half = halve(n, limit, l, u, a, b);
+    add_inside(n, more, gl, gu, ga, gb, half, l, u, a, b)
 }

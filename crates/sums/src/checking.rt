@@ -1,15 +1,13 @@
 // R22.6, R23.4 and R27.3 of docs/RULES.md: the checks of sums that are handed in, and of problems that are added to them.
 ghost use Rattle.std.specs.Prelude.{◌≡◌, ◌&&◌, ◌*◌, ◌≤◌, pos, length};
 ghost use Rattle.tables.specs.Ranges.{greatest_order};
-ghost use Rattle.tables.specs.Checks.{first_refusal, linear_within, ends_checks};
-ghost use Rattle.tables.specs.Answers.{after};
-ghost use Rattle.tables.specs.declared.Checked.TheVariants as Checked;
+ghost use Rattle.tables.specs.Checks.{first_refusal, linear_within};
 ghost use Rattle.tables.specs.Entering.{Mended};
 ghost use Rattle.tables.specs.Problem.{constraint_of};
 ghost use Rattle.sums.specs.Sums.{sums_checks};
 
 use tables::mending::mend_bounds;
-use tables::{Checked, check_bounds, check_ends, linear_within};
+use tables::{Refusal, check_bounds, check_ends, linear_within};
 
 // Check 3, of what sums of order n have beside their bounds. `limits` says whether the call's limits are in their ranges.
 fn terms_in(n: usize, limits: bool, from: &[i64], to: &[i64]) -> bool
@@ -17,17 +15,6 @@ fn terms_in(n: usize, limits: bool, from: &[i64], to: &[i64]) -> bool
     ensures { result ≡ (linear_within n from.now to.now && limits) }
 {
     linear_within(n, from, to) && limits
-}
-
-// Check 16, of the ends of n linear terms, behind the checks that gave `checked`.
-fn ends_after(checked: Checked, n: usize, from: &[i64], to: &[i64]) -> Checked
-    requires { (n ≤ length from.now) × (n ≤ length to.now) }
-    ensures { result ≡ after Checked.Refused checked (first_refusal (ends_checks n from.now to.now)) }
-{
-    match checked {
-        Checked::Passed => check_ends(n, from, to),
-        Checked::Refused(r) => Checked::Refused(r),
-    }
 }
 
 // Checks 3, 4, 5 and 16 of sums of order n.
@@ -38,14 +25,14 @@ pub fn check_sums(
     high: &[i64],
     from: &[i64],
     to: &[i64],
-) -> Checked
+) -> Result<(), Refusal>
     requires { (n ≤ greatest_order) × (n * n ≤ length low.now) × (n * n ≤ length high.now) × (n ≤ length from.now)
         × (n ≤ length to.now) }
     ensures { result ≡ first_refusal (sums_checks limits (constraint_of n low.now high.now from.now
         to.now (pos 0))) }
 {
-    let checked = check_bounds(n, terms_in(n, limits, from, to), low, high);
-    ends_after(checked, n, from, to)
+    check_bounds(n, terms_in(n, limits, from, to), low, high)?;
+    check_ends(n, from, to)
 }
 
 // The same checks, and where they pass the bounds mended in place (R2.10).
@@ -56,11 +43,11 @@ pub fn mend_sums(
     high: &mut [i64],
     from: &[i64],
     to: &[i64],
-) -> Checked
+) -> Result<(), Refusal>
     requires { (n ≤ greatest_order) × (n * n ≤ length low.old) × (n * n ≤ length high.old) × (n ≤ length from.now)
         × (n ≤ length to.now) }
     ensures { Mended (sums_checks limits (constraint_of n low.old high.old from.now to.now (pos 0))) n low.old high.old result low.new high.new }
 {
-    let checked = mend_bounds(n, terms_in(n, limits, from, to), low, high);
-    ends_after(checked, n, from, to)
+    mend_bounds(n, terms_in(n, limits, from, to), low, high)?;
+    check_ends(n, from, to)
 }

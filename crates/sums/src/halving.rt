@@ -14,10 +14,8 @@ fn halve_down(count: usize, x: &mut [i64])
     requires { count ≤ length x.old }
     ensures { Filled (length x.old) count (λ k. half_down (nth x.old k)) x.new }
 {
-    let mut k = 0;
-    while k < count {
-        x[k] = floor_div(x[k], 2);
-        k += 1;
+    for v in x[..count].iter_mut() {
+        *v = floor_div(*v, 2);
     }
 }
 
@@ -26,10 +24,8 @@ fn halve_up(count: usize, x: &mut [i64])
     requires { FrontWithin count limit_range x.old }
     ensures { Filled (length x.old) count (λ k. half_up (nth x.old k)) x.new }
 {
-    let mut k = 0;
-    while k < count {
-        x[k] = ceil_div(x[k], 2);
-        k += 1;
+    for v in x[..count].iter_mut() {
+        *v = ceil_div(*v, 2);
     }
 }
 

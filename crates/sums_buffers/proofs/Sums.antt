@@ -25,7 +25,8 @@ use Rattle.tables.proofs.Problems.{constraint_sizes-of}
 use Rattle.sums.specs.Sums.{sums_checks}
 use Rattle.sums.specs.Required.{front}
 use Rattle.sums.proofs.Fronts.{front_is}
-use Rattle.rides.specs.declared.reading.Reading.{Reading}
+use Rattle.std.specs.Prelude.{Result, Ok, Err}
+use Rattle.tables.specs.declared.Refusal.{Refusal}
 use Rattle.rides.specs.Reading.{limits_in, checked_reading}
 use Rattle.buffers.specs.Buffers.{table_of, vector_of, Terms}
 use Rattle.sums_buffers.specs.SumsBuffers.{read_buffers}
@@ -59,11 +60,11 @@ module _ (n : ℕ) (l u a b : List ℕ) (l' u' x y : List ℤ) (α : ℤ) (h : n
       rw (checks-padded v w _ n e f, range_same linear_range n (vector_of n a) x (p.numbers refl), range_same linear_range n (vector_of n b) y (q.numbers refl), crossed_same n (vector_of n a) x (vector_of n b) y (p.numbers refl) (q.numbers refl))
 
   -- and so they are read
-  pub reading-spelled : (K : ℤ) {m : ℕ} {β K' : ℤ} {r : Reading} → r ≡ checked_reading K' (constraint_of m l' u' x y β) → m ≡ n → β ≡ α → K' ≡ K →
+  pub reading-spelled : (K : ℤ) {m : ℕ} {β K' : ℤ} {r : Result ℤ Refusal} → r ≡ checked_reading K' (constraint_of m l' u' x y β) → m ≡ n → β ≡ α → K' ≡ K →
       r ≡ checked_reading K (constraint_of n (table_of n l) (table_of n u) (vector_of n a) (vector_of n b) α)
   unfolding checked_reading
   reading-spelled K e f g k =
-      (rw (f, g, k) at e) ∙ ap (λ (z : List Check). after Reading.Refused (first_refusal z) (Reading.Limit (K +ℤ α))) (checks-spelled (limits_in K α))
+      (rw (f, g, k) at e) ∙ ap (λ (z : List Check). after Err (first_refusal z) (Ok (K +ℤ α))) (checks-spelled (limits_in K α))
 
 -- of equal parts
 pub laid_by : {n m : ℕ} {sized sized' : Bool} (l u : List ℕ) {l' u' : List ℤ} → n ≡ m → sized ≡ sized' → Laid n sized (table_of n l) (table_of n u) l' u' →

@@ -1,5 +1,5 @@
 -- R15.2 and R15.3 of docs/RULES.md, of running sums: the sums that buffers of bytes spell, and the bytes that an act on them stores.
-use Rattle.std.specs.Prelude.{◌≡◌, Bool, ◌&&◌, List, ℕ, ◌*◌, eqb, length}
+use Rattle.std.specs.Prelude.{◌≡◌, Bool, ◌&&◌, List, ℕ, ◌*◌, eqb, length, ℤ, Result, Ok, Err}
 use Rattle.std.specs.Int.{w64}
 use mir.Val.{bytes}
 use Rattle.words.specs.Numbers.{bytes_of}
@@ -9,7 +9,7 @@ use Rattle.tables.specs.declared.problem.Lengths.{Lengths}
 use Rattle.sums.specs.Sums.{Outcome}
 use Rattle.sums.specs.Lent.{Lent, Left, laid_sums}
 use Rattle.samples.specs.Gathering.{sums_sized}
-use Rattle.rides.specs.declared.reading.Reading.{Reading}
+use Rattle.tables.specs.declared.Refusal.{Refusal}
 use Rattle.buffers.specs.Buffers.{table_of, vector_of, number_of, bytes_of_number}
 
 -- the sums of order n that five buffers spell
@@ -41,9 +41,9 @@ read_buffers n lengths limit =
 
 -- the answer of reading, and the limit's buffer as it is left: written, 8 bytes, or kept
 pub record ReadOut : Type 0 where
-  pub answer : Reading
+  pub answer : Result ℤ Refusal
   pub limit : List ℕ
 
-abbrev pub stored_limit : Reading → List ℕ → ReadOut
-stored_limit (Reading.Limit α) s = record { answer = Reading.Limit α; limit = bytes_of_number α }
-stored_limit (Reading.Refused r) s = record { answer = Reading.Refused r; limit = s }
+abbrev pub stored_limit : Result ℤ Refusal → List ℕ → ReadOut
+stored_limit (Ok α) s = record { answer = Ok α; limit = bytes_of_number α }
+stored_limit (Err r) s = record { answer = Err r; limit = s }

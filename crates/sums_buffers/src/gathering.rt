@@ -12,10 +12,9 @@ ghost use Rattle.sums_buffers.specs.SumsBuffers.{SumsBytes, spelled_sums, sums_b
 use crate::storing::store_sums;
 use samples::adding::add_checked;
 use samples::checking::sums_sized;
-use samples::sample::{FACTOR_COUNT, Measured, Measures, PRODUCT_COUNT, Sample, measure};
-use sums::{Gathered, Summed};
+use samples::sample::{FACTOR_COUNT, Measures, PRODUCT_COUNT, Sample, measure};
 use tables::Refusal;
-use tables::entering::order_of;
+use tables::entering::order;
 use tables::problem::lengths_of;
 use words::{SIZE, load_numbers};
 
@@ -52,7 +51,7 @@ fn gather_measured(
     from: &mut [u8],
     to: &mut [u8],
     limit: &mut [u8],
-) -> Gathered
+) -> Result<(), Refusal>
     requires { MeasuresNear m }
     ensures { ◌≡◌ {A = Left (List ℕ)} (record {
       answer = result;
@@ -84,13 +83,10 @@ fn gather_measured(
           limit = limit.old;
         })) }
 {
-    let order = order_of(n);
-    if order == 0 {
-        return Gathered::Refused(Refusal::Order);
-    }
+    let order = order(n)?;
     let lengths = lengths_of(low.len(), high.len(), from.len(), to.len());
     if !sums_sized(SIZE, order, lengths, limit.len()) {
-        return Gathered::Refused(Refusal::Length);
+        return Err(Refusal::Length);
     }
     let mut l = [0i64; PRODUCT_COUNT];
     let mut u = [0i64; PRODUCT_COUNT];
@@ -98,15 +94,10 @@ fn gather_measured(
     let mut b = [0i64; FACTOR_COUNT];
     load_sample(low, high, from, to, &mut l, &mut u, &mut a, &mut b);
     let running = words::load_signed(limit, 0, SIZE);
-    let summed = add_checked(m, running, &mut l, &mut u, &mut a, &mut b);
-    match summed {
-        Summed::Within(sum) => {
-            store_sums(FACTOR_COUNT, &l, &u, &a, &b, low, high, from, to);
-            words::store_signed(limit, 0, SIZE, sum);
-            Gathered::Taken
-        }
-        Summed::Refused(r) => Gathered::Refused(r),
-    }
+    let sum = add_checked(m, running, &mut l, &mut u, &mut a, &mut b)?;
+    store_sums(FACTOR_COUNT, &l, &u, &a, &b, low, high, from, to);
+    words::store_signed(limit, 0, SIZE, sum);
+    Ok(())
 }
 
 // Gathers a sample into the running sums that the buffers spell; the running limit is the number of limit.
@@ -118,7 +109,7 @@ pub fn gather(
     from: &mut [u8],
     to: &mut [u8],
     limit: &mut [u8],
-) -> Gathered
+) -> Result<(), Refusal>
     ensures { ◌≡◌ {A = Left (List ℕ)} (record {
       answer = result;
       sums = record {
@@ -149,9 +140,6 @@ pub fn gather(
           limit = limit.old;
         })) }
 {
-    let measured = measure(sample);
-    match measured {
-        Measured::Inside(m) => gather_measured(m, n, low, high, from, to, limit),
-        Measured::Outside => Gathered::Refused(Refusal::Sample),
-    }
+    let measures = measure(sample).ok_or(Refusal::Sample)?;
+    gather_measured(measures, n, low, high, from, to, limit)
 }

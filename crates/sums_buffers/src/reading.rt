@@ -9,8 +9,8 @@ ghost use Rattle.buffers.specs.Buffers.{table_of, vector_of};
 ghost use Rattle.sums_buffers.specs.SumsBuffers.{read_buffers, ReadOut, stored_limit};
 
 use buffers::entering::{load_bounds, load_terms};
-use rides::reading::{Reading, read_checked};
-use tables::entering::order_of;
+use rides::reading::read_checked;
+use tables::entering::order;
 use tables::problem::{Lengths, Sizes, constraint_sized, lengths_of};
 use tables::{GREATEST_ORDER, Refusal, TABLE_ROOM};
 use words::SIZE;
@@ -32,17 +32,14 @@ pub fn read_sums(
     running: i64,
     allowance: i64,
     limit: &mut [u8],
-) -> Reading
+) -> Result<i64, Refusal>
     ensures { ◌≡◌ {A = ReadOut} (record { answer = result; limit = limit.new }) (stored_limit (read_sums n (read_buffers
         (order_of n) (lengths_of (length low.now) (length high.now) (length from.now) (length
         to.now)) (length limit.old)) allowance (constraint_of (order_of n) (table_of (order_of n)
         low.now) (table_of (order_of n) high.now) (vector_of (order_of n) from.now) (vector_of
         (order_of n) to.now) running)) limit.old) }
 {
-    let m = order_of(n);
-    if m == 0 {
-        return Reading::Refused(Refusal::Order);
-    }
+    let m = order(n)?;
     let sizes = Sizes {
         table: m * m * SIZE,
         vector: m * SIZE,
@@ -50,7 +47,7 @@ pub fn read_sums(
     let lengths = lengths_of(low.len(), high.len(), from.len(), to.len());
     let sized = read_sized(sizes, lengths, limit.len());
     if !sized {
-        return Reading::Refused(Refusal::Length);
+        return Err(Refusal::Length);
     }
     let mut a = [0i64; GREATEST_ORDER];
     load_terms(m, sized, from, &mut a);
@@ -59,12 +56,7 @@ pub fn read_sums(
     let mut l = [0i64; TABLE_ROOM];
     let mut u = [0i64; TABLE_ROOM];
     load_bounds(m, sized, low, high, &mut l, &mut u);
-    let reading = read_checked(m, &l, &u, &a, &b, running, allowance);
-    match reading {
-        Reading::Limit(alpha) => {
-            words::store_signed(limit, 0, SIZE, alpha);
-            Reading::Limit(alpha)
-        }
-        Reading::Refused(r) => Reading::Refused(r),
-    }
+    let alpha = read_checked(m, &l, &u, &a, &b, running, allowance)?;
+    words::store_signed(limit, 0, SIZE, alpha);
+    Ok(alpha)
 }

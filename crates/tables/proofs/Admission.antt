@@ -12,13 +12,17 @@ use Rattle.integers.specs.Numbers.{min_ℤ, max_ℤ}
 use Rattle.integers.proofs.Parts.{≤_out}
 use Rattle.tables.specs.Ranges.{greatest_order, table_room, entry_range}
 use Rattle.tables.specs.Matrix.{nth, at}
-use Rattle.tables.specs.Checks.{Check, all, within, all_within, tables_within, nowhere_crossed, bounds_checks, first_refusal, order_ok, order_of, entry_checks}
+use Rattle.tables.specs.Checks.{Check, all, within, all_within, tables_within, nowhere_crossed, bounds_checks, first_refusal, order_ok, order_of, ordered, entry_checks}
 use Rattle.tables.specs.Mending.{mended_by, mended_low, mended_high}
 use Rattle.tables.specs.Entering.{Exact, Blank, Rooms, Over, Laid, Mended, Entered, door_checks, entered}
 use Rattle.tables.specs.declared.Refusal.{Refusal}
 use Rattle.tables.specs.declared.Refusal.TheVariants.{Order, Length}
-use Rattle.tables.specs.declared.Checked.{Checked}
-use Rattle.tables.specs.declared.Checked.TheVariants.{Passed, Refused}
+use Rattle.tables.specs.Checks.{Checked}
+use Rattle.std.specs.Prelude.{Ok, Err}
+use mir.Syntax.{w64}
+use mir.Val.{SFits, to_z, of_z}
+use Rattle.std.specs.Result.{result_unwrap_or}
+use Rattle.integers.proofs.Machine.{clean}
 use Rattle.tables.proofs.Matrix.{nth-padded, at-padded, table_fits}
 use Rattle.tables.proofs.MendedTables.{mended-over}
 use Rattle.tables.proofs.Checks.{false_of, first_passes, first-refuses, first-none, first-passed, rest-passed, more-checks, no-more-checks, order-of, passed-bounds, mended-passed, and_left}
@@ -73,18 +77,18 @@ unfolding nowhere_crossed
 crossed_same m x x' y y' p q = ap₂ (λ (f g : ℕ → ℤ). all m (λ i. le_z (f i) (g i))) p q
 
 -- where check 3 passes the other numbers pass, and so do the bounds alone
-others-within : (others : Bool) (n : ℕ) (l u : List ℤ) → first_refusal (bounds_checks others n l u) ≡ Passed → others ≡ true
+others-within : (others : Bool) (n : ℕ) (l u : List ℤ) → first_refusal (bounds_checks others n l u) ≡ Ok tt → others ≡ true
 unfolding bounds_checks
 others-within others n l u e = and_left others (tables_within (n * n) l u) (first-passed _ _ e)
 
-others-passed : (others : Bool) (n : ℕ) (l u : List ℤ) → first_refusal (bounds_checks others n l u) ≡ Passed → first_refusal (bounds_checks true n l u) ≡ Passed
+others-passed : (others : Bool) (n : ℕ) (l u : List ℤ) → first_refusal (bounds_checks others n l u) ≡ Ok tt → first_refusal (bounds_checks true n l u) ≡ Ok tt
 unfolding bounds_checks
 others-passed true n l u e = e
 others-passed false n l u e = cc (first-passed _ _ e)
 
 -- with the act's other numbers
-pub bounds-mended : (others : Bool) (n : ℕ) (l u : List ℤ) → n * n ≤ length l → n * n ≤ length u → first_refusal (bounds_checks others n l u) ≡ Passed →
-    first_refusal (bounds_checks others n (mended_low n l) (mended_high n u)) ≡ Passed
+pub bounds-mended : (others : Bool) (n : ℕ) (l u : List ℤ) → n * n ≤ length l → n * n ≤ length u → first_refusal (bounds_checks others n l u) ≡ Ok tt →
+    first_refusal (bounds_checks others n (mended_low n l) (mended_high n u)) ≡ Ok tt
 bounds-mended true n l u h k e = mended-passed n l u h k e
 bounds-mended false n l u h k e = absurd (false≢true (others-within false n l u e))
 
@@ -105,11 +109,11 @@ module _ {l u l' u' : List ℤ} (p : Padded l l') (q : Padded u u') where
       )
 
 -- what checks 1 and 2 say
-pub entry-passed : (n : ℤ) (sized : Bool) → first_refusal (entry_checks n sized) ≡ Passed → (order_ok n ≡ true) × (sized ≡ true)
+pub entry-passed : (n : ℤ) (sized : Bool) → first_refusal (entry_checks n sized) ≡ Ok tt → (order_ok n ≡ true) × (sized ≡ true)
 unfolding entry_checks
 entry-passed n sized p = (first-passed _ _ p, first-passed _ _ (rest-passed _ _ p))
 
-pub entry-passes : (n : ℤ) {sized : Bool} → order_ok n ≡ true → sized ≡ true → first_refusal (entry_checks n sized) ≡ Passed
+pub entry-passes : (n : ℤ) {sized : Bool} → order_ok n ≡ true → sized ≡ true → first_refusal (entry_checks n sized) ≡ Ok tt
 unfolding entry_checks
 entry-passes n e f = first_passes _ _ e ∙ first_passes _ _ f ∙ first-none
 
@@ -145,11 +149,50 @@ order-given n h = go (order_ok n) refl
     go false e = absurd (h (rw (order_of, e)))
 
 -- the numbers of a table of the order of a call
+-- what a call's order says, and its refusal
+pub ordered-yes : (n : ℤ) → order_ok n ≡ true → ordered n ≡ Ok (order_of n)
+unfolding ordered
+ordered-yes n e = rw (ordered, e)
+
+pub ordered-no : (n : ℤ) → order_ok n ≡ false → ordered n ≡ Err Order
+unfolding ordered
+ordered-no n e = rw (ordered, e)
+
+pub ordered_or : (n : ℤ) → result_unwrap_or (ordered n) 0 ≡ order_of n
+unfolding order_of
+ordered_or n = go (order_ok n) refl
+  where
+    go : (b : Bool) → order_ok n ≡ b → result_unwrap_or (ordered n) 0 ≡ order_of n
+    go true e = rw (ordered-yes n e)
+    go false e = rw (ordered-no n e, order_of, e)
+
+-- what the code of a call reads of it
+pub order-passed : {n : ℤ} {m : ℕ} → SFits w64 n → Ok m ≡ ordered (to_z w64 (of_z w64 n)) → (m ≡ order_of n) × (order_ok n ≡ true)
+order-passed {n} {m} f q = go (order_ok n) refl
+  where
+    e : Ok m ≡ ordered n
+    e = rw (clean f) at q
+
+    go : (b : Bool) → order_ok n ≡ b → (m ≡ order_of n) × (order_ok n ≡ true)
+    go true o = (cc (e, ordered-yes n o), o)
+    go false o = cc (e, ordered-no n o)
+
+pub order-refused : {n : ℤ} {k : Refusal} → SFits w64 n → Err k ≡ ordered (to_z w64 (of_z w64 n)) → (k ≡ Order) × (order_of n ≡ 0)
+unfolding order_of
+order-refused {n} {k} f q = go (order_ok n) refl
+  where
+    e : Err k ≡ ordered n
+    e = rw (clean f) at q
+
+    go : (b : Bool) → order_ok n ≡ b → (k ≡ Order) × (order_of n ≡ 0)
+    go true o = cc (e, ordered-yes n o)
+    go false o = (cc (e, ordered-no n o), rw (order_of, o))
+
 pub order_fits : {m : ℕ} (n : ℤ) → m ≡ order_of n → m * m ≤ table_room
 order_fits n e = rw e (table_fits (order_small n))
 
 -- where checks in front of others pass, the others decide
-pub mended-after : (cs : List Check) {ds : List Check} {n : ℕ} {l u : List ℤ} {r : Checked} {l' u' : List ℤ} → first_refusal cs ≡ Passed →
+pub mended-after : (cs : List Check) {ds : List Check} {n : ℕ} {l u : List ℤ} {r : Checked} {l' u' : List ℤ} → first_refusal cs ≡ Ok tt →
     Mended ds n l u r l' u' → Mended (cs ++ ds) n l u r l' u'
 mended-after cs {ds} e m = record { answered = m.answered ∙ sym (more-checks cs ds e); low-size = m.low-size; high-size = m.high-size; low = m.low; high = m.high }
 
@@ -162,10 +205,10 @@ entered-laid n sized others {l} {u} {l₀} {u₀} {l'} {u'} {r} x p a = go (firs
     rooms = record { low-size = a.low-size ∙ p.rooms.low-size; high-size = a.high-size ∙ p.rooms.high-size }
 
     go : (c : Checked) → first_refusal (entry_checks n sized) ≡ c → Entered n sized others l u r l' u'
-    go (Refused k) e =
+    go (Err k) e =
         rw (a.answered ∙ no-more-checks (entry_checks n sized) (bounds_checks others (order_of n) l₀ u₀) k e)
         (record { answered = sym (no-more-checks (entry_checks n sized) (bounds_checks others (order_of n) l u) k e); rooms = rooms; held = λ s. absurd (false≢true cc) })
-    go Passed e =
+    go (Ok tt) e =
         let z = (entry-passed n sized e).1 in
         let h = table_fits (order_small n) in
         let v = over-padded (x z).0 h (p.low z) in
@@ -193,30 +236,30 @@ pub record Behind (n : ℤ) (sized others : Bool) (l u : List ℤ) : Type 0 wher
   pub ordered : order_ok n ≡ true
   pub sizes : sized ≡ true
   pub within : others ≡ true
-  pub checked : first_refusal (bounds_checks others (order_of n) l u) ≡ Passed
-  pub tables : first_refusal (bounds_checks true (order_of n) l u) ≡ Passed
+  pub checked : first_refusal (bounds_checks others (order_of n) l u) ≡ Ok tt
+  pub tables : first_refusal (bounds_checks true (order_of n) l u) ≡ Ok tt
 
 module _ (n : ℤ) (sized others : Bool) (l u : List ℤ) where
-  pub behind : first_refusal (door_checks n sized others l u) ≡ Passed → Behind n sized others l u
+  pub behind : first_refusal (door_checks n sized others l u) ≡ Ok tt → Behind n sized others l u
   behind p =
       let first = prefix_passed (entry_checks n sized) (bounds_checks others (order_of n) l u) p in
       let rest = sym (more-checks (entry_checks n sized) (bounds_checks others (order_of n) l u) first) ∙ p in
       record { ordered = (entry-passed n sized first).0; sizes = (entry-passed n sized first).1; within = others-within others (order_of n) l u rest; checked = rest; tables = others-passed others (order_of n) l u rest }
 
-  pub behind-passed : Behind n sized others l u → first_refusal (door_checks n sized others l u) ≡ Passed
+  pub behind-passed : Behind n sized others l u → first_refusal (door_checks n sized others l u) ≡ Ok tt
   behind-passed b = more-checks (entry_checks n sized) (bounds_checks others (order_of n) l u) (entry-passes n b.ordered b.sizes) ∙ b.checked
 
-  pub came-through : {r : Checked} {l' u' : List ℤ} → Entered n sized others l u r l' u' → r ≡ Passed → Behind n sized others l u
+  pub came-through : {r : Checked} {l' u' : List ℤ} → Entered n sized others l u r l' u' → r ≡ Ok tt → Behind n sized others l u
   came-through e q = behind (sym e.answered ∙ q)
 
   -- ---- an act behind the door
   module _ {A : Type 0} (refused : Refusal → A) (a : A) where
     module _ {r : Checked} {l' u' : List ℤ} (e : Entered n sized others l u r l' u') where
-      pub entered-refused : {k : Refusal} → r ≡ Refused k → refused k ≡ entered refused n sized others l u a
+      pub entered-refused : {k : Refusal} → r ≡ Err k → refused k ≡ entered refused n sized others l u a
       unfolding entered
       entered-refused {k} q = after-refused refused k a (sym e.answered ∙ q)
 
-      pub entered-passed : r ≡ Passed → a ≡ entered refused n sized others l u a
+      pub entered-passed : r ≡ Ok tt → a ≡ entered refused n sized others l u a
       unfolding entered
       entered-passed q = after-passed refused a (sym e.answered ∙ q)
 

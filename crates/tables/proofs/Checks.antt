@@ -28,7 +28,7 @@ use Rattle.tables.specs.Pairs.{entry_bounded, pair_even, pair_meets, pair_bounde
 use Rattle.tables.specs.Bounds.{Bounds}
 use Rattle.tables.specs.declared.Refusal.{Refusal}
 use Rattle.tables.specs.declared.Refusal.TheVariants.{Range}
-use Rattle.tables.specs.declared.Checked.TheVariants.{Passed, Refused}
+use Rattle.std.specs.Prelude.{Ok, Err}
 use Rattle.tables.proofs.Matrix.{inside, row_inside, column_inside, nth-at}
 use Rattle.tables.proofs.MendedTables.{greater_pairing, smaller_pairing, at-mended, mended_symmetric, mended_twice}
 
@@ -178,7 +178,7 @@ same_read {x} {y} f g =
     bool_ext _ (same x y) (λ e. same_true (same_bits f g (eqb-true _ _ e))) (λ e. eq-eqb _ _ (ap (of_z w64) (same_of x y e)))
 
 -- ---- the first refusal
-pub first-none : first_refusal [] ≡ Passed
+pub first-none : first_refusal [] ≡ Ok tt
 unfolding first_refusal
 first-none = refl
 
@@ -187,18 +187,18 @@ module _ (c : Check) (cs : List Check) where
   unfolding first_refusal
   first_passes e = rw e
 
-  pub first-refuses : c.passes ≡ false → first_refusal (c ∷ cs) ≡ Refused c.otherwise
+  pub first-refuses : c.passes ≡ false → first_refusal (c ∷ cs) ≡ Err c.otherwise
   unfolding first_refusal
   first-refuses e = rw e
 
-  pub first-passed : first_refusal (c ∷ cs) ≡ Passed → c.passes ≡ true
+  pub first-passed : first_refusal (c ∷ cs) ≡ Ok tt → c.passes ≡ true
   first-passed e = go c.passes first-refuses
     where
-      go : (a : Bool) → (a ≡ false → first_refusal (c ∷ cs) ≡ Refused c.otherwise) → a ≡ true
+      go : (a : Bool) → (a ≡ false → first_refusal (c ∷ cs) ≡ Err c.otherwise) → a ≡ true
       go true f = refl
       go false f = cc (f refl)
 
-  pub rest-passed : first_refusal (c ∷ cs) ≡ Passed → first_refusal cs ≡ Passed
+  pub rest-passed : first_refusal (c ∷ cs) ≡ Ok tt → first_refusal cs ≡ Ok tt
   rest-passed e = sym (first_passes (first-passed e)) ∙ e
 
 -- ---- what each check says of the entries
@@ -222,13 +222,13 @@ module _ (n : ℕ) (l u : List ℤ) where
   ordered_of f = all_of _ (n * n) (λ k h. rw (nth-at n k l, nth-at n k u) (le_z_true (f (k / n) (k % n) (row_inside n k h) (column_inside n k h))))
 
 -- where the act's other numbers are not in their ranges, 3 is the first to fail
-pub others_outside : (n : ℕ) (l u : List ℤ) → first_refusal (bounds_checks false n l u) ≡ Refused Range
+pub others_outside : (n : ℕ) (l u : List ℤ) → first_refusal (bounds_checks false n l u) ≡ Err Range
 unfolding bounds_checks
 others_outside n l u = first-refuses (check_range false) (check_crossed n l u ∷ check_lopsided n l u ∷ []) refl
 
 -- ---- tables that pass: the mended ones are bounds
 module _ (n : ℕ) (l u : List ℤ) where
-  pub passed-bounds : first_refusal (table_checks n l u) ≡ Passed → Bounds n (low_bounds n l) (high_bounds n u)
+  pub passed-bounds : first_refusal (table_checks n l u) ≡ Ok tt → Bounds n (low_bounds n l) (high_bounds n u)
   unfolding bounds_checks tables_within
   passed-bounds e =
       let e₁ = rest-passed _ _ e in
@@ -246,8 +246,8 @@ module _ (n : ℕ) (l u : List ℤ) where
       }
 
 -- what passes is, mended, passed again
-pub mended-passed : (n : ℕ) (l u : List ℤ) → n * n ≤ length l → n * n ≤ length u → first_refusal (table_checks n l u) ≡ Passed →
-    first_refusal (table_checks n (mended_low n l) (mended_high n u)) ≡ Passed
+pub mended-passed : (n : ℕ) (l u : List ℤ) → n * n ≤ length l → n * n ≤ length u → first_refusal (table_checks n l u) ≡ Ok tt →
+    first_refusal (table_checks n (mended_low n l) (mended_high n u)) ≡ Ok tt
 unfolding bounds_checks tables_within first_refusal
 mended-passed n l u h k e =
     let b = passed-bounds n l u e in
@@ -358,7 +358,7 @@ module _ (n : ℕ) (l u : List ℤ) where
         go (yes d) = pair-turned (pair_fits _ _ _ _ even (pair-at j i k (omega arith)))
         go (no d) = pair_fits _ _ _ _ even (pair-at i j h (omega arith))
 
-    pub bounded-passed : first_refusal (table_checks n l u) ≡ Passed
+    pub bounded-passed : first_refusal (table_checks n l u) ≡ Ok tt
     unfolding bounds_checks tables_within first_refusal
     bounded-passed =
         rw (
@@ -389,7 +389,7 @@ module _ (n : ℕ) (l u : List ℤ) where
           go (no d) = pair_even_lem _ _ _ _ (pair-at true e i j h (omega arith))
 
   -- tables that pass are such tables
-  pub passed-bounded : first_refusal (table_checks n l u) ≡ Passed → tables_bounded n false l u ≡ true
+  pub passed-bounded : first_refusal (table_checks n l u) ≡ Ok tt → tables_bounded n false l u ≡ true
   unfolding bounds_checks tables_within tables_bounded
   passed-bounded e = all_of _ n (λ i h. all_of _ (suc i) (λ j k. pair_of _ _ _ _ (fits i j h (omega arith))))
     where
@@ -418,15 +418,15 @@ all_ext zero p q h = refl
 all_ext (suc n) p q h = rw (all_ext n p q (λ i k. h i (omega arith)), h n (omega arith))
 
 -- ---- checks, and then more of them
-pub more-checks : (cs ds : List Check) → first_refusal cs ≡ Passed → first_refusal (cs ++ ds) ≡ first_refusal ds
+pub more-checks : (cs ds : List Check) → first_refusal cs ≡ Ok tt → first_refusal (cs ++ ds) ≡ first_refusal ds
 more-checks [] ds e = refl
 more-checks (c ∷ cs) ds e = first_passes c (cs ++ ds) (first-passed c cs e) ∙ more-checks cs ds (rest-passed c cs e)
 
-pub no-more-checks : (cs ds : List Check) (r : Refusal) → first_refusal cs ≡ Refused r → first_refusal (cs ++ ds) ≡ Refused r
+pub no-more-checks : (cs ds : List Check) (r : Refusal) → first_refusal cs ≡ Err r → first_refusal (cs ++ ds) ≡ Err r
 no-more-checks [] ds r e = cc first-none
 no-more-checks (c ∷ cs) ds r e = go c.passes refl (no-more-checks cs ds r)
   where
-    go : (b : Bool) → c.passes ≡ b → (first_refusal cs ≡ Refused r → first_refusal (cs ++ ds) ≡ Refused r) → first_refusal (c ∷ (cs ++ ds)) ≡ Refused r
+    go : (b : Bool) → c.passes ≡ b → (first_refusal cs ≡ Err r → first_refusal (cs ++ ds) ≡ Err r) → first_refusal (c ∷ (cs ++ ds)) ≡ Err r
     go true p ih = first_passes c (cs ++ ds) p ∙ ih (sym (first_passes c cs p) ∙ e)
     go false p ih = first-refuses c (cs ++ ds) p ∙ sym (first-refuses c cs p) ∙ e
 

@@ -14,8 +14,8 @@ use Rattle.tables.specs.Answers.{after}
 use Rattle.tables.specs.Entering.{Entered, entered}
 use Rattle.tables.specs.Problem.{constraint_sized, problem_within, constraint_ends, problem_checks, constraint_entered, mended_problem}
 use Rattle.tables.specs.declared.Refusal.{Refusal}
-use Rattle.tables.specs.declared.Checked.{Checked}
-use Rattle.tables.specs.declared.Checked.TheVariants.{Passed, Refused}
+use Rattle.tables.specs.Checks.{Checked}
+use Rattle.std.specs.Prelude.{Ok, Err}
 use Rattle.tables.specs.declared.problem.Constraint.{Constraint}
 use Rattle.tables.specs.declared.problem.Problem.{Problem}
 use Rattle.tables.specs.declared.problem.Sizes.{Sizes}
@@ -37,15 +37,15 @@ constraint_sizes-of z b e =
 -- ---- an act on a constraint, behind checks 1 to 5 and 16
 module _ {A : Type 0} (refused : Refusal → A) (n : ℤ) (sized others : Bool) (c : Constraint) (a : A) where
   module _ {r : Checked} {l u : List ℤ} (e : Entered n sized others c.low c.high r l u) where
-    pub door-refused : {k : Refusal} → r ≡ Refused k → refused k ≡ constraint_entered refused n sized others c a
+    pub door-refused : {k : Refusal} → r ≡ Err k → refused k ≡ constraint_entered refused n sized others c a
     unfolding constraint_entered
     door-refused q = entered-refused n sized others _ _ refused _ e q
 
-    pub ends-refused : {k : Refusal} → r ≡ Passed → first_refusal (constraint_ends c) ≡ Refused k → refused k ≡ constraint_entered refused n sized others c a
+    pub ends-refused : {k : Refusal} → r ≡ Ok tt → first_refusal (constraint_ends c) ≡ Err k → refused k ≡ constraint_entered refused n sized others c a
     unfolding constraint_entered
     ends-refused {k} q f = after-refused refused k a f ∙ entered-passed n sized others _ _ refused _ e q
 
-    pub constraint_passed : r ≡ Passed → first_refusal (constraint_ends c) ≡ Passed → a ≡ constraint_entered refused n sized others c a
+    pub constraint_passed : r ≡ Ok tt → first_refusal (constraint_ends c) ≡ Ok tt → a ≡ constraint_entered refused n sized others c a
     unfolding constraint_entered
     constraint_passed q f = after-passed refused a f ∙ entered-passed n sized others _ _ refused _ e q
 
@@ -61,8 +61,8 @@ after_both : {A : Type 0} (refused : Refusal → A) (cs ds : List Check) (a : A)
 after_both refused cs ds a = go (first_refusal cs) refl
   where
     go : (k : Checked) → first_refusal cs ≡ k → after refused (first_refusal (cs ++ ds)) a ≡ after refused (first_refusal cs) (after refused (first_refusal ds) a)
-    go Passed e = ap (λ (k : Checked). after refused k a) (more-checks cs ds e) ∙ after-passed refused _ e
-    go (Refused r) e = sym (after-refused refused r a (no-more-checks cs ds r e)) ∙ after-refused refused r _ e
+    go (Ok tt) e = ap (λ (k : Checked). after refused k a) (more-checks cs ds e) ∙ after-passed refused _ e
+    go (Err r) e = sym (after-refused refused r a (no-more-checks cs ds r e)) ∙ after-refused refused r _ e
 
 pub problem-door : {A : Type 0} (refused : Refusal → A) (n : ℤ) (sized : Bool) (p : Problem) (a : A) → p.constraint.order ≡ order_of n →
     constraint_entered refused n sized (problem_within p) p.constraint a ≡ after refused (first_refusal (entry_checks n sized ++ problem_checks p)) a
@@ -82,7 +82,7 @@ constraint_sized_lem refused n sized others c a o z e =
 
 -- ---- a problem that passes, mended, passes again
 pub problem-mended : (p : Problem) → let c = p.constraint in c.order * c.order ≤ length c.low → c.order * c.order ≤ length c.high →
-    first_refusal (problem_checks p) ≡ Passed → first_refusal (problem_checks (mended_problem p)) ≡ Passed
+    first_refusal (problem_checks p) ≡ Ok tt → first_refusal (problem_checks (mended_problem p)) ≡ Ok tt
 problem-mended p h k e =
     let c = p.constraint in
     let bounds = bounds_checks (problem_within p) c.order c.low c.high in

@@ -1,27 +1,20 @@
 -- What the acts answer, R5 and R15.4 of docs/RULES.md: the first refusal, or else what was asked for; and its number at the C entries.
-use Rattle.std.specs.Prelude.{Bool, true, false, ℤ, pos, negsuc}
+use Rattle.std.specs.Prelude.{Bool, true, false, ℤ, pos, negsuc, Result, Ok, Err}
 use Rattle.tables.specs.Refusals.{refusal_number}
+use Rattle.tables.specs.Checks.{Checked}
 use Rattle.tables.specs.declared.Refusal.{Refusal}
-use Rattle.tables.specs.declared.Checked.{Checked}
-use Rattle.tables.specs.declared.Checked.TheVariants.{Passed, Refused}
-use Rattle.tables.specs.declared.Answer.{Answer}
 
 -- the refusal, or else the answer: of any kind of answer that can be a refusal
 unfoldable pub after : {A : Type 0} → (Refusal → A) → Checked → A → A
-after refused (Refused r) a = refused r
-after refused Passed a = a
+after refused (Err r) a = refused r
+after refused (Ok _) a = a
 
--- 'yes' and 'no'
-abbrev pub yes_or_no : Bool → Answer
-yes_or_no b = elim b [ true ↦ Answer.Yes | false ↦ Answer.No ]
+-- R15.4: the number of 'yes' and 'no' at the C entry, 0 and -1
+abbrev pub yes_or_no_code : Bool → ℤ
+yes_or_no_code true = pos 0
+yes_or_no_code false = negsuc 0
 
--- R15.4: the number of what checks find at the C entry, 0, or the refusal's
-unfoldable pub checked_code : Checked → ℤ
-checked_code Passed = pos 0
-checked_code (Refused r) = pos (refusal_number r)
-
--- that of 'yes' and 'no', 0, -1, or the refusal's
-unfoldable pub answer_code : Answer → ℤ
-answer_code Answer.Yes = pos 0
-answer_code Answer.No = negsuc 0
-answer_code (Answer.Refused r) = pos (refusal_number r)
+-- the number of what an act answers: the answer's, or the refusal's
+abbrev pub answer_code : {A : Type 0} → (A → ℤ) → Result A Refusal → ℤ
+answer_code code (Ok a) = code a
+answer_code code (Err r) = pos (refusal_number r)

@@ -1,13 +1,11 @@
 -- R5 of docs/RULES.md, checks 1 to 5 and 16: which refusal a problem gets. Each is completed over all of the input before the next.
-use Rattle.std.specs.Prelude.{Bool, true, false, ◌&&◌, List, [], ◌∷◌, ℕ, zero, suc, ◌*◌, leb, eqb, ℤ, pos, nat_abs}
+use Rattle.std.specs.Prelude.{Bool, true, false, ◌&&◌, List, [], ◌∷◌, ℕ, zero, suc, ◌*◌, leb, eqb, ℤ, pos, nat_abs, Result, Ok, Err, ⊤}
 use Rattle.std.specs.Int.Signed.{le_z}
 use Rattle.tables.specs.Ranges.{greatest_order, entry_range, linear_range, limit_range, centre_range}
 use Rattle.tables.specs.Matrix.{nth}
 use Rattle.tables.specs.Mending.{mended_low, mended_high}
 use Rattle.tables.specs.declared.Refusal.{Refusal}
 use Rattle.tables.specs.declared.Refusal.TheVariants.{Order, Length, Range, Crossed, Lopsided, Reversed}
-use Rattle.tables.specs.declared.Checked.{Checked}
-use Rattle.tables.specs.declared.Checked.TheVariants.{Passed, Refused}
 
 -- p holds of each of 0, .., n - 1
 unfoldable pub all : ℕ → (ℕ → Bool) → Bool
@@ -19,9 +17,13 @@ pub record Check : Type 0 where
   pub passes : Bool
   pub otherwise : Refusal
 
+-- what checks find: nothing to refuse, or the first refusal
+abbrev pub Checked : Type 0
+Checked = Result ⊤ Refusal
+
 unfoldable pub first_refusal : List Check → Checked
-first_refusal [] = Passed
-first_refusal (c ∷ cs) = elim c.passes [ true ↦ first_refusal cs | false ↦ Refused c.otherwise ]
+first_refusal [] = Ok tt
+first_refusal (c ∷ cs) = elim c.passes [ true ↦ first_refusal cs | false ↦ Err c.otherwise ]
 
 -- 1, R4.1: n is an order
 unfoldable pub order_ok : ℤ → Bool
@@ -30,6 +32,10 @@ order_ok n = le_z (pos 1) n && le_z n (pos greatest_order)
 -- the order of a call: n, or 0 where n is no order
 unfoldable pub order_of : ℤ → ℕ
 order_of n = elim (order_ok n) [ true ↦ nat_abs n | false ↦ 0 ]
+
+-- the order of a call, or the refusal of check 1
+unfoldable pub ordered : ℤ → Result ℕ Refusal
+ordered n = elim (order_ok n) [ true ↦ Ok (order_of n) | false ↦ Err Order ]
 
 -- 2, R4.2: two tables have the size of a table, and what is offered with them the size of an offer
 unfoldable pub sizes_ok : ℕ → ℕ → ℕ → ℕ → ℕ → Bool

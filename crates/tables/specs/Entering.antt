@@ -1,15 +1,13 @@
 -- R5 of docs/RULES.md: the door of every act on bounds l and u: checks 1 to 5, and then the act, with its own checks, on the bounds that
 -- everything below reads.
-use Rattle.std.specs.Prelude.{◌≡◌, Bool, true, List, ◌++◌, ℕ, ◌*◌, ℤ, pos, length, drop, replicate}
+use Rattle.std.specs.Prelude.{◌≡◌, Bool, true, List, ◌++◌, ℕ, ◌*◌, ℤ, pos, length, drop, replicate, Ok}
 use Rattle.tables.specs.Ranges.{table_room}
 use Rattle.tables.specs.Matrix.{Matrix, at}
 use Rattle.tables.specs.Mending.{mended_low, mended_high}
-use Rattle.tables.specs.Checks.{Check, order_of, first_refusal, entry_checks, bounds_checks}
+use Rattle.tables.specs.Checks.{Check, Checked, order_of, first_refusal, entry_checks, bounds_checks}
 use Rattle.tables.specs.Answers.{after}
 use Rattle.tables.specs.Bounds.{CheckedTables}
 use Rattle.tables.specs.declared.Refusal.{Refusal}
-use Rattle.tables.specs.declared.Checked.{Checked}
-use Rattle.tables.specs.declared.Checked.TheVariants.{Passed}
 
 -- the bounds that everything below reads: those of the mended tables
 abbrev pub low_bounds : ℕ → List ℤ → Matrix
@@ -55,8 +53,8 @@ pub record Mended (checks : List Check) (n : ℕ) (l u : List ℤ) (r : Checked)
   pub answered : r ≡ first_refusal checks
   pub low-size : length l' ≡ length l
   pub high-size : length u' ≡ length u
-  pub low : r ≡ Passed → l' ≡ mended_low n l
-  pub high : r ≡ Passed → u' ≡ mended_high n u
+  pub low : r ≡ Ok tt → l' ≡ mended_low n l
+  pub high : r ≡ Ok tt → u' ≡ mended_high n u
 
 -- scratch tables of order n that hold the bounds of l and u, which passed the checks
 pub record Held (n : ℕ) (l u l' u' : List ℤ) : Type 0 where
@@ -68,4 +66,4 @@ pub record Held (n : ℕ) (l u l' u' : List ℤ) : Type 0 where
 pub record Entered (n : ℤ) (sized others : Bool) (l u : List ℤ) (r : Checked) (l' u' : List ℤ) : Type 0 where
   pub answered : r ≡ first_refusal (door_checks n sized others l u)
   pub rooms : Rooms l' u'
-  pub held : r ≡ Passed → Held (order_of n) l u l' u'
+  pub held : r ≡ Ok tt → Held (order_of n) l u l' u'

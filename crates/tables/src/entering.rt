@@ -1,38 +1,45 @@
 // R5 of docs/RULES.md, the door of every act: checks 1 to 5, and the bounds that everything below reads, in scratch tables.
 ghost use Rattle.std.specs.Prelude.{◌≡◌, ◌*◌, ◌≤◌, length};
-ghost use Rattle.tables.specs.Checks.{order_of, first_refusal, entry_checks, bounds_checks};
+ghost use Rattle.tables.specs.Checks.{ordered, order_of, first_refusal, entry_checks, bounds_checks};
 ghost use Rattle.tables.specs.Ranges.{greatest_order, table_room};
 ghost use Rattle.tables.specs.Entering.{door_checks, Exact, Blank, Rooms, Laid, Mended, Entered};
 
 use crate::mending::mend_bounds;
-use crate::{Checked, Refusal, Table, copy_numbers, order_ok};
+use crate::{Refusal, Table, copy_numbers, order_ok};
 
-// The order of a call: n, or 0 where n is no order.
+// The order of a call (check 1): n, where it is an order.
+pub fn order(n: i64) -> Result<usize, Refusal>
+    ensures { result ≡ ordered n }
+{
+    if !order_ok(n) {
+        return Err(Refusal::Order);
+    }
+    Ok(n as usize)
+}
+
+// The same number, or 0 where n is no order.
 pub fn order_of(n: i64) -> usize
     ensures { result ≡ order_of n }
 {
-    if order_ok(n) {
-        return n as usize;
-    }
-    0
+    order(n).unwrap_or(0)
 }
 
 // Checks 1 and 2: n is an order, and the buffers have their sizes.
-pub fn check_entry(n: i64, sized: bool) -> Checked
+pub fn check_entry(n: i64, sized: bool) -> Result<(), Refusal>
     ensures { result ≡ first_refusal (entry_checks n sized) }
 {
     if !order_ok(n) {
-        return Checked::Refused(Refusal::Order);
+        return Err(Refusal::Order);
     }
     if sized {
-        return Checked::Passed;
+        return Ok(());
     }
-    Checked::Refused(Refusal::Length)
+    Err(Refusal::Length)
 }
 
 // Checks 3 to 5 of bounds of order n that stand in l and u, and then these bounds mended: for an act that has made checks 1 and 2. `within`
 // says whether the call's other numbers are in their ranges.
-pub fn check_laid(n: usize, within: bool, l: &mut Table, u: &mut Table) -> Checked
+pub fn check_laid(n: usize, within: bool, l: &mut Table, u: &mut Table) -> Result<(), Refusal>
     requires { (n ≤ greatest_order) × (n * n ≤ table_room) × Rooms l.old u.old }
     ensures { Mended (bounds_checks within n l.old u.old) n l.old u.old
         result l.new u.new }
@@ -42,15 +49,18 @@ pub fn check_laid(n: usize, within: bool, l: &mut Table, u: &mut Table) -> Check
 
 // Checks 1 to 5 of a call whose bounds stand in l and u, each over the whole input before the next; and then these bounds mended. `sized`
 // says whether all buffers of the call have their sizes, `within` whether its other numbers are in their ranges.
-fn check_door(n: i64, sized: bool, within: bool, l: &mut Table, u: &mut Table) -> Checked
+fn check_door(
+    n: i64,
+    sized: bool,
+    within: bool,
+    l: &mut Table,
+    u: &mut Table,
+) -> Result<(), Refusal>
     requires { Rooms l.old u.old }
     ensures { Mended (door_checks n sized within l.old u.old) (order_of n) l.old u.old result
         l.new u.new }
 {
-    let checked = check_entry(n, sized);
-    if let Checked::Refused(r) = checked {
-        return Checked::Refused(r);
-    }
+    check_entry(n, sized)?;
     check_laid(order_of(n), within, l, u)
 }
 
@@ -74,7 +84,7 @@ pub fn enter(
     high: &[i64],
     l: &mut Table,
     u: &mut Table,
-) -> Checked
+) -> Result<(), Refusal>
     requires { Exact (order_of n) sized (length low.now) (length high.now) × Blank l.old × Blank u.old }
     ensures { Entered n sized within low.now high.now result l.new u.new }
 {

@@ -1,11 +1,11 @@
 // Bounded symmetric matrices, R2, R4 and R5 of docs/RULES.md: refusals, and the checks 1 to 5 and 16 of a problem.
 #![tactic(auto)]
 
-ghost use Rattle.std.specs.Prelude.{◌≡◌, true, false, ◌&&◌, ◌++◌, ◌*◌, ◌≤◌, ◌<◌, pos, nat_abs, ◌≤ℤ◌, length, take, drop};
+ghost use Rattle.std.specs.Prelude.{◌≡◌, true, false, ◌&&◌, ◌++◌, ◌*◌, ◌≤◌, ◌<◌, ℤ, pos, nat_abs, ◌≤ℤ◌, length, take, drop};
 ghost use Rattle.tables.specs.Matrix.{at};
 ghost use Rattle.tables.specs.Ranges.{greatest_order};
 ghost use Rattle.tables.specs.Refusals.{refusal_number};
-ghost use Rattle.tables.specs.Answers.{answer_code, checked_code};
+ghost use Rattle.tables.specs.Answers.{answer_code, yes_or_no_code};
 ghost use Rattle.tables.specs.Checks.{order_ok, sizes_ok, within, all_within, tables_within};
 ghost use Rattle.tables.specs.Checks.{linear_within, terms_within, nowhere_crossed, bounds_checks, ends_checks};
 ghost use Rattle.tables.specs.Checks.{first_refusal};
@@ -58,9 +58,9 @@ pub const CENTRE_RANGE: i64 = 1 << 12;
 pub const GRADIENT_RANGE: i64 = 1 << 20;
 
 // The refusals, in the order of their numbers: refusal k is rule R4.k of docs/RULES.md.
-#[derive(Clone, Copy)]
+#[derive(Clone, Copy, Debug, PartialEq, Eq)]
 pub enum Refusal {
-    Order,
+    Order = 1,
     Length,
     Range,
     Crossed,
@@ -82,67 +82,57 @@ pub enum Refusal {
     Busy,
 }
 
-// What checks find: nothing to refuse, or the first refusal.
-#[derive(Drop)]
-pub enum Checked {
-    Passed,
-    Refused(Refusal),
-}
-
-// What the vector test answers (R8.4).
-#[derive(Drop)]
-pub enum Answer {
-    Yes,
-    No,
-    Refused(Refusal),
-}
-
-// The number of a refusal (R4).
-pub fn refusal_number(r: Refusal) -> u8
-    ensures { result ≡ refusal_number r }
-{
-    match r {
-        Refusal::Order => 1,
-        Refusal::Length => 2,
-        Refusal::Range => 3,
-        Refusal::Crossed => 4,
-        Refusal::Lopsided => 5,
-        Refusal::Factor => 6,
-        Refusal::Vector => 7,
-        Refusal::Flat => 8,
-        Refusal::Far => 9,
-        Refusal::Cut => 10,
-        Refusal::Tag => 11,
-        Refusal::Again => 12,
-        Refusal::Absent => 13,
-        Refusal::Size => 14,
-        Refusal::Long => 15,
-        Refusal::Reversed => 16,
-        Refusal::Sample => 17,
-        Refusal::Full => 18,
-        Refusal::Falling => 19,
-        Refusal::Busy => 20,
+impl Refusal {
+    // The number of a refusal (R4).
+    pub fn number(self) -> u8
+        ensures { result ≡ refusal_number self }
+    {
+        self as u8
     }
 }
 
-// The number of what checks find at a C entry (R15.4): 0 where nothing is refused, else the refusal's.
-pub fn checked_code(checked: Checked) -> i64
-    ensures { result ≡ checked_code checked }
-{
-    match checked {
-        Checked::Passed => 0,
-        Checked::Refused(r) => refusal_number(r) as i64,
+// What an act answers where nothing is refused: it has a number at the C entries (R15.4), 0 or less.
+pub trait Answer {
+    ghost code: { Self → ℤ };
+
+    fn code(self) -> i64
+        ensures { result ≡ code self };
+}
+
+// Done, with no more to say: 0.
+impl Answer for () {
+    ghost code = { λ _. pos 0 };
+
+    fn code(self) -> i64 {
+        0
     }
 }
 
-// An answer's number at a C entry (R15.4): 0 'yes', -1 'no', else the refusal's.
-pub fn answer_code(a: Answer) -> i64
-    ensures { result ≡ answer_code a }
+// 'yes' 0, 'no' -1 (R8.4).
+impl Answer for bool {
+    ghost code = { yes_or_no_code };
+
+    fn code(self) -> i64 {
+        if self { 0 } else { -1 }
+    }
+}
+
+// A number that is handed out: 0.
+impl Answer for i64 {
+    ghost code = { λ _. pos 0 };
+
+    fn code(self) -> i64 {
+        0
+    }
+}
+
+// The number at a C entry of what an act answers (R15.4): the answer's, or the refusal's.
+pub fn answer_code<A: Answer>(given: Result<A, Refusal>) -> i64
+    ensures { result ≡ answer_code A.code given }
 {
-    match a {
-        Answer::Yes => 0,
-        Answer::No => -1,
-        Answer::Refused(r) => refusal_number(r) as i64,
+    match given {
+        Ok(answer) => answer.code(),
+        Err(refusal) => refusal.number() as i64,
     }
 }
 
@@ -159,11 +149,7 @@ pub fn copy_numbers(count: usize, x: &[i64], out: &mut [i64])
     requires { (count ≤ length x.now) × (count ≤ length out.old) }
     ensures { out.new ≡ take count x.now ++ drop count out.old }
 {
-    let mut k = 0;
-    while k < count {
-        out[k] = x[k];
-        k += 1;
-    }
+    out[..count].copy_from_slice(&x[..count]);
 }
 
 // Whether n is an order.
@@ -199,12 +185,10 @@ pub fn all_within(x: &[i64], count: usize, bound: i64) -> bool
     requires { (count ≤ length x.now) × (pos 0 ≤ℤ bound) }
     ensures { result ≡ all_within (nat_abs bound) count x.now }
 {
-    let mut k = 0;
-    while k < count {
-        if !within(x[k], bound) {
+    for v in &x[..count] {
+        if !within(*v, bound) {
             return false;
         }
-        k += 1;
     }
     true
 }
@@ -214,12 +198,10 @@ pub fn nowhere_crossed(low: &[i64], high: &[i64], count: usize) -> bool
     requires { (count ≤ length low.now) × (count ≤ length high.now) }
     ensures { result ≡ nowhere_crossed count low.now high.now }
 {
-    let mut k = 0;
-    while k < count {
+    for k in 0..count {
         if high[k] < low[k] {
             return false;
         }
-        k += 1;
     }
     true
 }
@@ -236,7 +218,7 @@ pub fn entries_within(low: &[i64], high: &[i64], count: usize) -> bool
 }
 
 // The first of the checks 3, 4 and 5 that fails (R5.6), of tables of which one does.
-fn find_refusal(n: usize, low: &[i64], high: &[i64]) -> Checked
+fn find_refusal(n: usize, low: &[i64], high: &[i64]) -> Result<(), Refusal>
     requires { (n ≤ greatest_order) × (n * n ≤ length low.now) × (n * n ≤ length high.now)
         × (tables_bounded n false low.now high.now ≡ false) }
     ensures { result ≡ first_refusal (bounds_checks true n low.now high.now) }
@@ -245,12 +227,12 @@ fn find_refusal(n: usize, low: &[i64], high: &[i64]) -> Checked
     let entries = entries_within(low, high, count);
     let ordered = nowhere_crossed(low, high, count);
     if !entries {
-        return Checked::Refused(Refusal::Range);
+        return Err(Refusal::Range);
     }
     if !ordered {
-        return Checked::Refused(Refusal::Crossed);
+        return Err(Refusal::Crossed);
     }
-    Checked::Refused(Refusal::Lopsided)
+    Err(Refusal::Lopsided)
 }
 
 // Whether bounds l and u at one place pass checks 3 and 4: not below -2^20, not above 2^20, and not crossed.
@@ -307,14 +289,12 @@ fn row_bounded(n: usize, even: bool, low: &[i64], high: &[i64], i: usize) -> boo
     requires { (n ≤ greatest_order) × (i < n) × (n * n ≤ length low.now) × (n * n ≤ length high.now) }
     ensures { result ≡ row_bounded n even low.now high.now i }
 {
-    let mut j = 0;
-    while j <= i {
+    for j in 0..i + 1 {
         let l = entry(n, low, i, j);
         let u = entry(n, high, i, j);
         if !pair_bounded(even, l, entry(n, low, j, i), u, entry(n, high, j, i)) {
             return false;
         }
-        j += 1;
     }
     true
 }
@@ -324,51 +304,49 @@ fn tables_bounded(n: usize, even: bool, low: &[i64], high: &[i64]) -> bool
     requires { (n ≤ greatest_order) × (n * n ≤ length low.now) × (n * n ≤ length high.now) }
     ensures { result ≡ tables_bounded n even low.now high.now }
 {
-    let mut i = 0;
-    while i < n {
+    for i in 0..n {
         if !row_bounded(n, even, low, high, i) {
             return false;
         }
-        i += 1;
     }
     true
 }
 
 // Checks 3, 4 and 5 of tables of order n whose halves may differ. Which check fails is looked for only where one does.
-fn check_apart(n: usize, low: &[i64], high: &[i64]) -> Checked
+fn check_apart(n: usize, low: &[i64], high: &[i64]) -> Result<(), Refusal>
     requires { (n ≤ greatest_order) × (n * n ≤ length low.now) × (n * n ≤ length high.now) }
     ensures { result ≡ first_refusal (bounds_checks true n low.now high.now) }
 {
     if tables_bounded(n, false, low, high) {
-        return Checked::Passed;
+        return Ok(());
     }
     find_refusal(n, low, high)
 }
 
 // Checks 3, 4 and 5 of bounds of order n, and of an act whose other numbers are in their ranges or not. Halves that agree are looked at
 // first.
-pub fn check_bounds(n: usize, within: bool, low: &[i64], high: &[i64]) -> Checked
+pub fn check_bounds(n: usize, within: bool, low: &[i64], high: &[i64]) -> Result<(), Refusal>
     requires { (n ≤ greatest_order) × (n * n ≤ length low.now) × (n * n ≤ length high.now) }
     ensures { result ≡ first_refusal (bounds_checks within n low.now high.now) }
 {
     if within {
         if tables_bounded(n, true, low, high) {
-            return Checked::Passed;
+            return Ok(());
         }
         return check_apart(n, low, high);
     }
-    Checked::Refused(Refusal::Range)
+    Err(Refusal::Range)
 }
 
 // Check 16, of the ends of n linear terms.
-pub fn check_ends(n: usize, low: &[i64], high: &[i64]) -> Checked
+pub fn check_ends(n: usize, low: &[i64], high: &[i64]) -> Result<(), Refusal>
     requires { (n ≤ length low.now) × (n ≤ length high.now) }
     ensures { result ≡ first_refusal (ends_checks n low.now high.now) }
 {
     if nowhere_crossed(low, high, n) {
-        return Checked::Passed;
+        return Ok(());
     }
-    Checked::Refused(Refusal::Reversed)
+    Err(Refusal::Reversed)
 }
 
 // Whether both ends of the linear terms are within their range.

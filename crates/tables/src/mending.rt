@@ -7,7 +7,7 @@ ghost use Rattle.tables.specs.Pairs.{joined_row};
 ghost use Rattle.tables.specs.Checks.{bounds_checks};
 ghost use Rattle.tables.specs.Entering.{Mended};
 
-use crate::{Checked, Refusal, check_apart, tables_bounded};
+use crate::{Refusal, check_apart, tables_bounded};
 use integers::{greater, smaller};
 
 // One number into both places of a pair.
@@ -25,15 +25,13 @@ fn mend_row(n: usize, low: &mut [i64], high: &mut [i64], i: usize)
     ensures { (low.new ≡ joined_row max_ℤ n i i low.old)
         × (high.new ≡ joined_row min_ℤ n i i high.old) }
 {
-    let mut j = 0;
-    while j < i {
+    for j in 0..i {
         let p = i * n + j;
         let q = j * n + i;
         let greatest = greater(low[p], low[q]);
         put_pair(low, p, q, greatest);
         let least = smaller(high[p], high[q]);
         put_pair(high, p, q, least);
-        j += 1;
     }
 }
 
@@ -42,42 +40,35 @@ fn mend(n: usize, low: &mut [i64], high: &mut [i64])
     requires { (n ≤ greatest_order) × (n * n ≤ length low.old) × (n * n ≤ length high.old) }
     ensures { (low.new ≡ mended_low n low.old) × (high.new ≡ mended_high n high.old) }
 {
-    let mut i = 0;
-    while i < n {
+    for i in 0..n {
         mend_row(n, low, high, i);
-        i += 1;
     }
 }
 
 // Checks 3, 4 and 5 of bounds of order n whose halves may differ, and where they pass both tables mended. `within` says whether the call's
 // other numbers are in their ranges.
-fn mend_apart(n: usize, within: bool, low: &mut [i64], high: &mut [i64]) -> Checked
+fn mend_apart(n: usize, within: bool, low: &mut [i64], high: &mut [i64]) -> Result<(), Refusal>
     requires { (n ≤ greatest_order) × (n * n ≤ length low.old) × (n * n ≤ length high.old) }
     ensures { Mended (bounds_checks within n low.old high.old) n low.old high.old result
         low.new high.new }
 {
     if !within {
-        return Checked::Refused(Refusal::Range);
+        return Err(Refusal::Range);
     }
-    let checked = check_apart(n, low, high);
-    match checked {
-        Checked::Passed => {
-            mend(n, low, high);
-            Checked::Passed
-        }
-        Checked::Refused(r) => Checked::Refused(r),
-    }
+    check_apart(n, low, high)?;
+    mend(n, low, high);
+    Ok(())
 }
 
 // The same. Tables whose halves agree, which most have, pass at once and are left as they are.
-pub fn mend_bounds(n: usize, within: bool, low: &mut [i64], high: &mut [i64]) -> Checked
+pub fn mend_bounds(n: usize, within: bool, low: &mut [i64], high: &mut [i64]) -> Result<(), Refusal>
     requires { (n ≤ greatest_order) × (n * n ≤ length low.old) × (n * n ≤ length high.old) }
     ensures { Mended (bounds_checks within n low.old high.old) n low.old high.old result
         low.new high.new }
 {
     if within {
         if tables_bounded(n, true, low, high) {
-            return Checked::Passed;
+            return Ok(());
         }
     }
     mend_apart(n, within, low, high)

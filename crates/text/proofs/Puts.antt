@@ -1,16 +1,12 @@
 -- Texts that are put into a buffer one after the other.
 use mathlib.Core.Path.{◌≡◌, refl, sym, ap, ◌∙◌}
 use mathlib.Core.List.{List, [], ◌∷◌, ◌++◌, append_assoc, append-nil}
-use Prim.Native.Nat.{ℕ, ◌+◌, ◌*◌, ◌≤◌, ◌<◌}
-use native.Mathlib.Nat.{add-zero, suc-mul, mul-le-mul, le_refl}
+use Prim.Native.Nat.{ℕ, ◌+◌, ◌≤◌}
+use native.Mathlib.Nat.{add-zero}
 use native.Mathlib.Omega.{arith}
 use lib.ListN.{length, set, take, drop, length-append, length-drop, take-append-drop}
 use lib.Seq.{length-take-le, take_at, drop-append-add, drop-drop, sets-eq}
 use Rattle.text.specs.Putting.{with_text, Put}
-
--- of n texts of at most m bytes each there is room for one more behind the first i
-pub one_more : (i n m : ℕ) → i < n → i * m + m ≤ n * m
-one_more i n m h = omega (arith, suc-mul i m, mul-le-mul h (le_refl m))
 
 -- what stands up to the end of the text
 length_front : (b : List ℕ) (at : ℕ) (t : List ℕ) → at ≤ length b → length (take at b ++ t) ≡ at + length t

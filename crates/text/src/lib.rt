@@ -24,12 +24,9 @@ pub fn put_text(out: &mut [u8], at: usize, text: &[u8]) -> usize
     requires { at + length text.now ≤ length out.old }
     ensures { Put out.old at text.now (length text.now) result out.new }
 {
-    let mut k = 0;
-    while k < text.len() {
-        out[at + k] = text[k];
-        k += 1;
-    }
-    at + k
+    let behind = at + text.len();
+    out[at..behind].copy_from_slice(text);
+    behind
 }
 
 // The decimal digits of u.
@@ -63,11 +60,9 @@ fn put_numbers(out: &mut [u8], at: usize, x: &[i64], first: usize, count: usize)
         result out.new }
 {
     let mut next = at;
-    let mut k = 0;
-    while k < count {
+    for v in &x[first..first + count] {
         let from = put(out, next, 32);
-        next = put_decimal(out, from, x[first + k]);
-        k += 1;
+        next = put_decimal(out, from, *v);
     }
     next
 }
@@ -104,10 +99,8 @@ pub fn put_lines(
         (count * line_room (length word.now) width) result out.new }
 {
     let mut next = at;
-    let mut i = 0;
-    while i < count {
+    for i in 0..count {
         next = put_line(out, next, word, x, i * width, width);
-        i += 1;
     }
     next
 }

@@ -52,9 +52,6 @@ module _ {n : ℕ} (t : List ℤ) (g : (i j : ℕ) → i < n → j < n → nat_a
   twice_fits = fits_within twice_within (omega arith)
 
 module _ {n : ℕ} {l u : List ℤ} where
-  pub filled-start : {t : List ℤ} → PairTables n t → FilledPairs n l u t 0
-  filled-start d = record { tables = d; same = λ k h. absurd (omega arith); other = λ k h. absurd (omega arith) }
-
   pub filled_more : CheckedTables n l u → {k : ℕ} → k < n * n → {t : List ℤ} → FilledPairs n l u t k →
       FilledPairs n l u (set (set t k (pos 2 *ℤ nth l k)) (table_room + k) (negsuc 1 *ℤ nth u k)) (suc k)
   filled_more g {k} h {t} a =
@@ -84,9 +81,6 @@ module _ {n : ℕ} {l u t : List ℤ} (a : FilledPairs n l u t (n * n)) (i j : �
 
 -- ---- a row of a table is added
 module _ {n : ℕ} {t : List ℤ} {f d : ℕ} {p : List ℤ} where
-  pub added-start : {p' : List ℤ} → length p' ≡ greatest_order → Added n t f d p p' 0
-  added-start h = record { size = h; entries = λ k l. absurd (omega arith) }
-
   pub added_more : {p' : List ℤ} {m : ℕ} → m < greatest_order → Added n t f d p p' m → Added n t f d p (set p' m (nth p m +ℤ at n (drop f t) d m)) (suc m)
   added_more {p'} {m} h a = record {
     size = length-set p' m _ ∙ a.size;
@@ -129,9 +123,6 @@ pub open_zeros : Open 0 (replicate greatest_order (pos 0))
 open_zeros = record { size = length-replicate greatest_order (pos 0); small = λ k h. rw (get_or-replicate greatest_order k (pos 0) (pos 0) h) zero_within }
 
 module _ (n : ℕ) (t : List ℤ) (w : ℤ) where
-  pub diagonal-start : {p : List ℤ} → Open 0 p → Diagonal n t w p 0
-  diagonal-start h = record { start = h; entries = λ k l. absurd (omega arith) }
-
   module _ (o : n ≤ greatest_order) (g : (i j : ℕ) → i < n → j < n → nat_abs (at n t i j) ≤ entry_range) (s : Within under_range w) {m : ℕ} (h : m < n) where
     difference-within : Within (open_range 0) (at n t m m -ℤ w)
     difference-within = within_more (omega arith) (within-- {x = at n t m m} (record { size = g m m h h }) s)

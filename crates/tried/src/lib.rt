@@ -26,10 +26,8 @@ fn add_row(n: usize, pairs: &Pairs, start: usize, d: usize, from: &Vector, to: &
         greatest_order) }
     ensures { Added n pairs.now start d from.now to.new greatest_order }
 {
-    let mut k = 0;
-    while k < GREATEST_ORDER {
+    for k in 0..GREATEST_ORDER {
         to[k] = from[k] + row_entry(n, pairs, start, d, k);
-        k += 1;
     }
 }
 
@@ -182,11 +180,9 @@ fn fill_pairs(n: usize, low: &[i64], high: &[i64], pairs: &mut Pairs)
     ensures { FilledPairs n low.now high.now pairs.new (n * n) }
 {
     let count = n * n;
-    let mut k = 0;
-    while k < count {
+    for k in 0..count {
         pairs[k] = 2 * low[k];
         pairs[OTHER_SIGN_START + k] = -2 * high[k];
-        k += 1;
     }
 }
 
@@ -197,10 +193,8 @@ fn diagonal(n: usize, low: &[i64], w: i64, p: &mut Vector)
         × Open 0 p.old × Within under_range w }
     ensures { Diagonal n low.now w p.new n }
 {
-    let mut k = 0;
-    while k < n {
+    for k in 0..n {
         p[k] = tables::entry(n, low, k, k) - w;
-        k += 1;
     }
 }
 

@@ -30,10 +30,8 @@ fn least_row(n: usize, low: &[i64], high: &[i64], x: &[i64], i: usize) -> i64
     ensures { result ≡ least_row n low.now high.now x.now i i }
 {
     let mut s: i64 = 0;
-    let mut k = 0;
-    while k < i {
+    for k in 0..i {
         s += least_pair(n, low, high, x, i, k);
-        k += 1;
     }
     s
 }
@@ -57,10 +55,8 @@ pub fn least_value(n: usize, low: &[i64], high: &[i64], x: &[i64]) -> i64
     ensures { result ≡ least_value n (at n low.now) (at n high.now) (nth x.now) }
 {
     let mut s: i64 = 0;
-    let mut i = 0;
-    while i < n {
+    for i in 0..n {
         s += least_share(n, low, high, x, i);
-        i += 1;
     }
     s
 }

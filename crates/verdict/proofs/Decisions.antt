@@ -1,5 +1,5 @@
 -- The verdict by its steps: a refusal, a factoring that ends, and one that stops.
-use mathlib.Core.Path.{◌≡◌, sym, ap, ap₂, ◌∙◌}
+use mathlib.Core.Path.{◌≡◌, sym, ap, ap₂, ◌∙◌, refl}
 use mathlib.Core.Bool.{Bool, true, false}
 use mathlib.Core.List.{List, ◌++◌}
 use Prim.Native.Nat.{ℕ, ◌+◌, ◌*◌, ◌/◌, ◌%◌, ◌≤◌, ◌<◌}
@@ -17,10 +17,10 @@ use Rattle.tables.proofs.Checks.{true_of, of_true, and_left, and_right, sizes-of
 use Rattle.tables.proofs.Matrix.{tabulate_ext, length-tabulate, nth-tabulate, inside, row_inside, column_inside, nth-at}
 use Rattle.cholesky.specs.Scale.{scaled}
 use Rattle.cholesky.specs.Factoring.{Factoring, entries, factored}
-use Rattle.cholesky.specs.Store.{Stored, triangle}
-use Rattle.cholesky.specs.declared.factoring.Outcome.TheVariants.{Ends, Stops}
+use Rattle.std.specs.Prelude.{Ok, is_ok}
+use Rattle.cholesky.specs.Store.{Stored, triangle, Ends, Stops}
 use Rattle.cholesky.proofs.Columns.{all-columns}
-use Rattle.cholesky.proofs.Store.{outcome-ends, outcome_stops}
+use Rattle.cholesky.proofs.Store.{outcome_ends}
 use Rattle.residual.specs.Residual.{over}
 use Rattle.residual.specs.FactorTest.{factor_shape}
 use Rattle.residual.proofs.Offers.{shape_ext, over_ext}
@@ -32,7 +32,7 @@ use Rattle.solved.specs.Solved.{solved}
 use Rattle.solved.specs.Stopped.{stopped_at}
 use Rattle.solved.proofs.Stops.{stopped-at}
 use Rattle.verdict.specs.FactorTable.{Written}
-use Rattle.verdict.specs.Judge.{Judgement, definite, not_definite, listed, shown_by, definite_by, judged, judge_sizes}
+use Rattle.verdict.specs.Judge.{Judged, written, Judgement, definite, not_definite, listed, shown_by, definite_by, judged, judge_sizes}
 use Rattle.verdict.specs.Deciding.{stated, shown_verdict, left_by, Decided}
 use Rattle.verdict.specs.declared.judge.Verdict.{Verdict}
 use Rattle.verdict.proofs.Writing.{triangle-entries}
@@ -59,7 +59,7 @@ module _ (n : ℕ) (L U : Matrix) (t f : List ℤ) (s : Stored (factored n L U) 
   R = entries (factored n L U).columns
 
   pub ended : (factored n L U).ends ≡ true
-  ended = sym (outcome-ends _ (sym s.outcome))
+  ended = sym (outcome_ends _) ∙ ap is_ok (sym s.outcome)
 
   -- the factor's entries
   factor-entries : (i j : ℕ) → i < n → j < n → at n f i j ≡ R i j
@@ -94,7 +94,7 @@ module _ (n : ℕ) (L U : Matrix) (t f x : List ℤ) where
     unfolding listed
     found-is =
         let e = stopped-at s in
-        judged_stops n L U (sym (outcome_stops _ _ _ (sym s.outcome)))
+        judged_stops n L U (sym (outcome_ends _) ∙ ap is_ok (sym s.outcome))
         ∙ ap (λ (g : Factoring). shown_by (first passes (tried n ++ (solved n g (pos 1) ++ solved n g (pos 64))))) e ∙ ap shown_by a.answer
 
   found-stated : {j m : ℕ} → Stored (factored n L U) (Stops j m) t → (r : Bool) →
@@ -108,12 +108,30 @@ module _ (n : ℕ) (L U : Matrix) (t f x : List ℤ) where
       {w : Verdict} → w ≡ shown_verdict r → judged n L U ≡ stated n w f x
   decided_shown s {r} a e = found-stated s r a ∙ ap (λ (w : Verdict). stated n w f x) (sym e)
 
--- ---- what is left of the lent numbers
-pub left_as : {g : Judgement} {n : ℕ} {r : Verdict} {f₀ f x : List ℤ} → Decided g n r f₀ f x → (s : Verdict) → r ≡ s → f ≡ left_by s f₀ f
-left_as {f₀ = f₀} {f = f} d s e = d.left ∙ ap (λ (z : Verdict). left_by z f₀ f) e
-
+-- ---- what the act leaves of the lent factor f₀ and vector v, by what the code states
 pub whole : {m : ℕ} {f : List ℤ} → length f ≡ m → f ≡ tabulate m (nth f)
 whole {m} {f} e = ext_get_or (pos 0) f (tabulate m (nth f)) (e ∙ sym (length-tabulate m (nth f))) (λ i h. sym (nth-tabulate m (nth f) i (omega arith)))
+
+module _ {g : Judgement} {n : ℕ} {f₀ f x : List ℤ} (v : List ℤ) where
+  -- 'not definite': the vector is written
+  pub decided_shows : {r : Verdict} → Decided g n r f₀ f x → r ≡ Verdict.NotDefinite →
+      ◌≡◌ {A = Judged} (record { verdict = Ok r; factor = f; vector = tabulate n (nth x) }) (written g f₀ v)
+  unfolding stated left_by
+  decided_shows d q =
+      let h = d.verdict ∙ ap (λ (r : Verdict). stated n r f x) q in
+      rw (h, q, d.left ∙ ap (λ (r : Verdict). left_by r f₀ f) q)
+
+  -- else it is kept
+  pub decided_keeps : {r : Verdict} → length f₀ ≡ n * n → Decided g n r f₀ f x → (r ≡ Verdict.NotDefinite → ⊥) →
+      ◌≡◌ {A = Judged} (record { verdict = Ok r; factor = f; vector = v }) (written g f₀ v)
+  unfolding stated left_by
+  decided_keeps {r} e d h = go r h d.verdict d.left
+    where
+      go : (r : Verdict) → (r ≡ Verdict.NotDefinite → ⊥) → g ≡ stated n r f x → f ≡ left_by r f₀ f →
+          ◌≡◌ {A = Judged} (record { verdict = Ok r; factor = f; vector = v }) (written g f₀ v)
+      go (Verdict.Definite w) h q l = rw q (ap (λ (t : List ℤ). record { verdict = Ok (Verdict.Definite w); factor = t; vector = v }) (whole (d.room ∙ e)))
+      go Verdict.NotDefinite h q l = absurd (h refl)
+      go Verdict.Undecided h q l = rw (q, l)
 
 -- ---- what is made of a judgement is made of what the code states
 pub made_of : {A : Type 0} (P : Judgement → A) {g : Judgement} {n : ℕ} {r : Verdict} {f₀ f x : List ℤ} → Decided g n r f₀ f x → (s : Verdict) → r ≡ s →

@@ -13,9 +13,8 @@ use Rattle.tables.specs.Matrix.{Matrix, at, nth, table}
 use Rattle.tables.specs.Bounds.{Bounds}
 use Rattle.tables.specs.Checks.{within, order_of}
 use Rattle.tables.specs.Entering.{low_bounds, high_bounds}
-use Rattle.tables.specs.Answers.{yes_or_no}
+use Rattle.std.specs.Prelude.{Result, Ok, Err}
 use Rattle.tables.specs.declared.Refusal.{Refusal}
-use Rattle.tables.specs.declared.Answer.TheVariants as Answer
 use Rattle.tables.proofs.Checks.{of_true, true_of, and_left, and_of, all_of, within_true, first_passes, first-none, passed-bounds}
 use Rattle.tables.proofs.Matrix.{at_table}
 use Rattle.tables.proofs.MendedTables.{definite-handed}
@@ -35,7 +34,6 @@ use Rattle.tried.specs.Tried.{first}
 use Rattle.tried.proofs.TriedVectors.{Picks, first_picks}
 use Rattle.verdict.specs.Judge.{Judgement, refused, listed, shown_by, definite_by, judged, judging, written, Meaning}
 use Rattle.verdict.specs.declared.judge.Verdict.{Verdict}
-use Rattle.verdict.specs.declared.judge.Verdict.TheVariants as Verdict
 use Rattle.verdict.proofs.Decisions.{judged-ends, judged_stops}
 use Rattle.tables.proofs.Buffers.{Small}
 use Rattle.verdict.proofs.Fitting.{Fitting, stops_fitting}
@@ -45,7 +43,9 @@ unfoldable pub carried : Verdict → ℤ
 carried (Verdict.Definite w) = w
 carried Verdict.NotDefinite = pos 0
 carried Verdict.Undecided = pos 0
-carried (Verdict.Refused r) = pos 0
+
+pub same_verdict : {a b : Verdict} → ◌≡◌ {A = Result Verdict Refusal} (Ok a) (Ok b) → a ≡ b
+same_verdict e = cc e
 
 -- ---- what the definition of the verdict gives, behind the door
 module _ (n : ℤ) (sized : Bool) (l u : List ℤ) (b : Behind n sized true l u) where
@@ -73,38 +73,38 @@ module _ (n : ℤ) (sized : Bool) (l u : List ℤ) (b : Behind n sized true l u)
   abbrev R : Matrix
   R = entries (factored k L U).columns
 
-  factor-accepted : T (factored k L U).ends → factor_tested n true l u (table k R) ≡ FactorAnswer.Accepted (over k R L U)
+  factor-accepted : T (factored k L U).ends → factor_tested n true l u (table k R) ≡ Ok (FactorAnswer.Accepted (over k R L U))
   unfolding factor_tested factor_answer tested
   factor-accepted t =
       let same = at_table k R in
       let shape = shape_ext k (at k (table k R)) R same ∙ true_of _ (ends_shape_take_off k (order_small n) L U bounds t) in
-      sym (behind-entered n true true l u FactorAnswer.Refused _ open_door) ∙ sym (after-passed FactorAnswer.Refused _ (first_passes _ _ shape ∙ first-none))
-      ∙ ap₂ tested (accepts_ext k (at k (table k R)) R L U same ∙ true_of _ (ends-accepted-take_off k (order_small n) L U bounds t)) (over_ext k (at k (table k R)) R L U same)
+      sym (behind-entered n true true l u Err _ open_door) ∙ sym (after-passed Err _ (first_passes _ _ shape ∙ first-none))
+      ∙ ap₂ (λ b v. Ok (tested b v)) (accepts_ext k (at k (table k R)) R L U same ∙ true_of _ (ends-accepted-take_off k (order_small n) L U bounds t)) (over_ext k (at k (table k R)) R L U same)
 
   -- the vector test says yes of a vector in its range that shows it
-  vector-confirmed : (x : List ℤ) → Small k vector_range x → shows k L U (nth x) ≡ true → vector_tested n true l u x ≡ Answer.Yes
+  vector-confirmed : (x : List ℤ) → Small k vector_range x → shows k L U (nth x) ≡ true → vector_tested n true l u x ≡ Ok true
   unfolding vector_tested vector_answer vector_shape shows
   vector-confirmed x z e =
       let shape = and_of (and_left (nonzero k (nth x)) _ e) (all_of (λ i. within vector_range (nth x i)) k (λ i h. within_true (z.small i))) in
-      sym (behind-entered n true true l u Answer.Refused _ open_door) ∙ sym (after-passed Answer.Refused _ (first_passes _ _ shape ∙ first-none)) ∙ ap yes_or_no e
+      sym (behind-entered n true true l u Err _ open_door) ∙ sym (after-passed Err _ (first_passes _ _ shape ∙ first-none)) ∙ ap Ok e
 
   abbrev Means : Judgement → List ℤ → List ℤ → Type 0
   Means g f v = Meaning n l u (written g f v).verdict (written g f v).factor (written g f v).vector
 
   module _ (f v : List ℤ) where
     -- 'definite' has one number
-    number : {y w : ℤ} → Verdict.Definite y ≡ Verdict.Definite w → y ≡ w
+    number : {y w : ℤ} → ◌≡◌ {A = Result Verdict Refusal} (Ok (Verdict.Definite y)) (Ok (Verdict.Definite w)) → y ≡ w
     unfolding carried
-    number e = ap carried e
+    number e = ap carried (same_verdict e)
 
     ends-means : T (factored k L U).ends → Means (definite_by k L U R) f v
     ends-means t =
         let m = tested-means n l u (table k R) true in
         record {
           definite = λ w e. definite-handed k l u (ends-definite-take_off k (order_small n) L U bounds t);
-          accepted = λ w e. factor-accepted t ∙ ap FactorAnswer.Accepted (number e);
-          enough = λ w e. m.enough w (factor-accepted t ∙ ap FactorAnswer.Accepted (number e));
-          bound = λ w e. m.bound w (inl (factor-accepted t ∙ ap FactorAnswer.Accepted (number e)));
+          accepted = λ w e. factor-accepted t ∙ ap (λ v. Ok (FactorAnswer.Accepted v)) (number e);
+          enough = λ w e. m.enough w (factor-accepted t ∙ ap (λ v. Ok (FactorAnswer.Accepted v)) (number e));
+          bound = λ w e. m.bound w (inl (factor-accepted t ∙ ap (λ v. Ok (FactorAnswer.Accepted v)) (number e)));
           shown = λ e. absurd (false≢true cc);
           confirmed = λ e. absurd (false≢true cc);
           from_list = λ e. absurd (false≢true cc);
@@ -144,7 +144,7 @@ module _ (n : ℤ) (sized : Bool) (l u : List ℤ) (b : Behind n sized true l u)
         (stops-means e (first (λ x. shows k L U (nth x)) (listed k L U)) (first_picks (λ x. shows k L U (nth x)) (listed k L U)) (stops_fitting k (order_small n) L U bounds e)))
 
 -- ---- of any call at all
-refused-means : (n : ℤ) (l u f v : List ℤ) (r : Refusal) → Meaning n l u (Verdict.Refused r) f v
+refused-means : (n : ℤ) (l u f v : List ℤ) (r : Refusal) → Meaning n l u (Err r) f v
 refused-means n l u f v r = record {
   definite = λ w e. absurd (false≢true cc);
   accepted = λ w e. absurd (false≢true cc);

@@ -8,7 +8,7 @@ use native.Mathlib.Decide.{ℕ_discrete, dec_lt}
 use lib.IntN.{ℤ, pos}
 use lib.ListN.{length, set}
 use lib.Seq.{get_or-set_same, get_or-set_other}
-use Rattle.tables.specs.Matrix.{Matrix, at, nth, table}
+use Rattle.tables.specs.Matrix.{Matrix, at, nth}
 use Rattle.tables.proofs.Matrix.{get_d_tabulate, same_row, same_column}
 use Rattle.cholesky.specs.Factoring.{entries}
 use Rattle.cholesky.specs.Store.{column_of, columns_of, triangle}

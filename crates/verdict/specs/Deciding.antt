@@ -2,16 +2,14 @@
 use Rattle.std.specs.Prelude.{◌≡◌, Bool, true, false, List, ℕ, ◌*◌, ℤ, length}
 use Rattle.tables.specs.Ranges.{greatest_order}
 use Rattle.tables.specs.Matrix.{nth, tabulate}
-use Rattle.verdict.specs.Judge.{Judgement, definite, not_definite, undecided, refused}
+use Rattle.verdict.specs.Judge.{Judgement, definite, not_definite, undecided}
 use Rattle.verdict.specs.declared.judge.Verdict.{Verdict}
-use Rattle.verdict.specs.declared.judge.Verdict.TheVariants as Verdict
 
 -- the factor that the first n² numbers of f are, or the vector in x
 unfoldable pub stated : ℕ → Verdict → List ℤ → List ℤ → Judgement
 stated n (Verdict.Definite w) f x = definite (tabulate (n * n) (nth f)) w
 stated n Verdict.NotDefinite f x = not_definite (tabulate n (nth x))
 stated n Verdict.Undecided f x = undecided
-stated n (Verdict.Refused r) f x = refused r
 
 -- the verdict where factoring stopped
 unfoldable pub shown_verdict : Bool → Verdict
@@ -22,7 +20,6 @@ unfoldable pub left_by : Verdict → List ℤ → List ℤ → List ℤ
 left_by (Verdict.Definite w) f₀ f = f
 left_by Verdict.NotDefinite f₀ f = f₀
 left_by Verdict.Undecided f₀ f = f₀
-left_by (Verdict.Refused r) f₀ f = f₀
 
 -- the judgement is the one that the code states; f is what it leaves of f₀, and x the vector's array
 pub record Decided (g : Judgement) (n : ℕ) (r : Verdict) (f₀ f x : List ℤ) : Type 0 where

@@ -1,10 +1,10 @@
 -- The judge, R11 of docs/RULES.md: what it answers, what it writes, and what its answer means (D3).
-use Rattle.std.specs.Prelude.{◌≡◌, Bool, true, false, ◌&&◌, ℕ, ◌*◌, eqb, ℤ, pos, negsuc, ◌≤ℤ◌, length}
+use Rattle.std.specs.Prelude.{◌≡◌, Bool, true, false, ◌&&◌, ℕ, ◌*◌, eqb, ℤ, pos, negsuc, ◌≤ℤ◌, length, Result, Ok, Err}
 use mathlib.Core.List.{List, ◌++◌, Memᴰ}
 use Rattle.std.proofs.Math.Option.{Option, none, some}
 use Rattle.tables.specs.Matrix.{Matrix, at, nth, table}
 use Rattle.tables.specs.Members.{PositiveDefinite, Margin}
-use Rattle.tables.specs.Refusals.{refusal_number}
+use Rattle.tables.specs.Answers.{answer_code}
 use Rattle.tables.specs.Checks.{order_of, sizes_ok}
 use Rattle.tables.specs.Entering.{low_bounds, high_bounds, entered}
 use Rattle.tables.specs.declared.Refusal.{Refusal}
@@ -12,13 +12,11 @@ use Rattle.cholesky.specs.Factoring.{entries, factored}
 use Rattle.residual.specs.Residual.{over, FormBound}
 use Rattle.residual.specs.FactorTest.{factor_tested}
 use Rattle.residual.specs.declared.factor_test.FactorAnswer.TheVariants.{Accepted}
-use Rattle.tables.specs.declared.Answer.TheVariants.{Yes}
 use Rattle.vectors.specs.Least.{shows, Witness}
 use Rattle.vectors.specs.VectorTest.{vector_tested}
 use Rattle.tried.specs.Tried.{tried, first}
 use Rattle.solved.specs.Solved.{solved}
 use Rattle.verdict.specs.declared.judge.Verdict.{Verdict}
-use Rattle.verdict.specs.declared.judge.Verdict.TheVariants as Verdict
 
 -- a verdict with what goes with it: the table of the factor and what the rows have over, or the vector that shows it
 pub data Judgement : Type 0 where
@@ -54,16 +52,16 @@ judging n sized l u = let k : ℕ = order_of n in entered refused n sized true l
 
 -- ---- the act: its verdict, and both buffers as it leaves them
 pub record Judged : Type 0 where
-  pub verdict : Verdict
+  pub verdict : Result Verdict Refusal
   pub factor : List ℤ
   pub vector : List ℤ
 
 -- R11.2 to R11.4: which buffer each verdict writes; a refusal writes neither (D1.3)
 abbrev pub written : Judgement → List ℤ → List ℤ → Judged
-written (definite t w) f v = record { verdict = Verdict.Definite w; factor = t; vector = v }
-written (not_definite x) f v = record { verdict = Verdict.NotDefinite; factor = f; vector = x }
-written undecided f v = record { verdict = Verdict.Undecided; factor = f; vector = v }
-written (refused r) f v = record { verdict = Verdict.Refused r; factor = f; vector = v }
+written (definite t w) f v = record { verdict = Ok (Verdict.Definite w); factor = t; vector = v }
+written (not_definite x) f v = record { verdict = Ok Verdict.NotDefinite; factor = f; vector = x }
+written undecided f v = record { verdict = Ok Verdict.Undecided; factor = f; vector = v }
+written (refused r) f v = record { verdict = Err r; factor = f; vector = v }
 
 -- 2, R4.2: each lent buffer has the size that belongs to n, that of a table or that of a vector
 unfoldable pub judge_sizes : ℕ → ℕ → ℕ → ℕ → ℕ → ℕ → Bool
@@ -76,21 +74,23 @@ judge n l u f v =
     written (judging n (judge_sizes (k * k) k (length l) (length u) (length f) (length v)) l u) f v
 
 -- R15.4: the number at the C entry, 0, -1, -2, or the refusal's
-unfoldable pub verdict_code : Verdict → ℤ
-verdict_code (Verdict.Definite w) = pos 0
-verdict_code Verdict.NotDefinite = negsuc 0
-verdict_code Verdict.Undecided = negsuc 1
-verdict_code (Verdict.Refused r) = pos (refusal_number r)
+abbrev pub verdict_number : Verdict → ℤ
+verdict_number (Verdict.Definite w) = pos 0
+verdict_number Verdict.NotDefinite = negsuc 0
+verdict_number Verdict.Undecided = negsuc 1
+
+abbrev pub verdict_code : Result Verdict Refusal → ℤ
+verdict_code r = answer_code verdict_number r
 
 -- ---- what a verdict means
 -- the call is not refused
-abbrev pub NotRefused : Verdict → Type 0
-NotRefused r = (k : Refusal) → r ≡ Verdict.Refused k → ⊥
+abbrev pub NotRefused : Result Verdict Refusal → Type 0
+NotRefused r = (k : Refusal) → r ≡ Err k → ⊥
 
 -- the verdict is 'definite'
-pub record IsDefinite (r : Verdict) : Type 0 where
+pub record IsDefinite (r : Result Verdict Refusal) : Type 0 where
   pub over : ℤ
-  pub verdict : r ≡ Verdict.Definite over
+  pub verdict : r ≡ Ok (Verdict.Definite over)
 
 -- k is the order, L and U the bounds of the mended tables; f and v are the buffers as they are left
 module _ (n : ℤ) (l u : List ℤ) where
@@ -103,20 +103,20 @@ module _ (n : ℤ) (l u : List ℤ) where
   abbrev U : Matrix
   U = high_bounds k u
 
-  pub record Meaning (r : Verdict) (f v : List ℤ) : Type 0 where
+  pub record Meaning (r : Result Verdict Refusal) (f v : List ℤ) : Type 0 where
     -- D3.2, D3.6: 'definite' with w over, every member of the tables as they are handed in is positive definite, and the factor test
     -- accepts the factor that is written, with w over
-    pub definite : (w : ℤ) → r ≡ Verdict.Definite w → PositiveDefinite k (at k l) (at k u)
-    pub accepted : (w : ℤ) → r ≡ Verdict.Definite w → factor_tested n true l u f ≡ Accepted w
+    pub definite : (w : ℤ) → r ≡ Ok (Verdict.Definite w) → PositiveDefinite k (at k l) (at k u)
+    pub accepted : (w : ℤ) → r ≡ Ok (Verdict.Definite w) → factor_tested n true l u f ≡ Ok (Accepted w)
     -- D3.8: w is 0 or more, and 2^32 x'Mx ≥ w x'x + |Rx|² for every member M, every x and the factor R that is written
-    pub enough : (w : ℤ) → r ≡ Verdict.Definite w → pos 0 ≤ℤ w
-    pub bound : (w : ℤ) → r ≡ Verdict.Definite w → FormBound k (at k f) (at k l) (at k u) w
+    pub enough : (w : ℤ) → r ≡ Ok (Verdict.Definite w) → pos 0 ≤ℤ w
+    pub bound : (w : ℤ) → r ≡ Ok (Verdict.Definite w) → FormBound k (at k f) (at k l) (at k u) w
     -- D2.4: 'not definite', the vector that is written is listed and a witness vector, and the vector test says yes of it
-    pub shown : r ≡ Verdict.NotDefinite → Witness k (at k l) (at k u) (nth v)
-    pub confirmed : r ≡ Verdict.NotDefinite → vector_tested n true l u v ≡ Yes
-    pub from_list : r ≡ Verdict.NotDefinite → Memᴰ v (listed k L U)
+    pub shown : r ≡ Ok Verdict.NotDefinite → Witness k (at k l) (at k u) (nth v)
+    pub confirmed : r ≡ Ok Verdict.NotDefinite → vector_tested n true l u v ≡ Ok true
+    pub from_list : r ≡ Ok Verdict.NotDefinite → Memᴰ v (listed k L U)
     -- D2.4: 'not definite' wherever a listed vector shows it
     pub exactly : NotRefused r → (x : List ℤ) → Memᴰ x (listed k L U) →
-        shows k L U (nth x) ≡ true → r ≡ Verdict.NotDefinite
+        shows k L U (nth x) ≡ true → r ≡ Ok Verdict.NotDefinite
     -- D3.5: with the margin of the mended tables, 'definite'
     pub margin : NotRefused r → Margin k L U → IsDefinite r

@@ -25,10 +25,8 @@ fn write_row(n: usize, t: &Table, i: usize, factor: &mut [i64])
     ensures { Written n (triangle t.now) factor.new (suc i * n) }
 {
     let start = i * n;
-    let mut j = 0;
-    while j < n {
+    for j in 0..n {
         factor[start + j] = factor_entry(t, i, j);
-        j += 1;
     }
 }
 
@@ -37,9 +35,7 @@ pub fn write_factor(n: usize, t: &Table, factor: &mut [i64])
     requires { (n ≤ greatest_order) × (n * n ≤ length factor.old) }
     ensures { Written n (triangle t.now) factor.new (n * n) }
 {
-    let mut i = 0;
-    while i < n {
+    for i in 0..n {
         write_row(n, t, i, factor);
-        i += 1;
     }
 }

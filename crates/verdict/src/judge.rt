@@ -1,41 +1,39 @@
 // The judge, R11 of docs/RULES.md.
-ghost use Rattle.std.specs.Prelude.{◌≡◌, ◌*◌, ◌≤◌, ◌<◌, length};
+ghost use Rattle.std.specs.Prelude.{◌≡◌, ◌*◌, ◌≤◌, ◌<◌, length, Ok};
 ghost use Rattle.tables.specs.Ranges.{greatest_order};
 ghost use Rattle.tables.specs.Matrix.{at, nth, tabulate};
 ghost use Rattle.tables.specs.Bounds.{CheckedTables};
 ghost use Rattle.tables.specs.Entering.{Rooms};
 ghost use Rattle.cholesky.specs.Factoring.{factored};
-ghost use Rattle.cholesky.specs.Store.{Stored};
-ghost use Rattle.cholesky.specs.declared.factoring.Outcome.TheVariants.{Ends};
-ghost use Rattle.verdict.specs.Judge.{definite, Judged, judged, judge_sizes, written, judge, verdict_code, Meaning};
+ghost use Rattle.cholesky.specs.Store.{Ends, Stored};
+ghost use Rattle.verdict.specs.Judge.{definite, Judged, judged, judge_sizes, written, judge, verdict_number, Meaning};
 ghost use Rattle.verdict.specs.Deciding.{shown_verdict, Decided};
 
 use crate::factor_table::write_factor;
 use crate::listed::first_listed;
-use cholesky::factoring::Outcome;
 use cholesky::problem::factor_tables;
 use residual::factor_test::over;
-use tables::entering::{enter, order_of};
-use tables::{Checked, GREATEST_ORDER, Refusal, TABLE_ROOM, Table, Vector};
+use tables::entering::{enter, order};
+use tables::{Answer, GREATEST_ORDER, Refusal, TABLE_ROOM, Table, Vector};
 
 // What the judge answers. With 'definite' goes what the rows of the residual have over, of the factor that is written: 0 or more.
-#[derive(Clone, Copy)]
+#[derive(Clone, Copy, Debug, PartialEq, Eq)]
 pub enum Verdict {
     Definite(i64),
     NotDefinite,
     Undecided,
-    Refused(Refusal),
 }
 
-// A verdict's number at a C entry: 0 definite, -1 not definite, -2 undecided, else the refusal's.
-pub fn verdict_code(v: Verdict) -> i64
-    ensures { result ≡ verdict_code v }
-{
-    match v {
-        Verdict::Definite(_) => 0,
-        Verdict::NotDefinite => -1,
-        Verdict::Undecided => -2,
-        Verdict::Refused(r) => tables::refusal_number(r) as i64,
+// At a C entry definite is 0, not definite -1, undecided -2.
+impl Answer for Verdict {
+    ghost code = { verdict_number };
+
+    fn code(self) -> i64 {
+        match self {
+            Verdict::Definite(_) => 0,
+            Verdict::NotDefinite => -1,
+            Verdict::Undecided => -2,
+        }
     }
 }
 
@@ -75,10 +73,9 @@ pub fn decide(
     ensures { Decided (judged n (at n low.old) (at n high.old)) n result factor.old factor.new x.new }
 {
     let mut t = [0i64; TABLE_ROOM];
-    let outcome = factor_tables(n, low, high, &mut t);
-    match outcome {
-        Outcome::Ends => Verdict::Definite(certify(n, low, high, &t, factor)),
-        Outcome::Stops(j, m) => shown(first_listed(n, low, high, &t, j, m, x)),
+    match factor_tables(n, low, high, &mut t) {
+        Ok(()) => Verdict::Definite(certify(n, low, high, &t, factor)),
+        Err(stop) => shown(first_listed(n, low, high, &t, stop, x)),
     }
 }
 
@@ -92,20 +89,15 @@ fn judge_bounds(
 ) -> Verdict
     requires { CheckedTables n low.old high.old × Rooms low.old high.old × (0 < n) × (length factor.old ≡ n * n)
         × (length vector.old ≡ n) }
-    ensures { ◌≡◌ {A = Judged} (record { verdict = result; factor = factor.new; vector = vector.new })
+    ensures { ◌≡◌ {A = Judged} (record { verdict = Ok result; factor = factor.new; vector = vector.new })
         (written (judged n (at n low.old) (at n high.old)) factor.old vector.old) }
 {
     let mut x = [0i64; GREATEST_ORDER];
     let verdict = decide(n, low, high, factor, &mut x);
-    match verdict {
-        Verdict::Definite(v) => Verdict::Definite(v),
-        Verdict::NotDefinite => {
-            tables::copy_numbers(n, &x, vector);
-            Verdict::NotDefinite
-        }
-        Verdict::Undecided => Verdict::Undecided,
-        Verdict::Refused(r) => Verdict::Refused(r),
+    if verdict == Verdict::NotDefinite {
+        tables::copy_numbers(n, &x, vector);
     }
+    verdict
 }
 
 // Whether the buffers of a call have their sizes: that of a table, or that of a vector.
@@ -125,7 +117,13 @@ pub fn sizes_ok(
 // The judge, of any numbers at all: n is an order or not, and each slice has any length.
 // Refused by the first of the checks 1 to 5 that fails, with both buffers kept. Else 'definite', with what the rows have over, the factor
 // written and the vector kept; 'not definite', with the vector written and the factor kept; or 'undecided', with both kept.
-pub fn judge(n: i64, low: &[i64], high: &[i64], factor: &mut [i64], vector: &mut [i64]) -> Verdict
+pub fn judge(
+    n: i64,
+    low: &[i64],
+    high: &[i64],
+    factor: &mut [i64],
+    vector: &mut [i64],
+) -> Result<Verdict, Refusal>
     ensures exact { ◌≡◌ {A = Judged} (record {
       verdict = result;
       factor = factor.new;
@@ -133,16 +131,10 @@ pub fn judge(n: i64, low: &[i64], high: &[i64], factor: &mut [i64], vector: &mut
     }) (judge n low.now high.now factor.old vector.old) }
     ensures meaning { Meaning n low.now high.now result factor.new vector.new }
 {
-    let m = order_of(n);
-    if m == 0 {
-        return Verdict::Refused(Refusal::Order);
-    }
+    let m = order(n)?;
     let sized = sizes_ok(m * m, m, low.len(), high.len(), factor.len(), vector.len());
     let mut l = [0i64; TABLE_ROOM];
     let mut u = [0i64; TABLE_ROOM];
-    let checked = enter(n, sized, true, low, high, &mut l, &mut u);
-    if let Checked::Refused(r) = checked {
-        return Verdict::Refused(r);
-    }
-    judge_bounds(m, &mut l, &mut u, factor, vector)
+    enter(n, sized, true, low, high, &mut l, &mut u)?;
+    Ok(judge_bounds(m, &mut l, &mut u, factor, vector))
 }

@@ -11,6 +11,7 @@ ghost use Rattle.tried.specs.Search.{Searched};
 ghost use Rattle.solved.specs.Solved.{solved};
 ghost use Rattle.solved.specs.Stopped.{stopped_at, Stopped, start_range};
 
+use cholesky::factoring::Stop;
 use tables::{Table, Vector};
 
 // Whether x shows 'not definite'.
@@ -30,17 +31,16 @@ fn solved_shows(
     low: &[i64],
     high: &[i64],
     t: &Table,
-    j: usize,
-    m: usize,
+    stop: Stop,
     s: i64,
     x: &mut Vector,
 ) -> bool
-    requires { CheckedTables n low.now high.now × Stopped n t.now j m × Within start_range s × (length x.old ≡
+    requires { CheckedTables n low.now high.now × Stopped n t.now stop.column stop.rows × Within start_range s × (length x.old ≡
         greatest_order) }
     ensures { Searched (first (λ v. shows n (at n low.now) (at n high.now) (nth v)) (solved n (stopped_at
-        t.now j m) s)) result 0 n x.new }
+        t.now stop.column stop.rows) s)) result 0 n x.new }
 {
-    if !solved::solve(n, t, j, m, s, x) {
+    if !solved::solve(n, t, stop, s, x) {
         return false;
     }
     shows(n, low, high, x)
@@ -52,19 +52,18 @@ pub fn first_listed(
     low: &[i64],
     high: &[i64],
     t: &Table,
-    j: usize,
-    m: usize,
+    stop: Stop,
     x: &mut Vector,
 ) -> bool
-    requires { CheckedTables n low.now high.now × Stopped n t.now j m × (length x.old ≡ greatest_order) }
+    requires { CheckedTables n low.now high.now × Stopped n t.now stop.column stop.rows × (length x.old ≡ greatest_order) }
     ensures { Searched (first (λ v. shows n (at n low.now) (at n high.now) (nth v)) (tried n ++ (solved n
-        (stopped_at t.now j m) (pos 1) ++ solved n (stopped_at t.now j m) (pos 64)))) result 0 n x.new }
+        (stopped_at t.now stop.column stop.rows) (pos 1) ++ solved n (stopped_at t.now stop.column stop.rows) (pos 64)))) result 0 n x.new }
 {
     if tried::first_tried(n, low, high, x) {
         return true;
     }
-    if solved_shows(n, low, high, t, j, m, 1, x) {
+    if solved_shows(n, low, high, t, stop, 1, x) {
         return true;
     }
-    solved_shows(n, low, high, t, j, m, 64, x)
+    solved_shows(n, low, high, t, stop, 64, x)
 }

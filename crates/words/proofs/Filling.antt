@@ -4,7 +4,7 @@ use mathlib.Core.List.{List, ◌++◌}
 use Prim.Native.Nat.{ℕ, suc, ◌+◌, ◌*◌, ◌≤◌, ◌<◌}
 use native.Mathlib.Numerals.{add-one}
 use native.Mathlib.Omega.{arith}
-use lib.ListN.{length, set, drop, get_or, replicate, length-append, length-drop}
+use lib.ListN.{length, set, drop, get_or, replicate}
 use lib.Seq.{drop-cons, set_at, append_snoc, take_at, drop-drop}
 use lib.IntN.{ℤ, pos}
 use mir.Syntax.{Width}
@@ -14,9 +14,6 @@ use Rattle.words.proofs.Laws.{length-numbers_of, length-bytes_of}
 use Rattle.words.proofs.Lists.{drop_past, drop-replicate}
 
 module _ (w : Width) where
-  pub length-filled : (s : List ℕ) (o : List ℤ) (i : ℕ) → i ≤ length o → length (numbers_of w s i ++ drop i o) ≡ length o
-  length-filled s o i h = rw (length-append, length-numbers_of, length-drop) (omega arith)
-
   -- number i is put behind the first i
   pub fill_number : (s : List ℕ) (o : List ℤ) (i : ℕ) → i < length o
       → set (numbers_of w s i ++ drop i o) i (signed_at w s (i * bytes w)) ≡ numbers_of w s (i + 1) ++ drop (i + 1) o

@@ -1,12 +1,12 @@
 -- Laws of the definitions in specs/Numbers: lengths, and what is read where something was written. Over any number of bytes.
 use mathlib.Core.Path.{◌≡◌, refl, sym, ap, ◌∙◌}
-use mathlib.Core.List.{List, [], ◌∷◌, ◌++◌, append_assoc, append-nil}
+use mathlib.Core.List.{List, [], ◌∷◌, ◌++◌, append_assoc}
 use Prim.Native.Nat.{ℕ, zero, suc, ◌+◌, ◌-◌, ◌*◌, ◌/◌, ◌%◌, ◌^◌, ◌≤◌, ◌<◌}
-use native.Mathlib.Nat.{pow-succ', one-le-pow, zero-mul, add-zero}
+use native.Mathlib.Nat.{pow-succ', one-le-pow, zero-mul}
 use native.Mathlib.Numerals.{add-one}
 use native.Mathlib.Omega.{arith}
-use lib.ListN.{length, set, take, drop, get_or, length-append, length-drop, length-replicate, take-append-drop}
-use lib.Seq.{take-add, take_at, take-suc, length-take-le, drop_at, drop-cons, drop-drop, drop-set-lt, get_or_at, get_or-drop, take-suc-set, append_snoc}
+use lib.ListN.{length, take, drop, get_or, length-append, length-drop, length-replicate, take-append-drop}
+use lib.Seq.{take-add, take_at, take-suc, length-take-le, drop_at, drop-cons, drop-drop, get_or_at, get_or-drop, append_snoc}
 use lib.IntN.{ℤ, pos, negsuc}
 use mir.Syntax.{Width, w8, w16, w32, w64, w128}
 use mir.Val.{bits, bytes, of_z, SFits, Fits}
@@ -89,18 +89,6 @@ unsigned_at-below k s at h = from_le_bytes-below k (drop at s) (drop_bytes at s 
 pub unsigned_at_suc : (k : ℕ) (s : List ℕ) (at : ℕ) → at < length s → unsigned_at (suc k) s at ≡ get_or s at 0 + 256 * unsigned_at k s (suc at)
 unfolding unsigned_at from_le_bytes
 unsigned_at_suc k s at h = rw (drop-cons s at 0 h)
-
-pub with_unsigned_zero : (s : List ℕ) (at u : ℕ) → with_unsigned 0 s at u ≡ s
-unfolding with_unsigned to_le_bytes
-with_unsigned_zero s at u = rw (append-nil, add-zero, take-append-drop)
-
--- the lowest byte is put first
-pub with_unsigned_suc : (k : ℕ) (s : List ℕ) (at u : ℕ) → at < length s
-    → with_unsigned (suc k) s at u ≡ with_unsigned k (set s at (u % 256)) (suc at) (u / 256)
-unfolding with_unsigned to_le_bytes
-with_unsigned_suc k s at u h =
-    let n : at + suc k ≡ suc at + k = omega arith in
-    rw (take-suc-set s at (u % 256) h, append_snoc, drop-set-lt (suc at + k) s at (u % 256) (omega arith), n)
 
 -- the number that was written is read again
 unsigned_at-put : (k : ℕ) (p t : List ℕ) (at u : ℕ) → length p ≡ at → u < 256 ^ k → unsigned_at k (p ++ to_le_bytes k u ++ t) at ≡ u

@@ -1,4 +1,5 @@
 pub mod Lists
+pub mod Library
 pub mod Laws
 pub mod Filling
 pub mod Sign

@@ -1,19 +1,18 @@
 -- Laws of the writer's act: where n is an order and the buffers have their sizes 3, 4, 5 and 16 are all that is left to ask, of the numbers as they
 -- are handed in or in arrays; what is written is read back; and a problem is refused by the number that its file would get.
 use mathlib.Core.Path.{◌≡◌, refl, sym, ap, ap₂, subst, ◌∙◌}
-use mathlib.Core.Bool.{Bool, true, false, false≢true}
+use mathlib.Core.Bool.{Bool, true, false}
 use mathlib.Core.List.{List, ◌++◌}
 use Prim.Native.Nat.{ℕ}
 use native.Mathlib.Omega.{arith}
 use borrow.Author.Tests.{eqb-true}
 use lib.Dec.{eqb}
 use lib.IntN.{ℤ, pos, negsuc}
-use Rattle.tables.specs.Checks.{Check, order_ok, order_of, entry_checks, first_refusal}
+use Rattle.tables.specs.Checks.{Check, Checked, order_ok, order_of, entry_checks, first_refusal}
 use Rattle.tables.specs.Answers.{after}
 use Rattle.tables.specs.Problem.{constraint_sized, problem_within, problem_checks, constraint_entered, mended_problem}
 use Rattle.tables.specs.declared.Refusal.TheVariants.{Order, Length, Range}
-use Rattle.tables.specs.declared.Checked.{Checked}
-use Rattle.tables.specs.declared.Checked.TheVariants.{Passed, Refused}
+use Rattle.std.specs.Prelude.{Ok, Err}
 use Rattle.tables.specs.declared.problem.Problem.{Problem}
 use Rattle.tables.specs.declared.problem.Sizes.{Sizes}
 use Rattle.tables.specs.declared.problem.Lengths.{Lengths}
@@ -21,7 +20,7 @@ use Rattle.tables.proofs.Checks.{and_left, and_right, more-checks, order-of}
 use Rattle.tables.proofs.Answers.{after-means, prefix_passed}
 use Rattle.tables.proofs.Admission.{entry-passed, order-known, no-order, no-sizes}
 use Rattle.tables.proofs.Problems.{constraint_sizes-of, problem-door, constraint_sized_lem, symmetric_problem}
-use Rattle.summary.specs.Problems.{file_size, file_of, padded, read_as, reading}
+use Rattle.summary.specs.Problems.{file_size, file_of, padded, checked_of, reading}
 use Rattle.summary.proofs.RoundTrip.{InFields, outside_range, read_back}
 use Rattle.summary.proofs.Padding.{Sized, padded-file, padded-checks, padded-mending, padded-through, file_checked}
 use Rattle.writer.specs.Writing.{Written, kept, written, checked_writing, writing, write_sizes, Meaning}
@@ -69,7 +68,7 @@ writing-sized n sized p s o z e = sym (constraint_sized_lem (kept s) n sized (pr
 pub writing-padded : (p : Problem) (s : List ℕ) → Sized p → checked_writing (padded p) s ≡ checked_writing p s
 unfolding checked_writing
 writing-padded p s z =
-    ap₂ (λ (checks : List Check) (f : List ℕ). after (kept s) (first_refusal checks) (record { answer = Passed; file = f })) (padded-checks p z)
+    ap₂ (λ (checks : List Check) (f : List ℕ). after (kept s) (first_refusal checks) (record { answer = Ok tt; file = f })) (padded-checks p z)
     (ap file_of (sym (padded-mending p z)) ∙ padded-file (mended_problem p))
 
 -- ---- what an answer means
@@ -81,11 +80,11 @@ abbrev pub Means : Problem → Written → Type 0
 Means p w = Meaning w.answer p w.file
 
 pub writing-means : (n : ℤ) (sized : Bool) (p : Problem) (s : List ℕ) → p.constraint.order ≡ order_of n → (sized ≡ true → Sized p) → Means p (writing n sized p s)
-unfolding writing read_as
+unfolding writing
 writing-means n sized p s e z =
     let checks = entry_checks n sized ++ problem_checks p in
     subst (Means p) (sym (problem-door (kept s) n sized p (written p) e))
-    (after-means (kept s) (first_refusal checks) (written p) (Means p) (λ r. record { back = λ q. absurd (false≢true cc); file = λ q. absurd (false≢true cc) })
+    (after-means (kept s) (first_refusal checks) (written p) (Means p) (λ r. record { back = λ q. cc q; file = λ q. cc q })
     (λ q.
     let first = prefix_passed (entry_checks n sized) (problem_checks p) q in
     let o = entry-passed n sized first in
@@ -103,17 +102,17 @@ unfolding checked_writing after
 answered p s = go (first_refusal (problem_checks p))
   where
     go : (k : Checked) → (after (kept s) k (written p)).answer ≡ k
-    go Passed = refl
-    go (Refused r) = refl
+    go (Ok tt) = refl
+    go (Err r) = refl
 
 module _ (n : ℤ) (sized : Bool) (p : Problem) (s : List ℕ) (o : order_ok n ≡ true) (y : sized ≡ true) (e : p.constraint.order ≡ order_of n) where
   asked : (writing n sized p s).answer ≡ first_refusal (problem_checks p)
   asked = ap (λ (w : Written). w.answer) (sym (writing-sized n sized p s o y e)) ∙ answered p s
 
   -- where its numbers fit their fields
-  pub same_refusal : Sized p → InFields p → (writing n sized p s).answer ≡ (reading (file_of p)).checked
+  pub same_refusal : Sized p → InFields p → (writing n sized p s).answer ≡ checked_of (reading (file_of p))
   same_refusal z f = asked ∙ sym (file_checked p z (rw e (order_ok_lem n o)) f)
 
   -- and where one does not it is 3
-  pub too_large_lem : (InFields p → ⊥) → (writing n sized p s).answer ≡ Refused Range
+  pub too_large_lem : (InFields p → ⊥) → (writing n sized p s).answer ≡ Err Range
   too_large_lem f = asked ∙ outside_range p f

@@ -12,7 +12,7 @@ use lib.Seq.{take_all, length-take-le}
 use Rattle.words.proofs.Laws.{AllBytes}
 use Rattle.tables.specs.Checks.{sizes_ok, order_of, first_refusal}
 use Rattle.tables.specs.Problem.{problem_of, lengths_of, constraint_sized, problem_checks, mended_problem}
-use Rattle.tables.specs.declared.Checked.TheVariants.{Passed}
+use Rattle.std.specs.Prelude.{Ok}
 use Rattle.tables.specs.declared.problem.Problem.{Problem}
 use Rattle.tables.proofs.Matrix.{table_fits}
 use Rattle.tables.proofs.Checks.{and_of}
@@ -88,7 +88,7 @@ module _ (p : Problem) (t : LetThrough p) where
       t.zeros
 
   -- the checks pass, and the file is the problem's
-  fronts-checks : first_refusal (problem_checks fronts) ≡ Passed
+  fronts-checks : first_refusal (problem_checks fronts) ≡ Ok tt
   fronts-checks = ap first_refusal (sym (padded-checks fronts fronts-sized) ∙ ap problem_checks fronts-padded) ∙ t.checks
 
   fronts-mended : padded (mended_problem fronts) ≡ p
@@ -97,9 +97,9 @@ module _ (p : Problem) (t : LetThrough p) where
   fronts-file : file_of (mended_problem fronts) ≡ file_of p
   fronts-file = sym (padded-file (mended_problem fronts)) ∙ ap file_of fronts-mended
 
-  fronts-written : (s : List ℕ) → checked_writing fronts s ≡ record { answer = Passed; file = file_of p }
+  fronts-written : (s : List ℕ) → checked_writing fronts s ≡ record { answer = Ok tt; file = file_of p }
   unfolding checked_writing
-  fronts-written s = sym (after-passed (kept s) (written fronts) fronts-checks) ∙ ap (λ (f : List ℕ). record { answer = Passed; file = f }) fronts-file
+  fronts-written s = sym (after-passed (kept s) (written fronts) fronts-checks) ∙ ap (λ (f : List ℕ). record { answer = Ok tt; file = f }) fronts-file
 
   module _ (s : List ℕ) (h : length s ≡ file_size n) where
     sizes : write_sizes n (record { table = n * n; vector = n }) (lengths_of (length low) (length high) (length from) (length to)) (length centre) (length s) ≡ true
@@ -110,25 +110,24 @@ module _ (p : Problem) (t : LetThrough p) where
         (and_of (eq-eqb _ _ z.centre) (eq-eqb _ _ h))
 
     -- they are written as its file, into a buffer of its size
-    pub fronts-write : write (pos n) low high from to p.constraint.limit centre s ≡ record { answer = Passed; file = file_of p }
+    pub fronts-write : write (pos n) low high from to p.constraint.limit centre s ≡ record { answer = Ok tt; file = file_of p }
     unfolding write
     fronts-write =
         let known : order_of (pos n) ≡ n = order-known (pos n) t.order in
         rw known (sym (writing-sized (pos n) _ fronts s t.order sizes (sym known)) ∙ fronts-written s)
 
 -- a file that is accepted, into any buffer of its length
-module _ (s : List ℕ) (v : AllBytes s) (e : (reading s).checked ≡ Passed) (f : List ℕ) (h : length f ≡ length s) where
+module _ (s : List ℕ) (v : AllBytes s) {p : Problem} (e : reading s ≡ Ok p) (f : List ℕ) (h : length f ≡ length s) where
   abbrev Rewritten : List ℕ → Type 0
   Rewritten t =
-      let p = (reading s).problem in
       let c = p.constraint in
       let n = c.order in
       write (pos n) (take (n * n) c.low) (take (n * n) c.high) (take n c.linear.low) (take n c.linear.high) c.limit (take n p.centre) f
-      ≡ record { answer = Passed; file = t }
+      ≡ record { answer = Ok tt; file = t }
 
-  pub written-mended : Rewritten (file_of (reading s).problem)
-  written-mended = fronts-write (reading s).problem ((reading-means s v).through e) f (h ∙ accepted-size s e v)
+  pub written-mended : Rewritten (file_of p)
+  written-mended = fronts-write p ((reading-means s v).through e) f (h ∙ accepted-size s e v)
 
   -- where its tables are symmetric
   pub written_again : SymmetricTables (spelled_by s) → Rewritten s
-  written_again y = written-mended ∙ ap (λ (t : List ℕ). record { answer = Passed; file = t }) ((reading-means s v).back e y)
+  written_again y = written-mended ∙ ap (λ (t : List ℕ). record { answer = Ok tt; file = t }) ((reading-means s v).back e y)

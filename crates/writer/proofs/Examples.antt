@@ -15,7 +15,7 @@ use Rattle.tables.specs.Entering.{entered}
 use Rattle.tables.specs.Checks.{all, first_refusal, order_ok, order_of, sizes_ok, within, all_within, nowhere_crossed, tables_within, linear_within, terms_within, entry_checks, bounds_checks, ends_checks}
 use Rattle.tables.specs.declared.Refusal.{Refusal}
 use Rattle.tables.specs.declared.Refusal.TheVariants.{Order, Length, Range, Crossed, Lopsided, Reversed}
-use Rattle.tables.specs.declared.Checked.TheVariants.{Passed}
+use Rattle.std.specs.Prelude.{Ok}
 use Rattle.fields.specs.Entries.{entry_bytes, bytes_of_entries, whole_file}
 use Rattle.summary.specs.Problems.{file_size, file_of}
 use Rattle.writer.specs.Writing.{Written, kept, writing, write_sizes, write}
@@ -95,7 +95,7 @@ too_large = pos (entry_range + 1)
 abbrev lines : List Line
 lines =
     -- W34 to W37, as the rules state them
-    record { call = worked (pos 1) (pos 4) (pos 0) 62; expected = record { answer = Passed; file = file_p } }
+    record { call = worked (pos 1) (pos 4) (pos 0) 62; expected = record { answer = Ok tt; file = file_p } }
     ∷ refused Order (worked (pos 257) (pos 4) (pos 0) 62)
     ∷ refused Range (worked (pos 1) (pos (2 ^ 32 + 4)) (pos 0) 62)
     ∷ refused Length (worked (pos 1) (pos 4) (pos (2 ^ 54 + 1)) 61)
@@ -116,8 +116,8 @@ lines =
     ∷ refused Lopsided (two (pos 3))
     ∷ refused Reversed (case_p (pos 1) (pos 4) (negsuc 8) (pos 2) 62)
     -- halves apart: the greater low and the smaller high are written at both places
-    ∷ record { call = two (pos 0); expected = record { answer = Passed; file = file_two 1 2 } }
-    ∷ record { call = two (pos 2); expected = record { answer = Passed; file = file_two 2 2 } }
+    ∷ record { call = two (pos 0); expected = record { answer = Ok tt; file = file_two 1 2 } }
+    ∷ record { call = two (pos 2); expected = record { answer = Ok tt; file = file_two 2 2 } }
     ∷ []
 
 done : Call → Written

@@ -1,11 +1,9 @@
 -- The writer's act, R24 of docs/RULES.md: what it answers, what it writes, and what its answer means.
-use Rattle.std.specs.Prelude.{◌≡◌, Bool, ◌&&◌, List, ℕ, ◌*◌, eqb, ℤ, length}
-use Rattle.tables.specs.Checks.{order_of, first_refusal}
+use Rattle.std.specs.Prelude.{◌≡◌, Bool, ◌&&◌, List, ℕ, ◌*◌, eqb, ℤ, length, Ok, Err}
+use Rattle.tables.specs.Checks.{Checked, order_of, first_refusal}
 use Rattle.tables.specs.Answers.{after}
 use Rattle.tables.specs.Problem.{problem_of, lengths_of, constraint_sized, problem_within, problem_checks, constraint_entered, mended_problem}
 use Rattle.tables.specs.declared.Refusal.{Refusal}
-use Rattle.tables.specs.declared.Checked.{Checked}
-use Rattle.tables.specs.declared.Checked.TheVariants.{Passed, Refused}
 use Rattle.tables.specs.declared.problem.Problem.{Problem}
 use Rattle.tables.specs.declared.problem.Sizes.{Sizes}
 use Rattle.tables.specs.declared.problem.Lengths.{Lengths}
@@ -18,11 +16,11 @@ pub record Written : Type 0 where
 
 -- D1.3: a refusal keeps the buffer s
 abbrev pub kept : List ℕ → Refusal → Written
-kept s r = record { answer = Refused r; file = s }
+kept s r = record { answer = Err r; file = s }
 
 -- R24.1: the file of a problem, with its tables mended (R2.10)
 abbrev pub written : Problem → Written
-written p = record { answer = Passed; file = file_of (mended_problem p) }
+written p = record { answer = Ok tt; file = file_of (mended_problem p) }
 
 -- 3, 4, 5 and 16 of a problem, and the file of the mended one
 unfoldable pub checked_writing : Problem → List ℕ → Written
@@ -47,6 +45,6 @@ write n l u a b α c s =
 -- ---- what an answer means of a problem p; s is the buffer as it is left
 pub record Meaning (r : Checked) (p : Problem) (s : List ℕ) : Type 0 where
   -- R24.2: the file is read as the mended problem
-  pub back : r ≡ Passed → reading s ≡ record { checked = Passed; problem = padded (mended_problem p) }
+  pub back : r ≡ Ok tt → reading s ≡ Ok (padded (mended_problem p))
   -- R24.3: where the tables handed in are symmetric it is the file of the problem as it was handed in
-  pub file : r ≡ Passed → SymmetricTables p → s ≡ file_of p
+  pub file : r ≡ Ok tt → SymmetricTables p → s ≡ file_of p

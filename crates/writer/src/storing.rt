@@ -11,7 +11,7 @@ ghost use Rattle.summary.specs.Problems.{file_size, file_of, ProblemRooms};
 ghost use Rattle.text.specs.Putting.{Put};
 ghost use Rattle.writer.specs.Required.{bounds_entries, bounds_size, terms_entries, terms_size};
 
-use fields::field::{HEAD, Kind, tag_of};
+use fields::field::{HEAD, Kind};
 use tables::{Table, Vector};
 use words::{SHORT_SIZE, SIZE};
 
@@ -21,7 +21,7 @@ fn put_head(file: &mut [u8], at: usize, kind: Kind, size: usize) -> usize
     requires { (at + head ≤ length file.old) × (size < 256 ^ 2) }
     ensures { Put file.old at (tag_of kind ∷ to_le_bytes 2 size) head result file.new }
 {
-    file[at] = tag_of(kind) as u8;
+    file[at] = kind.tag();
     file[at + 1] = (size % 256) as u8;
     file[at + 2] = (size / 256) as u8;
     at + HEAD

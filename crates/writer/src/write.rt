@@ -9,9 +9,9 @@ ghost use Rattle.writer.specs.Writing.{Written, checked_writing, write_sizes, wr
 use crate::storing::write_file;
 use fields::field::{HEAD, KINDS};
 use summary::problem::mend_problem;
-use tables::entering::order_of;
+use tables::entering::order;
 use tables::problem::{Constraint, Lengths, Linear, Problem, Sizes, constraint_sized, lengths_of};
-use tables::{Checked, GREATEST_ORDER, Refusal, TABLE_ROOM, Table, Vector, copy_numbers};
+use tables::{GREATEST_ORDER, Refusal, TABLE_ROOM, Table, Vector, copy_numbers};
 use words::{SHORT_SIZE, SIZE};
 
 // The size of the file of a problem of order n: the fields' heads, one byte of order, two tables, three vectors and the limit.
@@ -85,28 +85,35 @@ fn problem_of(
 }
 
 // Checks 3, 4, 5 and 16 of a problem, and the file of the mended one into a buffer of its size, which a refusal keeps.
-pub fn write_checked(problem: Problem, file: &mut [u8]) -> Checked
+pub fn write_checked(problem: Problem, file: &mut [u8]) -> Result<(), Refusal>
     requires { ProblemRooms problem × (length file.old ≡ file_size problem.constraint.order) }
     ensures { ◌≡◌ {A = Written} (record { answer = result; file = file.new }) (checked_writing problem file.old) }
 {
-    let constraint = problem.constraint;
+    let mut constraint = problem.constraint;
     let n = constraint.order;
-    let mut low = constraint.low;
-    let mut high = constraint.high;
     let linear = constraint.linear;
-    let from = linear.low;
-    let to = linear.high;
     let limit = constraint.limit;
     let centre = problem.centre;
-    let checked = mend_problem(n, &mut low, &mut high, &from, &to, limit, &centre);
-    let passed = match checked {
-        Checked::Passed => true,
-        Checked::Refused(_) => false,
-    };
-    if passed {
-        write_file(n, &low, &high, &from, &to, limit, &centre, file);
-    }
-    checked
+    mend_problem(
+        n,
+        &mut constraint.low,
+        &mut constraint.high,
+        &linear.low,
+        &linear.high,
+        limit,
+        &centre,
+    )?;
+    write_file(
+        n,
+        &constraint.low,
+        &constraint.high,
+        &linear.low,
+        &linear.high,
+        limit,
+        &centre,
+        file,
+    );
+    Ok(())
 }
 
 // The summary file of a problem of any numbers at all: n is an order or not, and each slice has any length. Refused by the first of the
@@ -120,21 +127,18 @@ pub fn write(
     limit: i64,
     centre: &[i64],
     file: &mut [u8],
-) -> Checked
+) -> Result<(), Refusal>
     ensures exact { ◌≡◌ {A = Written} (record { answer = result; file = file.new }) (write n low.now high.now linear_low.now linear_high.now limit centre.now file.old) }
     ensures meaning { Meaning result (problem_of (order_of n) low.now high.now linear_low.now linear_high.now limit centre.now) file.new }
 {
-    let m = order_of(n);
-    if m == 0 {
-        return Checked::Refused(Refusal::Order);
-    }
+    let m = order(n)?;
     let sizes = Sizes {
         table: m * m,
         vector: m,
     };
     let lengths = lengths_of(low.len(), high.len(), linear_low.len(), linear_high.len());
     if !write_sized(m, sizes, lengths, centre.len(), file.len()) {
-        return Checked::Refused(Refusal::Length);
+        return Err(Refusal::Length);
     }
     let problem = problem_of(m, low, high, linear_low, linear_high, limit, centre);
     write_checked(problem, file)

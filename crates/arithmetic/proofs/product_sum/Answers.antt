@@ -1,7 +1,9 @@
-use mathlib.Core.Path.{◌≡◌, sym, ◌∙◌}
+use mathlib.Core.Path.{sym, ◌∙◌}
 use native.Mathlib.Omega.{arith}
 use native.Mathlib.Numerals.{add-one}
-use Rattle.integers.proofs.Machine.{clean, clean_element}
+use mir.Syntax.{w64}
+use mir.Val.{SFits}
+use Rattle.integers.proofs.Machine.{clean}
 use Rattle.integers.proofs.Sums.{sum_zero, sum_suc}
 use Rattle.tables.specs.Matrix.{nth}
 use Rattle.arithmetic.proofs.Products.{term_fits, terms_add}
@@ -9,35 +11,22 @@ use Rattle.arithmetic.proofs.product_sum.Goals as goal
 
 pub overflow_mul-s : goal.overflow_mul-s
 overflow_mul-s c =
-    rw (clean_element (nth c.args.x.now c.loop-k.k) c.s-1.given, clean_element _ c.s-in-loop-k-1.given) (term_fits c.requires c.loop-k-test.true)
+    let x : SFits w64 (nth c.args.x.now c.loop-k.k) = record { sfits = omega arith } in
+    let y : SFits w64 (nth c.args.y.now c.loop-k.k) = record { sfits = omega arith } in
+    rw (clean x, clean y) (term_fits c.requires c.loop-k-test.true)
 
 pub overflow_add-s : goal.overflow_add-s
 overflow_add-s c =
-    rw (clean (overflow_mul-s c), clean_element (nth c.args.x.now c.loop-k.k) c.s-1.given, clean_element _ c.s-in-loop-k-1.given, c.loop-k.invariant.1)
-    (terms_add c.requires c.loop-k-test.true)
+    let x : SFits w64 (nth c.args.x.now c.loop-k.k) = record { sfits = omega arith } in
+    let y : SFits w64 (nth c.args.y.now c.loop-k.k) = record { sfits = omega arith } in
+    rw (clean (overflow_mul-s c), clean x, clean y, c.loop-k.invariant) (terms_add c.requires c.loop-k-test.true)
 
 pub loop-k-init : goal.loop-k-init
-loop-k-init c = (omega arith, sym (sum_zero _))
-
-pub offset_bounds-x-k : goal.offset_bounds-x-k
-offset_bounds-x-k c = let p = c.requires in omega (arith, p.order, c.loop-k-test.true)
-
-pub bounds-x-k : goal.bounds-x-k
-bounds-x-k c = let p = c.requires in omega (arith, p.first-length, c.loop-k-test.true)
-
-pub offset_bounds-y-k : goal.offset_bounds-y-k
-offset_bounds-y-k c = let p = c.requires in omega (arith, p.order, c.loop-k-test.true)
-
-pub bounds-y-k : goal.bounds-y-k
-bounds-y-k c = let p = c.requires in omega (arith, p.second-length, c.loop-k-test.true)
+loop-k-init c = sym (sum_zero _)
 
 pub loop-k-preserved : goal.loop-k-preserved
 loop-k-preserved c =
-    let l = c.loop-k in (
-      omega arith,
-      clean (overflow_add-s c)
-          ∙ rw (clean (overflow_mul-s c), clean_element (nth c.args.x.now l.k) c.s-1.given, clean_element _ c.s-in-loop-k-1.given, l.invariant.1, add-one) (sym (sum_suc l.k _)),
-    )
-
-pub returns : goal.returns
-returns c = let e : c.loop-k.k ≡ c.args.n = omega arith in rw e at c.loop-k.invariant.1
+    let l = c.loop-k in
+    let x : SFits w64 (nth c.args.x.now l.k) = record { sfits = omega arith } in
+    let y : SFits w64 (nth c.args.y.now l.k) = record { sfits = omega arith } in
+    clean (overflow_add-s c) ∙ rw (clean (overflow_mul-s c), clean x, clean y, l.invariant, add-one) (sym (sum_suc l.k _))

@@ -1,8 +1,6 @@
 use mathlib.Core.Path.{◌≡◌, sym, ◌∙◌}
-use Prim.Native.Nat.{◌-◌, ◌≤◌}
 use native.Mathlib.Omega.{arith}
 use native.Mathlib.Numerals.{add-one}
-use borrow.Author.Rules.{rules}
 use mir.Syntax.{w64}
 use mir.Val.{to_z, of_z}
 use Rattle.integers.specs.Numbers.{min_ℤ, max_ℤ}
@@ -12,7 +10,7 @@ use Rattle.integers.proofs.Sums.{sum_zero, sum_suc}
 use Rattle.tables.specs.Matrix.{nth}
 use Rattle.integers.proofs.Extremes.{within_min, within_max}
 use Rattle.centre.specs.Centre.{low_gradient, high_gradient, gradient}
-use Rattle.centre.proofs.Magnitudes.{picked, low_factors, high_factors, picked_fits, picked-row}
+use Rattle.centre.proofs.Magnitudes.{picked, picked_fits, picked-row}
 use Rattle.centre.proofs.gradient.Lts as lts
 use Rattle.centre.proofs.gradient.Tie as tie
 use Rattle.centre.proofs.gradient.Reads as reads
@@ -47,19 +45,18 @@ next-greatest c =
 pub overflow_add-least : goal.overflow_add-least
 overflow_add-least c =
     let p = c.requires in
-    rw (next-least c, c.loop-j.invariant.1) (picked_fits p.0 p.1 min_ℤ (λ x y v w. within_min v w) c.loop-j-test.true)
+    rw (next-least c, c.loop-j.invariant.0) (picked_fits p.0 p.1 min_ℤ (λ x y v w. within_min v w) c.loop-j-test.true)
 
 pub overflow_add-greatest : goal.overflow_add-greatest
 overflow_add-greatest c =
     let p = c.requires in
-    rw (next-greatest c, c.loop-j.invariant.2) (picked_fits p.0 p.1 max_ℤ (λ x y v w. within_max v w) c.loop-j-test.true)
+    rw (next-greatest c, c.loop-j.invariant.1) (picked_fits p.0 p.1 max_ℤ (λ x y v w. within_max v w) c.loop-j-test.true)
 
 pub loop-j-preserved : goal.loop-j-preserved
 loop-j-preserved c =
     let l = c.loop-j in (
-      omega arith,
-      clean (overflow_add-least c.before) ∙ rw (next-least c.before, l.invariant.1, add-one) (sym (sum_suc l.j _)),
-      clean (overflow_add-greatest c) ∙ rw (next-greatest c, l.invariant.2, add-one) (sym (sum_suc l.j _)),
+      clean (overflow_add-least c.before) ∙ rw (next-least c.before, l.invariant.0, add-one) (sym (sum_suc l.j _)),
+      clean (overflow_add-greatest c) ∙ rw (next-greatest c, l.invariant.1, add-one) (sym (sum_suc l.j _)),
     )
 
 -- all products passed
@@ -71,7 +68,7 @@ passed : (c : After-loop) →
 passed c =
     let l = c.loop-j in
     let e : l.j ≡ c.args.n = omega arith in
-    (rw e at l.invariant.1, rw e at l.invariant.2)
+    (rw e at l.invariant.0, rw e at l.invariant.1)
 
 -- an end of a(k) added
 pub overflow_add-least-2 : goal.overflow_add-least-2
@@ -88,31 +85,7 @@ overflow_add-greatest-2 c =
 
 pub loop-j-init : goal.loop-j-init
 unfolding gradient low_gradient high_gradient
-loop-j-init c = (omega arith, sym (sum_zero _), sym (sum_zero _))
-
-pub product-l-requires : goal.product-l-requires
-unfolding gradient low_gradient high_gradient
-product-l-requires c = let p = c.requires in low_factors p.0 p.1 c.loop-j-test.true
-
-pub product-u-requires : goal.product-u-requires
-unfolding gradient low_gradient high_gradient
-product-u-requires c = let p = c.requires in high_factors p.0 p.1 c.loop-j-test.true
-
-pub offset_bounds-a-k : goal.offset_bounds-a-k
-unfolding gradient low_gradient high_gradient
-offset_bounds-a-k c = let p = c.requires in omega (arith, p.0.tables.order, p.1)
-
-pub bounds-a-k : goal.bounds-a-k
-unfolding gradient low_gradient high_gradient
-bounds-a-k c = let p = c.requires in omega (arith, p.0.terms.low-length, p.1)
-
-pub offset_bounds-b-k : goal.offset_bounds-b-k
-unfolding gradient low_gradient high_gradient
-offset_bounds-b-k c = let p = c.requires in omega (arith, p.0.tables.order, p.1)
-
-pub bounds-b-k : goal.bounds-b-k
-unfolding gradient low_gradient high_gradient
-bounds-b-k c = let p = c.requires in omega (arith, p.0.terms.high-length, p.1)
+loop-j-init c = (sym (sum_zero _), sym (sum_zero _))
 
 pub absolute-x-requires : goal.absolute-x-requires
 unfolding gradient low_gradient high_gradient

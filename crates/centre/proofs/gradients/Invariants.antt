@@ -1,19 +1,10 @@
 -- The loop's invariant: g(i) is filled in for each i passed.
-use mathlib.Core.Path.{◌≡◌}
-use Prim.Native.Nat.{◌-◌, ◌≤◌}
-use native.Mathlib.Omega.{arith}
-use native.Mathlib.Numerals.{add-one}
-use Rattle.integers.proofs.Machine.{clean_result}
 use Rattle.tables.specs.Ranges.{greatest_order}
 use Rattle.tables.specs.Matrix.{at, nth}
 use Rattle.tables.specs.Problem.{ends_of}
 use Rattle.centre.specs.Centre.{gradient}
 use Rattle.tables.specs.Buffers.{Filled}
-use Rattle.tables.proofs.Buffers.{filled_none, filled_more}
 use Rattle.centre.proofs.gradients.Given as goal
 
 abbrev pub invariant-loop-k : goal.invariant-loop-k
-invariant-loop-k l = (l.k ≤ l.n) × Filled greatest_order l.k (gradient l.n (at l.n l.low) (at l.n l.high) (ends_of l.a l.b) (nth l.c)) l.g
-
-abbrev pub decreases-loop-k : goal.decreases-loop-k
-decreases-loop-k l = l.n - l.k
+invariant-loop-k l = Filled greatest_order l.k (gradient l.n (at l.n l.low) (at l.n l.high) (ends_of l.a l.b) (nth l.c)) l.g

@@ -1,8 +1,5 @@
 use mathlib.Core.Path.{◌≡◌, sym, ◌∙◌}
-use Prim.Native.Nat.{◌-◌, ◌≤◌}
-use native.Mathlib.Omega.{arith}
 use native.Mathlib.Numerals.{add-one}
-use borrow.Author.Rules.{rules}
 use lib.IntN.{◌*ℤ◌}
 use mir.Syntax.{w64}
 use mir.Val.{to_z, of_z}
@@ -10,8 +7,7 @@ use Rattle.integers.specs.Numbers.{min_ℤ}
 use Rattle.integers.proofs.Machine.{clean, clean_result, clean_element}
 use Rattle.integers.proofs.Sums.{sum_zero, sum_suc}
 use Rattle.tables.specs.Matrix.{nth}
-use Rattle.centre.specs.Centre.{least_sum}
-use Rattle.centre.proofs.Magnitudes.{low_term, high_term, least_fits}
+use Rattle.centre.proofs.Magnitudes.{least_fits}
 use Rattle.centre.proofs.least_terms.Lts as lts
 use Rattle.centre.proofs.least_terms.Tie as tie
 use Rattle.centre.proofs.least_terms.Reads as reads
@@ -32,21 +28,12 @@ next c =
 
 pub overflow_add-least : goal.overflow_add-least
 overflow_add-least c =
-    rw (next c, c.loop-k.invariant.1) (least_fits c.requires c.loop-k-test.true)
+    rw (next c, c.loop-k.invariant) (least_fits c.requires c.loop-k-test.true)
 
 pub loop-k-init : goal.loop-k-init
-loop-k-init c = (omega arith, sym (sum_zero _))
-
-pub term-requires : goal.term-requires
-term-requires c = low_term c.requires c.loop-k-test.true
-
-pub term-requires-in-loop-k : goal.term-requires-in-loop-k
-term-requires-in-loop-k c = high_term c.requires c.loop-k-test.true
+loop-k-init c = sym (sum_zero _)
 
 pub loop-k-preserved : goal.loop-k-preserved
 loop-k-preserved c =
     let l = c.loop-k in
-    (omega arith, clean (overflow_add-least c) ∙ rw (next c, l.invariant.1, add-one) (sym (sum_suc l.k _)))
-
-pub returns : goal.returns
-returns c = let e : c.loop-k.k ≡ c.args.n = omega arith in rw e at c.loop-k.invariant.1
+    clean (overflow_add-least c) ∙ rw (next c, l.invariant, add-one) (sym (sum_suc l.k _))

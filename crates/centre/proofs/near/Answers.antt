@@ -1,41 +1,33 @@
-use mathlib.Core.Path.{◌≡◌, sym}
-use mathlib.Core.Bool.{true}
-use Prim.Native.Nat.{◌-◌, ◌≤◌}
+use mathlib.Core.Path.{sym}
+use Prim.Native.Nat.{◌<◌}
 use native.Mathlib.Omega.{arith}
 use lib.IntN.{pos}
-use lib.Signed.{le_z}
+use lib.ListN.{take}
+use lib.Seq.{get_or-take, length-take-le}
 use Rattle.integers.proofs.Parts.{le_z_true, le_z_false}
-use Rattle.integers.proofs.Machine.{lt_yes, lt_no, fits_literal}
+use Rattle.integers.proofs.Machine.{clean_element, lt_holds, lt_fails}
 use Rattle.tables.specs.Ranges.{gradient_range}
 use Rattle.tables.specs.Matrix.{nth}
-use Rattle.tables.specs.Checks.{all}
 use Rattle.tables.proofs.Checks.{all_none, all_more, all_false}
 use Rattle.centre.proofs.near.Goals as goal
 
-pub loop-k-init : goal.loop-k-init
-loop-k-init c = (omega arith, all_none _)
+pub loop-x-init : goal.loop-x-init
+loop-x-init c = all_none _
 
-pub offset_bounds-g-k : goal.offset_bounds-g-k
-offset_bounds-g-k c = let p = c.requires in omega arith
+pub returns-then-x-gt-GRADIENT_RANGE : goal.returns-then-x-gt-GRADIENT_RANGE
+returns-then-x-gt-GRADIENT_RANGE c =
+    let n = c.args.n in
+    let g = c.args.g.now in
+    let k = c.loop-x.x-index in
+    let passed : k < n = omega (arith, length-take-le n g (omega arith)) in
+    let t = rw (clean_element (nth (take n g) k) (omega arith), get_or-take n g k (pos 0) passed) at c.if-x-gt-GRADIENT_RANGE.true in
+    sym (all_false _ n k passed (le_z_false {x = nth g k} {y = pos gradient_range} (lt_holds t)))
 
-pub bounds-g-k : goal.bounds-g-k
-bounds-g-k c = let p = c.requires in omega arith
-
-pub returns-then-g-k-gt-GRADIENT_RANGE : goal.returns-then-g-k-gt-GRADIENT_RANGE
-returns-then-g-k-gt-GRADIENT_RANGE c =
-    let l = c.loop-k in
-    let x = nth c.args.g.now l.k in
-    sym (all_false _ c.args.n l.k (omega arith)
-    (le_z_false {x = x} {y = pos gradient_range} (lt_yes {x = pos gradient_range} {y = x} (fits_literal tt) (record { sfits = c.t8-1.given }) c.if-g-k-gt-GRADIENT_RANGE.true)))
-
-pub loop-k-preserved : goal.loop-k-preserved
-loop-k-preserved c =
-    let l = c.loop-k in
-    let x = nth c.args.g.now l.k in (
-      omega arith,
-      all_more _ l.k l.invariant.1
-          (le_z_true {x = x} {y = pos gradient_range} (lt_no {x = pos gradient_range} {y = x} (fits_literal tt) (record { sfits = c.t8-1.given }) c.if-g-k-gt-GRADIENT_RANGE.false)),
-    )
-
-pub returns : goal.returns
-returns c = let e : c.loop-k.k ≡ c.args.n = omega arith in sym (rw e at c.loop-k.invariant.1)
+pub loop-x-preserved : goal.loop-x-preserved
+loop-x-preserved c =
+    let n = c.args.n in
+    let g = c.args.g.now in
+    let k = c.loop-x.x-index in
+    let passed : k < n = omega (arith, length-take-le n g (omega arith)) in
+    let t = rw (clean_element (nth (take n g) k) (omega arith), get_or-take n g k (pos 0) passed) at c.if-x-gt-GRADIENT_RANGE.false in
+    all_more _ k c.loop-x.invariant (le_z_true {x = nth g k} {y = pos gradient_range} (lt_fails t))

@@ -1,5 +1,4 @@
 use mathlib.Core.Path.{◌∙◌}
-use borrow.Author.Rules.{rules}
 use Rattle.integers.proofs.Machine.{clean, clean_element, clean_result}
 use Rattle.centre.proofs.Magnitudes.{product_fits}
 use Rattle.centre.proofs.product.Goals as goal

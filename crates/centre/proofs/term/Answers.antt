@@ -1,5 +1,4 @@
 use mathlib.Core.Path.{◌∙◌}
-use borrow.Author.Rules.{rules}
 use Rattle.integers.proofs.Machine.{clean, clean_element}
 use Rattle.tables.specs.Matrix.{nth}
 use Rattle.centre.proofs.Magnitudes.{term_fits}

@@ -4,7 +4,7 @@ use denote.Floats.{passes}
 use lib.Dec.{T}
 use lib.Ieee.{binary32, mul, of_bits}
 use Rattle.floats.specs.Brackets.{in_range}
-use Rattle.floats.specs.declared.Bracketed.TheVariants.{Inside}
+use Rattle.std.specs.Prelude.{Some}
 use Rattle.floats.proofs.Product.{Sixteenfold, sixteen, nothing_lost}
 use Rattle.floats.proofs.Meaning.{product_next, inside, outside}
 use Rattle.floats.proofs.bracket.Goals as goal
@@ -25,7 +25,7 @@ pub returns-then-in_range : goal.returns-then-in_range
 unfolding of_bits
 returns-then-in_range c =
     let t = (goal.at.returns-then-in_range c).Then-in_range in
-    ap Inside (c.next_to.ensures ∙ product_next (exact t)) ∙ sym (inside c.args.x (passed t))
+    ap Some (c.next_to.ensures ∙ product_next (exact t)) ∙ sym (inside c.args.x (passed t))
 
 pub returns-else-in_range : goal.returns-else-in_range
 returns-else-in_range c = sym (outside c.args.x (sym c.in_range.ensures ∙ c.if-in_range.false))

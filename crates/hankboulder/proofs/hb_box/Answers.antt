@@ -1,8 +1,7 @@
 use mathlib.Core.Path.{ap}
 use mathlib.Core.List.{List}
 use Prim.Native.Nat.{ℕ}
-use borrow.Author.Rules.{rules}
-use Rattle.integers.proofs.Machine.{clean, clean_result, clean_element}
+use Rattle.integers.proofs.Machine.{clean, clean_element}
 use Rattle.tables.proofs.Answers.{exactly}
 use Rattle.enclosure.specs.Act.{Enclosed, box_code}
 use Rattle.hankboulder.specs.Entries.{BoxResult, box_stored, box_entry}
@@ -20,4 +19,4 @@ returns c =
     let a = c.args in
     exactly (λ (j : BoxResult). BoxMeaning a.n a.low.now a.high.now a.linear_low.now a.linear_high.now a.limit j.number j.sides)
     (box_means a.n a.low.now a.high.now a.linear_low.now a.linear_high.now a.limit a.centre.now a.sides.now) _
-    (rw (clean_element c.box_code.result c.box_code.type_inv, c.box_code.ensures) (ap numbered (rw (clean c.ranges.n, clean c.ranges.limit) at c.enclose.ensures)))
+    (rw (clean_element c.answer_code.result c.answer_code.type_inv, c.answer_code.ensures) (ap numbered (rw (clean c.ranges.n, clean c.ranges.limit) at c.enclose.ensures)))

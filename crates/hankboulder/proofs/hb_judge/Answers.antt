@@ -1,6 +1,5 @@
 use mathlib.Core.Path.{ap}
-use borrow.Author.Rules.{rules}
-use Rattle.integers.proofs.Machine.{clean, clean_result, clean_element}
+use Rattle.integers.proofs.Machine.{clean, clean_element}
 use Rattle.tables.proofs.Answers.{exactly}
 use Rattle.verdict.specs.Judge.{verdict_code}
 use Rattle.buffers.specs.Buffers.{StoredVerdict}
@@ -19,4 +18,4 @@ returns c =
     let a = c.args in
     exactly (λ (j : JudgeResult). JudgeMeaning a.n a.low.now a.high.now j.number j.factor j.vector j.over)
     (judge-means a.n a.low.now a.high.now a.factor.now a.vector.now a.over.now) _
-    (rw (clean_element c.verdict_code.result c.verdict_code.type_inv, c.verdict_code.ensures) (ap numbered (rw (clean c.ranges.n) at c.judge.ensures)))
+    (rw (clean_element c.answer_code.result c.answer_code.type_inv, c.answer_code.ensures) (ap numbered (rw (clean c.ranges.n) at c.judge.ensures)))

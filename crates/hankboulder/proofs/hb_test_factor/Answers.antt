@@ -1,6 +1,5 @@
 use mathlib.Core.Path.{ap}
-use borrow.Author.Rules.{rules}
-use Rattle.integers.proofs.Machine.{clean, clean_result, clean_element}
+use Rattle.integers.proofs.Machine.{clean, clean_element}
 use Rattle.tables.proofs.Answers.{exactly}
 use Rattle.residual.specs.FactorTest.{factor_code}
 use Rattle.buffers.specs.Buffers.{StoredAnswer}
@@ -19,4 +18,4 @@ returns c =
     let a = c.args in
     exactly (λ (j : TestFactorResult). FactorMeaning a.n a.low.now a.high.now a.factor.now j.number j.over)
     (factor-means a.n a.low.now a.high.now a.factor.now a.over.now) _
-    (rw (clean_element c.factor_code.result c.factor_code.type_inv, c.factor_code.ensures) (ap numbered (rw (clean c.ranges.n) at c.test_factor.ensures)))
+    (rw (clean_element c.answer_code.result c.answer_code.type_inv, c.answer_code.ensures) (ap numbered (rw (clean c.ranges.n) at c.test_factor.ensures)))

@@ -7,8 +7,8 @@ use Rattle.integers.specs.Division.{ceil_div}
 use Rattle.integers.specs.Root.{least_root}
 use Rattle.integers.proofs.Machine.{clean, clean_element, clean_result}
 use Rattle.tables.specs.Matrix.{nth}
-use Rattle.tables.proofs.Buffers.{filled_none, filled_more}
-use Rattle.sides.proofs.HalfSides.{gradient_numerator, half_fits}
+use Rattle.tables.proofs.Buffers.{filled_more}
+use Rattle.sides.proofs.HalfSides.{half_fits}
 use Rattle.sides.proofs.first_halves.Lts as lts
 use Rattle.sides.proofs.first_halves.Tie as tie
 use Rattle.sides.proofs.first_halves.Reads as reads
@@ -34,40 +34,8 @@ pub overflow_add-y : goal.overflow_add-y
 overflow_add-y c =
     rw (quotient c, root c.before.before.before.before) (half_fits c.requires.0 c.requires.1 c.loop-k-test.true)
 
-pub least_root-s-requires : goal.least_root-s-requires
-least_root-s-requires c = rw (clean c.ranges.t, clean c.ranges.b) (c.requires.1, c.requires.0.step)
-
-pub loop-k-init : goal.loop-k-init
-loop-k-init c = (omega arith, filled_none c.requires.2)
-
-pub offset_bounds-g-k : goal.offset_bounds-g-k
-offset_bounds-g-k c = let order = c.requires.0.order in omega arith
-
-pub bounds-g-k : goal.bounds-g-k
-bounds-g-k c = let order = c.requires.0.order in omega arith
-
-pub ceil_div-requires : goal.ceil_div-requires
-ceil_div-requires c =
-    rw (clean c.ranges.t, clean_element _ c.ceil_div-arg-1.given) (gradient_numerator c.requires.0 c.loop-k-test.true, c.requires.0.step)
-
-pub offset_bounds-y-k : goal.offset_bounds-y-k
-offset_bounds-y-k c = let order = c.requires.0.order in omega arith
-
-pub bounds-y-k : goal.bounds-y-k
-bounds-y-k c = let order = c.requires.0.order in omega arith
-
-pub overflow_add-k : goal.overflow_add-k
-overflow_add-k c = let order = c.requires.0.order in omega arith
-
 pub loop-k-preserved : goal.loop-k-preserved
 loop-k-preserved c =
-    let order = c.requires.0.order in (
-      omega arith,
-      rw (add-one, clean c.ranges.t, clean c.ranges.b)
-          (filled_more (omega arith) (clean (overflow_add-y c) ∙ rw (quotient c, root c.before.before.before.before)) (rw (clean c.ranges.t, clean c.ranges.b) at c.loop-k.invariant.1)),
-    )
-
-pub returns : goal.returns
-returns c =
-    let e : c.loop-k.k ≡ c.args.n = omega arith in
-    rw (e, clean c.ranges.t, clean c.ranges.b) at c.loop-k.invariant.1
+    let order = c.requires.0.order in
+    rw (add-one, clean c.ranges.t, clean c.ranges.b)
+    (filled_more (omega arith) (clean (overflow_add-y c) ∙ rw (quotient c, root c.before.before.before.before)) (rw (clean c.ranges.t, clean c.ranges.b) at c.loop-k.invariant))

@@ -1,5 +1,4 @@
 -- The loop's invariant: Y(i) is filled in for each i passed.
-use Prim.Native.Nat.{◌-◌, ◌≤◌}
 use lib.IntN.{◌+ℤ◌}
 use Rattle.integers.specs.Division.{ceil_div}
 use Rattle.integers.specs.Root.{least_root}
@@ -9,7 +8,4 @@ use Rattle.tables.specs.Buffers.{Filled}
 use Rattle.sides.proofs.first_halves.Given as goal
 
 abbrev pub invariant-loop-k : goal.invariant-loop-k
-invariant-loop-k live = (live.k ≤ live.n) × Filled greatest_order live.k (λ i. ceil_div (nth live.g i) live.t +ℤ least_root live.t live.b) live.y
-
-abbrev pub decreases-loop-k : goal.decreases-loop-k
-decreases-loop-k l = l.n - l.k
+invariant-loop-k live = Filled greatest_order live.k (λ i. ceil_div (nth live.g i) live.t +ℤ least_root live.t live.b) live.y

@@ -13,7 +13,7 @@ use Rattle.tables.specs.Ranges.{centre_range}
 use Rattle.tables.specs.Matrix.{nth}
 use Rattle.sides.specs.Sides.{smaller_half}
 use Rattle.sides.specs.Required.{half_range, side_range}
-use Rattle.sides.proofs.HalfSides.{smaller_within, sides_none, sides_more}
+use Rattle.sides.proofs.HalfSides.{smaller_within, sides_more}
 use Rattle.sides.proofs.write_sides.Lts as lts
 use Rattle.sides.proofs.write_sides.Tie as tie
 use Rattle.sides.proofs.write_sides.Reads as reads
@@ -61,63 +61,8 @@ overflow_add-high c =
     rw (half c.before) (fits_within {m = side_range} (within_in (order (x c ∷ h c ∷ []) (sizes c) (search solver depth 40 fits 20000) (omega arith))
     (order (x c ∷ h c ∷ []) (sizes c) (search solver depth 40 fits 20000) (omega arith))) (omega arith))
 
-pub loop-k-init : goal.loop-k-init
-loop-k-init c = (omega arith, sides_none c.requires.1)
-
-pub offset_bounds-y-k : goal.offset_bounds-y-k
-offset_bounds-y-k c = let order = c.requires.0.order in omega arith
-
-pub bounds-y-k : goal.bounds-y-k
-bounds-y-k c = let order = c.requires.0.order in omega arith
-
-pub offset_bounds-tk-k : goal.offset_bounds-tk-k
-offset_bounds-tk-k c = let order = c.requires.0.order in omega arith
-
-pub bounds-tk-k : goal.bounds-tk-k
-bounds-tk-k c = let order = c.requires.0.order in omega arith
-
-pub half_side-h-requires : goal.half_side-h-requires
-half_side-h-requires c = rw (clean c.ranges.b) c.requires.0.bound
-
-pub offset_bounds-c-k : goal.offset_bounds-c-k
-offset_bounds-c-k c = let order = c.requires.0.order in omega arith
-
-pub bounds-c-k : goal.bounds-c-k
-bounds-c-k c = let size = c.requires.0.centre-length in omega arith
-
-pub overflow_mul-low : goal.overflow_mul-low
-overflow_mul-low c = let order = c.requires.0.order in omega arith
-
-pub offset_bounds-out-k : goal.offset_bounds-out-k
-offset_bounds-out-k c = let order = c.requires.0.order in omega arith
-
-pub bounds-out-k : goal.bounds-out-k
-bounds-out-k c = let order = c.requires.0.order in omega arith
-
-pub overflow_mul-high : goal.overflow_mul-high
-overflow_mul-high c = let order = c.requires.0.order in omega arith
-
-pub overflow_add-high-in-loop-k : goal.overflow_add-high-in-loop-k
-overflow_add-high-in-loop-k c = let order = c.requires.0.order in omega arith
-
-pub offset_bounds-out-k-in-loop-k : goal.offset_bounds-out-k-in-loop-k
-offset_bounds-out-k-in-loop-k c = let order = c.requires.0.order in omega arith
-
-pub bounds-out-k-in-loop-k : goal.bounds-out-k-in-loop-k
-bounds-out-k-in-loop-k c = let order = c.requires.0.order in omega arith
-
-pub overflow_add-k : goal.overflow_add-k
-overflow_add-k c = let order = c.requires.0.order in omega arith
-
 pub loop-k-preserved : goal.loop-k-preserved
 loop-k-preserved c =
-    let order = c.requires.0.order in (
-      omega arith,
-      rw (clean c.ranges.b, clean (overflow_sub-low c), clean (overflow_add-high c), half c.before, clean_element _ c.x-1.given, add-one c.loop-k.k)
-          (sides_more (omega arith) (rw (clean c.ranges.b) at c.loop-k.invariant.1)),
-    )
-
-pub returns : goal.returns
-returns c =
-    let e : c.loop-k.k ≡ c.args.n = omega arith in
-    rw (e, clean c.ranges.b) at c.loop-k.invariant.1
+    let order = c.requires.0.order in
+    rw (clean c.ranges.b, clean (overflow_sub-low c), clean (overflow_add-high c), half c.before, clean_element _ c.x-1.given, add-one c.loop-k.k)
+    (sides_more (omega arith) (rw (clean c.ranges.b) at c.loop-k.invariant))

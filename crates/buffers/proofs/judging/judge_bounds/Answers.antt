@@ -1,7 +1,6 @@
 -- By the verdict.
 use mathlib.Core.Path.{refl, sym, ◌∙◌}
 use native.Mathlib.Omega.{arith}
-use borrow.Author.Rules.{rules}
 use Rattle.integers.proofs.Machine.{clean_element}
 use Rattle.tables.specs.Matrix.{at}
 use Rattle.tables.proofs.Matrix.{table_fits}
@@ -78,8 +77,3 @@ returns-in-NotDefinite c =
 pub returns-in-Undecided : goal.returns-in-Undecided
 unfolding stated
 returns-in-Undecided c = made_of (given c.before.before.before.before.before.before.before.before.before.before.before) {g = of c.before.before.before.before.before.before.before.before.before.before.before} c.decide-verdict.ensures Verdict.Undecided c.in-Undecided.is
-
-pub returns-in-Refused : goal.returns-in-Refused
-unfolding stated
-returns-in-Refused c =
-    made_of (given c.before.before.before.before.before.before.before.before.before.before.before) {g = of c.before.before.before.before.before.before.before.before.before.before.before} c.decide-verdict.ensures (Verdict.Refused c.in-Refused.r) c.in-Refused.is

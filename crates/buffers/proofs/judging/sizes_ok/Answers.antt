@@ -1,5 +1,4 @@
 use native.Mathlib.Omega.{arith}
-use borrow.Author.Rules.{rules}
 use Rattle.tables.proofs.Matrix.{table_fits}
 use Rattle.buffers.specs.Buffers.{judge_buffers}
 use Rattle.buffers.proofs.judging.sizes_ok.Goals as goal

@@ -1,11 +1,11 @@
 use mathlib.Core.Path.{ap}
-use Rattle.tables.specs.declared.Checked.TheVariants.{Passed}
+use Rattle.std.specs.Prelude.{Ok}
 use Rattle.bus.specs.Running.{Bus}
 use Rattle.bus.specs.Bus.{Moved, start}
 use Rattle.bus.proofs.acts.start.Goals as goal
 
 abbrev let_through : Bus → Moved
-let_through s = record { answer = Passed; bus = s }
+let_through s = record { answer = Ok tt; bus = s }
 
 pub returns-then-is_busy : goal.returns-then-is_busy
 unfolding start

@@ -1,12 +1,12 @@
 use mathlib.Core.Path.{sym, ap, ◌∙◌}
-use Rattle.tables.specs.declared.Checked.TheVariants.{Passed}
+use Rattle.std.specs.Prelude.{Ok}
 use Rattle.bus.specs.Running.{Bus}
 use Rattle.bus.specs.Bus.{Moved, where_sized, ticked, tick}
 use Rattle.bus.proofs.Sizes.{bus-sized-of}
 use Rattle.bus.proofs.acts.tick.Goals as goal
 
 abbrev let_through : Bus → Moved
-let_through s = record { answer = Passed; bus = s }
+let_through s = record { answer = Ok tt; bus = s }
 
 pub returns-then-not-bus_sized : goal.returns-then-not-bus_sized
 unfolding tick where_sized

@@ -1,4 +1,3 @@
-use mathlib.Core.Path.{◌≡◌, refl, sym, ◌∙◌}
 use native.Mathlib.Numerals.{add-one}
 use native.Mathlib.Omega.{arith}
 use lib.IntN.{pos}
@@ -9,30 +8,19 @@ use Rattle.integers.proofs.Machine.{clean_element}
 use Rattle.words.proofs.Laws.{length-numbers_of}
 use Rattle.tables.specs.Matrix.{nth}
 use Rattle.bus.specs.Area.{run_numbers, area_of}
-use Rattle.bus.proofs.Areas.{area_of_lem, area_bytes_lem, area-more, laid_none}
+use Rattle.bus.proofs.Areas.{area_of_lem, area-more, laid_none}
 use Rattle.bus.proofs.area.store_part.Goals as goal
 
 pub loop-i-init : goal.loop-i-init
 loop-i-init c =
     let r = area_of c.args.run.now in
-    (omega arith, rw (laid_none r c.args.first) (area_of_lem (record { each = λ i. omega (arith, c.type_inv.run i) }) c.requires.0))
-
-pub store_signed-requires : goal.store_signed-requires
-store_signed-requires c = (refl, omega (arith, area_bytes_lem c.loop-i.invariant.1))
+    rw (laid_none r c.args.first) (area_of_lem (record { each = λ i. omega (arith, c.type_inv.run i) }) c.requires.0)
 
 pub loop-i-preserved : goal.loop-i-preserved
 loop-i-preserved c =
     let l = c.loop-i in
     let a = c.args in
-    let v = nth a.x.now l.i in (
-      omega arith,
-      rw (add-one, take-suc a.x.now l.i (pos 0) (omega arith), c.store_signed.ensures, clean_element v c.v-1.given)
-          (area-more (area_of a.run.now) a.first (take l.i a.x.now) v (length-take-le l.i a.x.now (omega arith)) (omega arith)
-          (length-numbers_of w64 a.run.now run_numbers) (record { sfits = c.v-1.given }) l.invariant.1),
-    )
-
-pub shape_of-run : goal.shape_of-run
-shape_of-run c = area_bytes_lem c.loop-i.invariant.1 ∙ sym c.requires.0
-
-pub returns : goal.returns
-returns c = let e : c.loop-i.i ≡ c.args.count = omega arith in rw e at c.loop-i.invariant.1.spelled
+    let v = nth a.x.now l.i in
+    rw (add-one, take-suc a.x.now l.i (pos 0) (omega arith), c.store_signed.ensures, clean_element v (omega arith))
+    (area-more (area_of a.run.now) a.first (take l.i a.x.now) v (length-take-le l.i a.x.now (omega arith)) (omega arith)
+    (length-numbers_of w64 a.run.now run_numbers) (record { sfits = omega arith }) l.invariant)

@@ -4,25 +4,16 @@ use Prim.Native.Nat.{suc}
 use native.Mathlib.Omega.{arith}
 use native.Mathlib.Numerals.{add-one}
 use lib.IntN.{ℤ, pos}
-use Rattle.integers.proofs.Parts.{pos_nonneg}
 use Rattle.tables.specs.Ranges.{factor_range}
 use Rattle.tables.specs.Checks.{all, within}
 use Rattle.tables.proofs.Checks.{all_none, all_more, all_false, and_of, and_first_false, read_less, read_not_less}
 use Rattle.cholesky.specs.Store.{upper}
 use Rattle.bus.specs.Running.{factor_columns}
-use Rattle.bus.proofs.safety.factor_columns.Lts as lts
-use Rattle.bus.proofs.safety.factor_columns.Tie as tie
-use Rattle.bus.proofs.safety.factor_columns.Reads as reads
 use Rattle.bus.proofs.safety.factor_columns.Goals as goal
-
-abbrev After-column_within : Type 0
-After-column_within = lts.After-column_within tie.the-claims reads.Pre reads.Post goal.the-invariant-loop-l goal.the-decreases-loop-l
-
-abbrev At-loop : Type 0
-At-loop = lts.At-loop tie.the-claims reads.Pre reads.Post goal.the-invariant-loop-l goal.the-decreases-loop-l
+use Rattle.bus.proofs.safety.factor_columns.Goals.{At-loop-l, After-column_within}
 
 -- diagonal entry l
-abbrev diagonal : At-loop → ℤ
+abbrev diagonal : At-loop-l → ℤ
 diagonal c = upper c.args.t.now c.loop-l.l c.loop-l.l
 
 and_second_false : (a : Bool) {b : Bool} → b ≡ false → (a && b) ≡ false
@@ -39,11 +30,7 @@ module _ (c : After-column_within) where
 
 pub loop-l-init : goal.loop-l-init
 unfolding factor_columns upper
-loop-l-init c = (omega arith, all_none _)
-
-pub column_within-requires : goal.column_within-requires
-unfolding factor_columns upper
-column_within-requires c = (omega arith, omega arith, c.requires.1, pos_nonneg factor_range)
+loop-l-init c = all_none _
 
 pub returns-then-not-column_within : goal.returns-then-not-column_within
 unfolding factor_columns upper
@@ -57,14 +44,6 @@ returns-then-t-l-lt1 c =
 
 pub loop-l-preserved : goal.loop-l-preserved
 unfolding factor_columns upper
-loop-l-preserved c = (
-  omega arith,
-  all_more _ c.loop-l.l c.loop-l.invariant.1
-      (and_of (sym (found c.before.before.before) ∙ c.if-not-column_within.false) (read_not_less (diagonal c.before.before.before.before.before) (pos 1) c.t11-1.given (omega arith) c.if-t-l-lt1.false)),
-)
-
-pub returns : goal.returns
-unfolding factor_columns upper
-returns c =
-    let e : c.loop-l.l ≡ c.args.j = omega arith in
-    sym (rw e at c.loop-l.invariant.1)
+loop-l-preserved c =
+    all_more _ c.loop-l.l c.loop-l.invariant
+    (and_of (sym (found c.before.before.before) ∙ c.if-not-column_within.false) (read_not_less (diagonal c.before.before.before.before.before) (pos 1) c.t11-1.given (omega arith) c.if-t-l-lt1.false))

@@ -7,6 +7,7 @@ use mir.Val.{bytes}
 use Rattle.integers.proofs.Machine.{clean}
 use Rattle.words.proofs.Laws.{length-numbers_of}
 use Rattle.tables.specs.Checks.{order_of}
+use Rattle.tables.proofs.Answers.{handed_on}
 use Rattle.tables.proofs.Checks.{no-more-checks}
 use Rattle.tables.proofs.Admission.{order_small, order_fits, blank_length, mended-after, entered-laid}
 use Rattle.bus.specs.Bus.{tables_sized}
@@ -30,14 +31,14 @@ overflow_mul-size c = record { fits = omega (arith, order_fits _ (rw (clean c.ra
 pub overflow_mul-size-2 : goal.overflow_mul-size-2
 overflow_mul-size-2 c = record { fits = omega (arith, order_fits _ (rw (clean c.ranges.n) at c.order_of-m.ensures)) }
 
-pub returns-in-Refused : goal.returns-in-Refused
-returns-in-Refused c =
+pub returns-in_err-check_entry : goal.returns-in_err-check_entry
+returns-in_err-check_entry c =
     let p = c.requires in
     let o : c.order_of-m.result ≡ order_of c.args.n = rw (clean c.ranges.n) at c.order_of-m.ensures in
     let z : c.if-low-size.sized ≡ tables_sized (order_of c.args.n) c.args.low.now c.args.high.now =
     elim c.if-low-size.branch [ then-low-size w ↦ sized-yes o _ _ w.if-low-size.true w.sized-is | else-low-size w ↦ sized-no o _ _ w.if-low-size.false w.sized-is ] in
-    record {
-      answered = sym (no-more-checks _ _ _ (sym (rw (clean c.ranges.n, z) at c.check_entry-checked.ensures) ∙ c.in-Refused.is));
+    rw (handed_on c.from_residual.ensures.1) record {
+      answered = sym (no-more-checks _ _ _ (sym (rw (clean c.ranges.n, z) at c.check_entry.ensures) ∙ c.in_err-check_entry.was));
       rooms = record { low-size = blank_length p.0; high-size = blank_length p.1 };
       held = λ q. absurd (false≢true cc);
     }
@@ -61,4 +62,4 @@ returns c =
     let z : c.if-low-size.sized ≡ tables_sized (order_of c.args.n) c.args.low.now c.args.high.now =
     elim c.if-low-size.branch [ then-low-size w ↦ sized-yes o _ _ w.if-low-size.true w.sized-is | else-low-size w ↦ sized-no o _ _ w.if-low-size.false w.sized-is ] in
     entered-laid _ _ _ (λ s. (length-numbers_of w64 _ _, length-numbers_of w64 _ _)) (rw (o, z) at c.load_bounds.ensures)
-    (mended-after _ (sym (rw (clean c.ranges.n, z) at c.check_entry-checked.ensures) ∙ c.in_default.is) (rw o at c.check_laid.ensures))
+    (mended-after _ (sym (rw (clean c.ranges.n, z) at c.check_entry.ensures) ∙ c.in_ok-check_entry.was) (rw o at c.check_laid.ensures))

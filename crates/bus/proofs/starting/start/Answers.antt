@@ -28,22 +28,22 @@ overflow_cast-n c = fits (omega (arith, c.type_inv.block order))
 pub begin-requires : goal.begin-requires
 begin-requires c =
     let n = byte-read c.args.block.now (omega (arith, c.type_inv.block order)) in
-    (c.requires.1, rw (rw n at c.order_of.ensures) ((rw n at c.check_tables-checked.ensures).held c.in-Passed.is).tables)
+    (c.requires.1, rw (rw n at c.order_of.ensures) ((rw n at c.check_tables.ensures).held c.in-Ok.is).tables)
 
-pub returns-in-Passed : goal.returns-in-Passed
+pub returns-in-Ok : goal.returns-in-Ok
 unfolding started refused_start begun_start
-returns-in-Passed c =
+returns-in-Ok c =
     let n = byte-read c.args.block.now (omega (arith, c.slice_known-3-1.given order)) in
-    let came = rw n at c.check_tables-checked.ensures in
-    let q = c.in-Passed.is in
+    let came = rw n at c.check_tables.ensures in
+    let q = c.in-Ok.is in
     let h = came.held q in
     ap₂ bus c.start.ensures
     (rw (rw n at c.order_of.ensures, held_low h (length-numbers_of w64 _ _), held_high h (length-numbers_of w64 _ _)) at c.begin.ensures)
     ∙ entered-passed _ _ _ _ _ _ _ came q
 
-pub returns-in-Refused : goal.returns-in-Refused
+pub returns-in-Err : goal.returns-in-Err
 unfolding started refused_start begun_start
-returns-in-Refused c =
+returns-in-Err c =
     let n = byte-read c.args.block.now (omega (arith, c.slice_known-3-1.given order)) in
-    ap₂ bus (c.refuse.ensures ∙ ap (λ (m : ℕ). refused_block m c.args.block.now) c.refusal_number.ensures) c.blank.ensures
-    ∙ entered-refused _ _ _ _ _ _ _ (rw n at c.check_tables-checked.ensures) c.in-Refused.is
+    ap₂ bus (c.refuse.ensures ∙ ap (λ (m : ℕ). refused_block m c.args.block.now) c.number.ensures) c.blank.ensures
+    ∙ entered-refused _ _ _ _ _ _ _ (rw n at c.check_tables.ensures) c.in-Err.is

@@ -1,5 +1,4 @@
 -- The loop's invariant: the columns before j are those of H.
-use Prim.Native.Nat.{◌-◌, ◌≤◌}
 use Rattle.tables.specs.Matrix.{at}
 use Rattle.cholesky.specs.Scale.{scaled}
 use Rattle.bus.specs.Area.{area_of, laid_columns}
@@ -7,7 +6,4 @@ use Rattle.bus.proofs.Areas.{Area}
 use Rattle.bus.proofs.starting.store_matrix.Given as goal
 
 abbrev pub invariant-loop-j : goal.invariant-loop-j
-invariant-loop-j l = (l.j ≤ l.n) × Area l.run (laid_columns (scaled l.n (at l.n l.l) (at l.n l.u)) l.j (area_of l.initial.run))
-
-abbrev pub decreases-loop-j : goal.decreases-loop-j
-decreases-loop-j l = l.n - l.j
+invariant-loop-j l = Area l.run (laid_columns (scaled l.n (at l.n l.l) (at l.n l.u)) l.j (area_of l.initial.run))

@@ -9,9 +9,8 @@ use Rattle.tables.specs.Ranges.{greatest_order}
 use Rattle.tables.specs.Matrix.{at, nth}
 use Rattle.tables.specs.Checks.{first_refusal, table_checks}
 use Rattle.tables.specs.Entering.{Over, low_bounds, high_bounds}
-use Rattle.tables.specs.declared.Refusal.{Refusal}
-use Rattle.tables.specs.declared.Checked.{Checked}
-use Rattle.tables.specs.declared.Checked.TheVariants.{Passed, Refused}
+use Rattle.tables.specs.Checks.{Checked}
+use Rattle.std.specs.Prelude.{Ok, Err, is_err}
 use Rattle.tables.proofs.Checks.{and_first_false}
 use Rattle.cholesky.specs.Store.{stride}
 use Rattle.vectors.specs.Least.{shows}
@@ -25,6 +24,16 @@ use Rattle.bus.specs.Required.{TablesLoaded}
 use Rattle.bus.proofs.Loaded.{loaded-columns, stop_padded, stopped-padded}
 use Rattle.bus.proofs.Worked.{safe_stopped, shown-verdict, worked-yes, worked-no}
 use Rattle.bus.proofs.ticking.search.Goals as goal
+
+-- what the code reads of the checks
+not_passed : (k : Checked) → is_err k ≡ true → passes k ≡ false
+unfolding passes
+not_passed (Ok _) e = cc
+not_passed (Err r) e = refl
+
+passed : (k : Checked) → is_err k ≡ false → k ≡ Ok tt
+passed (Ok _) e = refl
+passed (Err r) e = cc
 
 -- the columns that are loaded, and what the test found of them
 module _ (s : List ℕ) (n j m : ℕ) {t : List ℤ} (h : j < greatest_order) (q : Over (stride * (j + 1)) (take (stride * (j + 1)) (drop columns_at (area_of s))) t) {r : Bool} (e : r ≡ stop_safe t j m) where
@@ -53,12 +62,12 @@ module _ (s : List ℕ) (n j m : ℕ) {t : List ℤ} (h : j < greatest_order) (q
           ap (λ (x : Bool). x && passes (first_refusal (table_checks n low high))) (sym safe ∙ f) ∙ ap passes (sym w.answered)
 
       -- they are refused
-      barred : {x : Refusal} → k ≡ Refused x → record { block = b; run = s } ≡ worked b s (search_work (area_of s) n j m)
+      barred : is_err k ≡ true → record { block = b; run = s } ≡ worked b s (search_work (area_of s) n j m)
       unfolding search_work worked passes
-      barred g = worked-no b s (searching n j m) nothing (asked ∙ ap passes g)
+      barred g = worked-no b s (searching n j m) nothing (asked ∙ not_passed k g)
 
       -- the verdict that is given
-      module _ (g : k ≡ Passed) {a : Bool} {x : List ℤ} (v : ℕ) where
+      module _ (g : k ≡ Ok tt) {a : Bool} {x : List ℤ} (v : ℕ) where
         settles : Searched (first (λ y. shows n (at n l) (at n u) (nth y)) (tried n ++ (solved n (stopped_at t j m) (pos 1) ++ solved n (stopped_at t j m) (pos 64)))) a 0 n x →
             v ≡ elim a as (λ z. ℕ) [ true ↦ 2 | false ↦ 3 ] → settled v b ≡ worked b s (search_work (area_of s) n j m)
         unfolding search_work worked passes listed_shows
@@ -71,20 +80,20 @@ pub returns-then-not-stop_safe : goal.returns-then-not-stop_safe
 returns-then-not-stop_safe c =
     let a = c.args in unsafe a.run.now a.n a.j a.m (omega (arith, c.requires.2, c.requires.3)) c.load_part.ensures c.stop_safe.ensures a.block.now c.if-not-stop_safe.true
 
-pub returns-in-Refused : goal.returns-in-Refused
-returns-in-Refused c =
+pub returns-then-is_err : goal.returns-then-is_err
+returns-then-is_err c =
     let a = c.args in
-    barred a.run.now a.n a.j a.m (omega (arith, c.requires.2, c.requires.3)) c.load_part.ensures c.stop_safe.ensures a.block.now c.if-not-stop_safe.false c.load_tables-checked.ensures c.in-Refused.is
+    barred a.run.now a.n a.j a.m (omega (arith, c.requires.2, c.requires.3)) c.load_part.ensures c.stop_safe.ensures a.block.now c.if-not-stop_safe.false c.load_tables.ensures (sym c.is_err.ensures.value ∙ c.if-is_err.true)
 
 pub slice_bounds-first_listed-end : goal.slice_bounds-first_listed-end
-slice_bounds-first_listed-end c = sym c.load_tables-checked.ensures.rooms.low-size
+slice_bounds-first_listed-end c = sym c.load_tables.ensures.rooms.low-size
 
 pub slice_bounds-first_listed-end-2 : goal.slice_bounds-first_listed-end-2
-slice_bounds-first_listed-end-2 c = sym c.load_tables-checked.ensures.rooms.high-size
+slice_bounds-first_listed-end-2 c = sym c.load_tables.ensures.rooms.high-size
 
 pub first_listed-requires : goal.first_listed-requires
 first_listed-requires c = (
-  (c.load_tables-checked.ensures.held c.in_default.is).tables,
+  (c.load_tables.ensures.held (passed _ (sym c.is_err.ensures.value ∙ c.if-is_err.false))).tables,
   safe_stopped _ c.args.j c.args.m c.requires.2 c.requires.3 c.requires.4 (sym c.stop_safe.ensures ∙ c.if-not-stop_safe.false),
   refl,
 )
@@ -93,12 +102,12 @@ pub returns-then-first_listed : goal.returns-then-first_listed
 returns-then-first_listed c =
     let a = c.args in
     c.settle.ensures
-    ∙ settles a.run.now a.n a.j a.m (omega (arith, c.requires.2, c.requires.3)) c.load_part.ensures c.stop_safe.ensures a.block.now c.if-not-stop_safe.false c.load_tables-checked.ensures c.in_default.is
+    ∙ settles a.run.now a.n a.j a.m (omega (arith, c.requires.2, c.requires.3)) c.load_part.ensures c.stop_safe.ensures a.block.now c.if-not-stop_safe.false c.load_tables.ensures (passed _ (sym c.is_err.ensures.value ∙ c.if-is_err.false))
     2 c.first_listed.ensures (rw c.if-first_listed.true)
 
 pub returns-else-first_listed : goal.returns-else-first_listed
 returns-else-first_listed c =
     let a = c.args in
     c.settle-else-first_listed.ensures
-    ∙ settles a.run.now a.n a.j a.m (omega (arith, c.requires.2, c.requires.3)) c.load_part.ensures c.stop_safe.ensures a.block.now c.if-not-stop_safe.false c.load_tables-checked.ensures c.in_default.is
+    ∙ settles a.run.now a.n a.j a.m (omega (arith, c.requires.2, c.requires.3)) c.load_part.ensures c.stop_safe.ensures a.block.now c.if-not-stop_safe.false c.load_tables.ensures (passed _ (sym c.is_err.ensures.value ∙ c.if-is_err.false))
     3 c.first_listed.ensures (rw c.if-first_listed.false)

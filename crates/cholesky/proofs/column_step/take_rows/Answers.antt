@@ -1,12 +1,11 @@
-use mathlib.Core.Path.{◌≡◌, refl}
-use native.Mathlib.Omega.{arith}
+use mathlib.Core.Path.{refl}
 use native.Mathlib.Numerals.{add-one}
 use Rattle.integers.specs.Division.{floor_div}
 use Rattle.integers.proofs.Machine.{clean_element}
 use Rattle.tables.proofs.Checks.{call_false, call_true}
 use Rattle.cholesky.specs.Store.{upper}
 use Rattle.cholesky.specs.Rows.{ColumnTaken}
-use Rattle.cholesky.proofs.Taken.{taking-start, taking_end, taking_rowed, taking_divisor, taking_stops, taking_on}
+use Rattle.cholesky.proofs.Taken.{taking-start, taking_rowed, taking_divisor, taking_stops, taking_on}
 use Rattle.cholesky.proofs.column_step.take_rows.Lts as lts
 use Rattle.cholesky.proofs.column_step.take_rows.Tie as tie
 use Rattle.cholesky.proofs.column_step.take_rows.Reads as reads
@@ -24,43 +23,21 @@ module _ (c : After-take_column) where
 
 pub loop-i-init : goal.loop-i-init
 unfolding upper
-loop-i-init c = (omega arith, taking-start c.requires.0 c.requires.1)
-
-pub overflow_mul-d : goal.overflow_mul-d
-unfolding upper
-overflow_mul-d c = let o = c.requires.0.inside in omega arith
-
-pub overflow_add-d : goal.overflow_add-d
-unfolding upper
-overflow_add-d c = let o = c.requires.0.inside in omega arith
-
-pub offset_bounds-s-i : goal.offset_bounds-s-i
-unfolding upper
-offset_bounds-s-i c = let o = c.requires.0.inside in omega arith
-
-pub bounds-s-i : goal.bounds-s-i
-unfolding upper
-bounds-s-i c = let o = c.requires.0.inside in omega arith
+loop-i-init c = taking-start c.requires.0 c.requires.1
 
 pub take_column-requires : goal.take_column-requires
 unfolding upper
 take_column-requires c =
     let z = c.requires.0 in
     let h = c.loop-i-test.true in
-    (taking_rowed z h c.loop-i.invariant.1, rw (clean_element _ c.d-1.given) (taking_divisor z h c.loop-i.invariant.1))
+    (taking_rowed z h c.loop-i.invariant, rw (clean_element _ c.d-1.given) (taking_divisor z h c.loop-i.invariant))
 
 pub returns-then-not-take_column : goal.returns-then-not-take_column
 unfolding upper
 returns-then-not-take_column c =
-    taking_stops c.requires.0 c.loop-i-test.true c.loop-i.invariant.1 (row-taken c.before) (call_false refl c.if-not-take_column.true-raw)
+    taking_stops c.requires.0 c.loop-i-test.true c.loop-i.invariant (row-taken c.before) (call_false refl c.if-not-take_column.true-raw)
 
 pub loop-i-preserved : goal.loop-i-preserved
 unfolding upper
 loop-i-preserved c =
-    (omega arith, rw add-one (taking_on c.requires.0 c.loop-i-test.true c.loop-i.invariant.1 (row-taken c.before) (call_true refl c.if-not-take_column.false-raw)))
-
-pub returns : goal.returns
-unfolding upper
-returns c =
-    let e : c.loop-i.i ≡ c.args.j = omega (arith, c.loop-i.invariant.0, c.loop-i-test.false) in
-    taking_end c.requires.0 (rw e at c.loop-i.invariant.1)
+    rw add-one (taking_on c.requires.0 c.loop-i-test.true c.loop-i.invariant (row-taken c.before) (call_true refl c.if-not-take_column.false-raw))

@@ -1,10 +1,6 @@
 -- The loop's invariant: the products are taken off the entries before row a.
-use Prim.Native.Nat.{suc, ◌-◌, ◌≤◌, ◌<◌}
 use Rattle.cholesky.specs.Rows.{Subtracted}
 use Rattle.cholesky.proofs.row_step.subtract_products.Given as goal
 
 abbrev pub invariant-loop-a : goal.invariant-loop-a
-invariant-loop-a l = (l.i < l.a) × (l.a ≤ suc l.j) × Subtracted l.initial.s l.i l.j l.r l.a l.s
-
-abbrev pub decreases-loop-a : goal.decreases-loop-a
-decreases-loop-a l = suc l.j - l.a
+invariant-loop-a l = Subtracted l.initial.s l.i l.j l.r l.a l.s

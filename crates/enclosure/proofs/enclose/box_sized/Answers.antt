@@ -1,4 +1,3 @@
-use borrow.Author.Rules.{rules}
 use borrow.Author.Tests.{eq-eqb, ne_eqb}
 use Rattle.enclosure.specs.Act.{box_sizes}
 use Rattle.enclosure.proofs.enclose.box_sized.Goals as goal

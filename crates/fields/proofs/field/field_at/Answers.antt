@@ -1,5 +1,6 @@
 use mathlib.Core.Path.{sym, ◌∙◌}
 use native.Mathlib.Omega.{arith}
+use Rattle.tables.proofs.Answers.{handed_on}
 use Rattle.fields.specs.Fields.{tagged}
 use Rattle.fields.proofs.Finding.{field_end, field-head_cut, field_cut, field-whole}
 use Rattle.fields.proofs.field.field_at.Goals as goal
@@ -16,12 +17,11 @@ pub returns-then-size-start : goal.returns-then-size-start
 unfolding tagged
 returns-then-size-start c = let e = c.length_at-length.ensures in sym (field_cut _ _ (omega arith) (omega arith))
 
-pub returns-in-Known : goal.returns-in-Known
+pub returns-in_err-kind : goal.returns-in_err-kind
 unfolding tagged
-returns-in-Known c =
-    field-whole _ _ c.length_at-length.ensures (omega arith) (sym c.in-Known.is ∙ c.kind_of-tagged.ensures)
+returns-in_err-kind c =
+    rw (handed_on c.from_residual.ensures.1) (field-whole _ _ c.length_at-length.ensures (omega arith) (sym c.in_err-kind.was ∙ c.try_from.ensures))
 
-pub returns-in-Refused : goal.returns-in-Refused
+pub returns : goal.returns
 unfolding tagged
-returns-in-Refused c =
-    field-whole _ _ c.length_at-length.ensures (omega arith) (sym c.in-Refused.is ∙ c.kind_of-tagged.ensures)
+returns c = field-whole _ _ c.length_at-length.ensures (omega arith) (sym c.in_ok-kind.was ∙ c.try_from.ensures)

@@ -1,17 +1,15 @@
-use mathlib.Core.Path.{◌≡◌}
-use mathlib.Core.List.{List}
-use Prim.Native.Nat.{ℕ, ◌+◌, ◌-◌}
-use native.Mathlib.Omega.{arith}
-use lib.ListN.{take, drop}
-use Rattle.fields.specs.declared.field.Kind.{Kind}
-use Rattle.fields.specs.declared.layout.Layout.{Layout}
+use mathlib.Core.Path.{sym, ◌∙◌}
 use Rattle.fields.specs.Layouts.{start_of, length_of, content}
 use Rattle.fields.proofs.layout.content.Goals as goal
 
--- the part from a to a + n
-part : (s : List ℕ) (l : Layout) (k : Kind) {a n : ℕ} → a ≡ start_of l k → n ≡ length_of l k → take (a + n - a) (drop a s) ≡ content s l k
-unfolding content
-part s l k {a} {n} start size = let e : a + n - a ≡ n = omega arith in rw (e, start, size)
+pub bytes_in-requires : goal.bytes_in-requires
+unfolding start_of length_of
+bytes_in-requires c = rw (sym c.part_of.ensures ∙ c.in-Some.is) at c.requires
 
-pub returns : goal.returns
-returns c = part _ _ _ c.start_of-start.ensures c.length_of-length.ensures
+pub returns-in-Some : goal.returns-in-Some
+unfolding start_of length_of content
+returns-in-Some c = rw (sym c.part_of.ensures ∙ c.in-Some.is) c.bytes_in.ensures
+
+pub returns-in-None : goal.returns-in-None
+unfolding start_of length_of content
+returns-in-None c = rw (sym c.part_of.ensures ∙ c.in-None.is)

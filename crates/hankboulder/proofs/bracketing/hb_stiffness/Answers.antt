@@ -1,6 +1,5 @@
 use mathlib.Core.Path.{ap}
-use borrow.Author.Rules.{rules}
-use Rattle.integers.proofs.Machine.{clean, clean_result, clean_element}
+use Rattle.integers.proofs.Machine.{clean, clean_element}
 use Rattle.tables.proofs.Answers.{exactly}
 use Rattle.stiffness.specs.Bracket.{bracket_code}
 use Rattle.stiffness_buffers.specs.StiffnessBuffers.{StoredStiffness}
@@ -19,4 +18,4 @@ returns c =
     let a = c.args in
     exactly (λ (j : StiffnessResult). StiffnessMeaning a.n a.low.now a.high.now j.number j.step j.bound j.vector)
     (stiffness_means a.n a.low.now a.high.now a.step.now a.bound.now a.vector.now) _
-    (rw (clean_element c.bracket_code.result c.bracket_code.type_inv, c.bracket_code.ensures) (ap numbered (rw (clean c.ranges.n) at c.bracket.ensures)))
+    (rw (clean_element c.answer_code.result c.answer_code.type_inv, c.answer_code.ensures) (ap numbered (rw (clean c.ranges.n) at c.bracket.ensures)))

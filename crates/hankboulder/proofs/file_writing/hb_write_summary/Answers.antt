@@ -1,6 +1,5 @@
 use native.Mathlib.Omega.{arith}
-use borrow.Author.Rules.{rules}
-use Rattle.integers.proofs.Machine.{clean, clean_result, clean_element}
+use Rattle.integers.proofs.Machine.{clean, clean_element}
 use Rattle.writer.specs.Writing.{Written}
 use Rattle.hankboulder.proofs.SummaryWritten.{Bytes, write_summary_exactly}
 use Rattle.hankboulder.proofs.file_writing.hb_write_summary.Goals as goal
@@ -15,6 +14,6 @@ returns c =
       to = record { each = λ i. omega (arith, c.shared_slice_known-4-1.given i) };
       centre = record { each = λ i. omega (arith, c.shared_slice_known-5-1.given i) };
     } in
-    rw (clean_element c.checked_code.result c.checked_code.type_inv, c.checked_code.ensures)
+    rw (clean_element c.answer_code.result c.answer_code.type_inv, c.answer_code.ensures)
     (write_summary_exactly a.n a.low.now a.high.now a.linear_low.now a.linear_high.now a.limit a.centre.now a.file.now lent {h = h}
     (rw (clean c.ranges.n, clean c.ranges.limit) at c.write_summary.ensures))

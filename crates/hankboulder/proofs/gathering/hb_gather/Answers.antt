@@ -1,8 +1,7 @@
 use mathlib.Core.Path.{ap}
 use mathlib.Core.List.{List}
 use Prim.Native.Nat.{ℕ}
-use borrow.Author.Rules.{rules}
-use Rattle.integers.proofs.Machine.{clean, clean_result, clean_element}
+use Rattle.integers.proofs.Machine.{clean, clean_element}
 use Rattle.tables.proofs.Answers.{exactly}
 use Rattle.sums.specs.Lent.{Lent, Left, gathered_code}
 use Rattle.samples.proofs.Measuring.{Narrow}
@@ -24,4 +23,4 @@ returns c =
     -- the numbers of the sample are of 32 bits
     let narrow : Narrow a.sample = record { rolling = g.0.1; climb = g.1.0.1; air = g.1.1.0.1; start = g.1.1.1.0.1; draw = g.1.1.1.1.0.1 } in
     exactly (λ (j : GatherResult). GatherMeaning a.sample a.n lent j.sums j.number) (gathered-means a.sample narrow a.n lent) _
-    (rw (clean_element c.gathered_code.result c.gathered_code.type_inv, c.gathered_code.ensures) (ap numbered (rw (clean c.ranges.n) at c.gather.ensures)))
+    (rw (clean_element c.answer_code.result c.answer_code.type_inv, c.answer_code.ensures) (ap numbered (rw (clean c.ranges.n) at c.gather.ensures)))

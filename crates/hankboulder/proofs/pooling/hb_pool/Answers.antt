@@ -1,8 +1,7 @@
 use mathlib.Core.Path.{ap}
 use mathlib.Core.List.{List}
 use Prim.Native.Nat.{ℕ}
-use borrow.Author.Rules.{rules}
-use Rattle.integers.proofs.Machine.{clean, clean_result, clean_element}
+use Rattle.integers.proofs.Machine.{clean, clean_element}
 use Rattle.tables.proofs.Answers.{exactly}
 use Rattle.sums.specs.Lent.{Lent, Left, gathered_code}
 use Rattle.pool.specs.Pool.{Problems}
@@ -23,4 +22,4 @@ returns c =
     let lists : Problems (List ℕ) =
     record { lows = a.lows.now; highs = a.highs.now; froms = a.linear_lows.now; tos = a.linear_highs.now; limits = a.limits.now } in
     exactly (λ (j : GatherResult). PoolMeaning a.n a.orders.now lists lent j.sums j.number) (pooled-means a.n a.orders.now lists lent) _
-    (rw (clean_element c.gathered_code.result c.gathered_code.type_inv, c.gathered_code.ensures) (ap numbered (rw (clean c.ranges.n) at c.pool.ensures)))
+    (rw (clean_element c.answer_code.result c.answer_code.type_inv, c.answer_code.ensures) (ap numbered (rw (clean c.ranges.n) at c.pool.ensures)))

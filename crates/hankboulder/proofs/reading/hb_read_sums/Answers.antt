@@ -1,6 +1,5 @@
 use mathlib.Core.Path.{ap}
-use borrow.Author.Rules.{rules}
-use Rattle.integers.proofs.Machine.{clean, clean_result, clean_element}
+use Rattle.integers.proofs.Machine.{clean, clean_element}
 use Rattle.tables.proofs.Answers.{exactly}
 use Rattle.rides.specs.Reading.{reading_code}
 use Rattle.sums_buffers.specs.SumsBuffers.{ReadOut}
@@ -19,4 +18,4 @@ returns c =
     let a = c.args in
     exactly (λ (j : ReadResult). ReadMeaning a.n a.low.now a.high.now a.linear_low.now a.linear_high.now a.running_limit a.allowance j.number j.limit)
     (read-means a.n a.low.now a.high.now a.linear_low.now a.linear_high.now a.running_limit a.allowance a.limit.now) _
-    (rw (clean_element c.reading_code.result c.reading_code.type_inv, c.reading_code.ensures) (ap numbered (rw (clean c.ranges.n, clean c.ranges.running_limit, clean c.ranges.allowance) at c.read_sums.ensures)))
+    (rw (clean_element c.answer_code.result c.answer_code.type_inv, c.answer_code.ensures) (ap numbered (rw (clean c.ranges.n, clean c.ranges.running_limit, clean c.ranges.allowance) at c.read_sums.ensures)))

@@ -10,7 +10,7 @@ use Rattle.tables.specs.Matrix.{tabulate}
 use Rattle.tables.specs.Checks.{order_of}
 use Rattle.tables.specs.declared.problem.Constraint.{Constraint}
 use Rattle.tables.proofs.Admission.{order_small}
-use Rattle.tables.proofs.Answers.{exactly}
+use Rattle.tables.proofs.Answers.{exactly, handed_on}
 use Rattle.sums.specs.Sums.{Outcome}
 use Rattle.sums.specs.Lent.{Lent, Left, laid_sums, sums_of}
 use Rattle.pool.specs.Pool.{count_of, Problems, problem_at}
@@ -52,31 +52,31 @@ meant c =
     exactly (λ (j : Left (List ℤ)). Meaning j.answer (problems c) (many c) (sums c) (sums_of (order_of c.args.n) j.sums))
     (pool-means c.args.n c.args.orders.now (lists c) (lent c))
 
-pub check_entry-checked-requires : goal.check_entry-checked-requires
-check_entry-checked-requires c =
+pub check_entry-requires : goal.check_entry-requires
+check_entry-requires c =
     let size = length c.args.orders.now in
     (omega arith, rw c.count_of-count.ensures (count_most 1 size), omega (arith, c.count_of-count.ensures, count_room 1 size))
+
+pub returns-in_err-check_entry : goal.returns-in_err-check_entry
+unfolding pool
+returns-in_err-check_entry c =
+    let s = (goal.at.returns-in_err-check_entry c).Start in
+    let checks = rw (c.lengths_of-problems.ensures, c.lengths_of-sums.ensures, c.count_of-count.ensures, clean c.ranges.n) at c.in_err-check_entry.ensures in
+    meant s _ (rw (handed_on c.from_residual.ensures.1) (ap (given s) (pooling-refused _ _ _ (sized s) (sums s) (problems s) (sym checks))))
 
 pub pool_lists-requires : goal.pool_lists-requires
 pool_lists-requires c =
     let s = (goal.at.pool_lists-requires c).Start in
-    let checks = rw (c.lengths_of-problems.ensures, c.lengths_of-sums.ensures, c.count_of-count.ensures, clean c.ranges.n) at c.check_entry-checked.ensures in
+    let checks = rw (c.lengths_of-problems.ensures, c.lengths_of-sums.ensures, c.count_of-count.ensures, clean c.ranges.n) at c.in_ok-check_entry.ensures in
     let order = rw (clean c.ranges.n) at c.order_of.ensures in
-    let z = (entry-behind _ _ _ (sized s) (sym checks ∙ c.in-Passed.is)).sizes in
+    let z = (entry-behind _ _ _ (sized s) (sym checks)).sizes in
     rw (c.count_of-count.ensures, order) (order_small c.args.n, count_most 1 (length c.args.orders.now), pool-lists _ _ (lent s) (lists s) z, pool-lent _ _ (lent s) (lists s) z)
 
-pub returns-in-Passed : goal.returns-in-Passed
+pub returns : goal.returns
 unfolding pool
-returns-in-Passed c =
-    let s = (goal.at.returns-in-Passed c).Start in
-    let checks = rw (c.lengths_of-problems.ensures, c.lengths_of-sums.ensures, c.count_of-count.ensures, clean c.ranges.n) at c.check_entry-checked.ensures in
+returns c =
+    let s = (goal.at.returns c).Start in
+    let checks = rw (c.lengths_of-problems.ensures, c.lengths_of-sums.ensures, c.count_of-count.ensures, clean c.ranges.n) at c.in_ok-check_entry.ensures in
     let order = rw (clean c.ranges.n) at c.order_of.ensures in
     meant s _
-    ((rw (c.count_of-count.ensures, order) at c.pool_lists.ensures) ∙ ap (given s) (pooling-passed _ _ _ (sized s) (sums s) (problems s) (sym checks ∙ c.in-Passed.is)))
-
-pub returns-in-Refused : goal.returns-in-Refused
-unfolding pool
-returns-in-Refused c =
-    let s = (goal.at.returns-in-Refused c).Start in
-    let checks = rw (c.lengths_of-problems.ensures, c.lengths_of-sums.ensures, c.count_of-count.ensures, clean c.ranges.n) at c.check_entry-checked.ensures in
-    meant s _ (ap (given s) (pooling-refused _ _ _ (sized s) (sums s) (problems s) (sym checks ∙ c.in-Refused.is)))
+    ((rw (c.count_of-count.ensures, order) at c.pool_lists.ensures) ∙ ap (given s) (pooling-passed _ _ _ (sized s) (sums s) (problems s) (sym checks)))

@@ -1,6 +1,6 @@
 -- The loop's invariant: k problems are done, and the scratch lists have their lengths.
 use mathlib.Core.List.{List}
-use Prim.Native.Nat.{ℕ, ◌-◌, ◌≤◌}
+use Prim.Native.Nat.{ℕ}
 use lib.IntN.{ℤ}
 use Rattle.tables.specs.declared.problem.Constraint.{Constraint}
 use Rattle.pool.specs.Pool.{problem_at}
@@ -12,7 +12,4 @@ problems n lows highs froms tos limits = problem_at n (record { lows = lows; hig
 
 abbrev pub invariant-loop-k : goal.invariant-loop-k
 invariant-loop-k l =
-    (l.k ≤ l.count) × Scratch l.pl l.pu l.pa l.pb × Going l.n (problems l.n l.lows l.highs l.froms l.tos l.limits) l.initial.done l.initial.l l.initial.u l.initial.a l.initial.b l.k l.done l.l l.u l.a l.b
-
-abbrev pub decreases-loop-k : goal.decreases-loop-k
-decreases-loop-k l = l.count - l.k
+    Scratch l.pl l.pu l.pa l.pb × Going l.n (problems l.n l.lows l.highs l.froms l.tos l.limits) l.initial.done l.initial.l l.initial.u l.initial.a l.initial.b l.k l.done l.l l.u l.a l.b

@@ -2,10 +2,10 @@ use Rattle.sums.specs.Required.{stated}
 use Rattle.pool.specs.Passing.{refused_by}
 use Rattle.pool.proofs.problems.refused_by.Goals as goal
 
-pub returns-in-Within : goal.returns-in-Within
+pub returns-in-Ok : goal.returns-in-Ok
 unfolding stated refused_by
-returns-in-Within c = record { held = λ n l u a b. rw c.in-Within.is }
+returns-in-Ok c = record { held = λ n l u a b. rw c.in-Ok.is }
 
-pub returns-in-Refused : goal.returns-in-Refused
+pub returns-in-Err : goal.returns-in-Err
 unfolding stated refused_by
-returns-in-Refused c = record { held = λ n l u a b. rw (c.in-Refused.is, c.earlier.ensures) }
+returns-in-Err c = record { held = λ n l u a b. rw (c.in-Err.is, c.earlier.ensures) }

@@ -1,5 +1,5 @@
 -- The loop's invariant: the first i numbers are loaded.
-use Prim.Native.Nat.{◌+◌, ◌-◌, ◌*◌, ◌≤◌}
+use Prim.Native.Nat.{◌+◌, ◌*◌}
 use lib.ListN.{length}
 use mir.Syntax.{w64}
 use mir.Val.{bytes}
@@ -8,7 +8,4 @@ use Rattle.tables.specs.Buffers.{Filled}
 use Rattle.pool_buffers.proofs.pooling.load_part.Given as goal
 
 abbrev pub invariant-loop-i : goal.invariant-loop-i
-invariant-loop-i live = (live.i ≤ live.count) × Filled (length live.initial.out) live.i (λ k. signed_at w64 live.x ((live.first + k) * bytes w64)) live.out
-
-abbrev pub decreases-loop-i : goal.decreases-loop-i
-decreases-loop-i l = l.count - l.i
+invariant-loop-i live = Filled (length live.initial.out) live.i (λ k. signed_at w64 live.x ((live.first + k) * bytes w64)) live.out

@@ -11,10 +11,10 @@ use Rattle.integers.proofs.Machine.{clean}
 use Rattle.words.specs.Numbers.{numbers_of}
 use Rattle.words.proofs.Laws.{length-numbers_of}
 use Rattle.tables.specs.Matrix.{nth}
-use Rattle.tables.specs.Checks.{first_refusal, order_of}
-use Rattle.tables.specs.declared.Checked.{Checked}
+use Rattle.tables.specs.Checks.{Checked, first_refusal, order_of}
 use Rattle.tables.specs.declared.problem.Constraint.{Constraint}
 use Rattle.tables.proofs.Admission.{order_small}
+use Rattle.tables.proofs.Answers.{handed_on}
 use Rattle.sums.specs.Sums.{Outcome}
 use Rattle.sums.specs.Lent.{Lent, Left}
 use Rattle.pool.specs.Pool.{Problems, pool_entry_checks}
@@ -66,35 +66,35 @@ load_numbers-requires c =
     let size = length c.args.orders.now in
     (refl, omega (arith, c.count_of-count.ensures, count_room (bytes w64) size), rw c.count_of-count.ensures (count_most (bytes w64) size))
 
-pub check_entry-checked-requires : goal.check_entry-checked-requires
-check_entry-checked-requires c =
+pub check_entry-requires : goal.check_entry-requires
+check_entry-requires c =
     let most = count_most (bytes w64) (length c.args.orders.now) in
     (omega arith, rw c.count_of-count.ensures most, omega (arith, c.count_of-count.ensures, most, c.load_numbers.auto.out))
+
+pub returns-in_err-check_entry : goal.returns-in_err-check_entry
+unfolding spelled_pool
+returns-in_err-check_entry c =
+    let p = goal.at.returns-in_err-check_entry c in
+    let s = p.Start in
+    let e = checks s c.load_numbers.new.out (rw (c.lengths_of-problems.ensures, c.lengths_of-sums.ensures, clean c.ranges.n) at c.in_err-check_entry.ensures) (each p.After-load_numbers) c.count_of-count.ensures in
+    rw (handed_on c.from_residual.ensures.1) (ap (given s) (pooling-refused _ _ _ (sized s (many s)) (sums s) (problems s) (sym e)))
 
 pub pool_lists-requires : goal.pool_lists-requires
 pool_lists-requires c =
     let p = goal.at.pool_lists-requires c in
     let s = p.Start in
-    let e = checks s c.load_numbers.new.out (rw (c.lengths_of-problems.ensures, c.lengths_of-sums.ensures, clean c.ranges.n) at c.check_entry-checked.ensures) (each p.After-load_numbers) c.count_of-count.ensures in
+    let e = checks s c.load_numbers.new.out (rw (c.lengths_of-problems.ensures, c.lengths_of-sums.ensures, clean c.ranges.n) at c.in_ok-check_entry.ensures) (each p.After-load_numbers) c.count_of-count.ensures in
     let order = rw (clean c.ranges.n) at c.order_of.ensures in
-    let z = (entry-behind _ _ _ (sized s (many s)) (sym e ∙ c.in-Passed.is)).sizes in
+    let z = (entry-behind _ _ _ (sized s (many s)) (sym e)).sizes in
     rw (c.count_of-count.ensures, order)
     (order_small c.args.n, count_most (bytes w64) (length c.args.orders.now), lists_bytes _ _ (lists s) (lent s) z, lent_bytes _ _ (lists s) (lent s) z)
 
-pub returns-in-Passed : goal.returns-in-Passed
+pub returns : goal.returns
 unfolding spelled_pool
-returns-in-Passed c =
-    let p = goal.at.returns-in-Passed c in
+returns c =
+    let p = goal.at.returns c in
     let s = p.Start in
-    let e = checks s c.load_numbers.new.out (rw (c.lengths_of-problems.ensures, c.lengths_of-sums.ensures, clean c.ranges.n) at c.check_entry-checked.ensures) (each p.After-load_numbers) c.count_of-count.ensures in
+    let e = checks s c.load_numbers.new.out (rw (c.lengths_of-problems.ensures, c.lengths_of-sums.ensures, clean c.ranges.n) at c.in_ok-check_entry.ensures) (each p.After-load_numbers) c.count_of-count.ensures in
     let order = rw (clean c.ranges.n) at c.order_of.ensures in
     (rw (c.count_of-count.ensures, order) at c.pool_lists.ensures)
-    ∙ ap (given s) (pooling-passed _ _ _ (sized s (many s)) (sums s) (problems s) (sym e ∙ c.in-Passed.is))
-
-pub returns-in-Refused : goal.returns-in-Refused
-unfolding spelled_pool
-returns-in-Refused c =
-    let p = goal.at.returns-in-Refused c in
-    let s = p.Start in
-    let e = checks s c.load_numbers.new.out (rw (c.lengths_of-problems.ensures, c.lengths_of-sums.ensures, clean c.ranges.n) at c.check_entry-checked.ensures) (each p.After-load_numbers) c.count_of-count.ensures in
-    ap (given s) (pooling-refused _ _ _ (sized s (many s)) (sums s) (problems s) (sym e ∙ c.in-Refused.is))
+    ∙ ap (given s) (pooling-passed _ _ _ (sized s (many s)) (sums s) (problems s) (sym e))

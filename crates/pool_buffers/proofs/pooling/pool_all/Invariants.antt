@@ -1,6 +1,6 @@
 -- The loop's invariant: k problems are done, and the scratch lists have their lengths.
 use mathlib.Core.List.{List}
-use Prim.Native.Nat.{ℕ, ◌-◌, ◌≤◌}
+use Prim.Native.Nat.{ℕ}
 use Rattle.tables.specs.declared.problem.Constraint.{Constraint}
 use Rattle.pool_buffers.specs.PoolBuffers.{spelled_problems}
 use Rattle.pool.proofs.Going.{Scratch, Going}
@@ -11,7 +11,4 @@ problems n count lows highs froms tos limits = spelled_problems n count (record 
 
 abbrev pub invariant-loop-k : goal.invariant-loop-k
 invariant-loop-k l =
-    (l.k ≤ l.count) × Scratch l.pl l.pu l.pa l.pb × Going l.n (problems l.n l.count l.lows l.highs l.froms l.tos l.limits) l.initial.done l.initial.l l.initial.u l.initial.a l.initial.b l.k l.done l.l l.u l.a l.b
-
-abbrev pub decreases-loop-k : goal.decreases-loop-k
-decreases-loop-k l = l.count - l.k
+    Scratch l.pl l.pu l.pa l.pb × Going l.n (problems l.n l.count l.lows l.highs l.froms l.tos l.limits) l.initial.done l.initial.l l.initial.u l.initial.a l.initial.b l.k l.done l.l l.u l.a l.b

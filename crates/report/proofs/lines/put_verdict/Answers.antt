@@ -18,8 +18,3 @@ pub returns-in-Undecided : goal.returns-in-Undecided
 unfolding stated verdict_text
 returns-in-Undecided c =
     rw c.in-Undecided.is (put-within c.put_text.ensures (omega arith))
-
-pub returns-in-Refused : goal.returns-in-Refused
-unfolding stated verdict_text
-returns-in-Refused c =
-    rw c.in-Refused.is (put-within c.put_refused.ensures (omega arith))

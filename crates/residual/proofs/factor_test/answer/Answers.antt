@@ -12,7 +12,7 @@ use Rattle.tables.proofs.Answers.{after-refused, after-passed}
 use Rattle.tables.specs.declared.Refusal.TheVariants.{Factor}
 use Rattle.residual.specs.Residual.{over}
 use Rattle.residual.specs.FactorTest.{factor_shape, tested, factor_answer}
-use Rattle.residual.specs.declared.factor_test.FactorAnswer.{FactorAnswer}
+use Rattle.std.specs.Prelude.{Ok, Err}
 use Rattle.residual.specs.Scratch.{Offer}
 use Rattle.residual.proofs.Meaning.{accepts-over}
 use Rattle.residual.proofs.factor_test.answer.Lts as lts
@@ -37,9 +37,9 @@ offer : (c : Else1) → let a = c.args in Offer a.n a.low.now a.high.now a.facto
 offer c = let p = c.requires in record { factor = record { order = p.0.order; size = p.2; shape = shaped c }; rooms = p.1; tables = p.0 }
 
 refused : (c : Then1) → let a = c.args in
-    FactorAnswer.Refused Factor ≡ factor_answer a.n (at a.n a.low.now) (at a.n a.high.now) (at a.n a.factor.now)
+    Err Factor ≡ factor_answer a.n (at a.n a.low.now) (at a.n a.high.now) (at a.n a.factor.now)
 unfolding factor_answer
-refused c = after-refused FactorAnswer.Refused _ _ (first-refuses _ _ (call_false c.factor_shape.ensures c.if-not-factor_shape.true-raw))
+refused c = after-refused Err _ _ (first-refuses _ _ (call_false c.factor_shape.ensures c.if-not-factor_shape.true-raw))
 
 -- what the rows have over
 abbrev v : After-over → ℤ
@@ -50,12 +50,12 @@ found c = clean_element c.over-v.result c.over-v.type_inv ∙ c.over-v.ensures
 
 -- and the answer, by its sign
 answered : (c : After-over) (b : Bool) → le_z (pos 0) (v c) ≡ b → let a = c.args in
-    tested b (v c) ≡ factor_answer a.n (at a.n a.low.now) (at a.n a.high.now) (at a.n a.factor.now)
+    Ok (tested b (v c)) ≡ factor_answer a.n (at a.n a.low.now) (at a.n a.high.now) (at a.n a.factor.now)
 unfolding factor_answer
 answered c b e =
     let a = c.args in
-    ap (λ (d : Bool). tested d (v c)) (sym (accepts-over a.n (at a.n a.factor.now) (at a.n a.low.now) (at a.n a.high.now) ∙ e))
-    ∙ after-passed FactorAnswer.Refused _ (first_passes _ _ (shaped c.before.before.before) ∙ first-none)
+    ap (λ (d : Bool). Ok (tested d (v c))) (sym (accepts-over a.n (at a.n a.factor.now) (at a.n a.low.now) (at a.n a.high.now) ∙ e))
+    ∙ after-passed Err _ (first_passes _ _ (shaped c.before.before.before) ∙ first-none)
 
 pub factor_shape-requires : goal.factor_shape-requires
 unfolding tested

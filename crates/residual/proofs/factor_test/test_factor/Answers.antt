@@ -2,88 +2,72 @@ use mathlib.Core.Path.{◌≡◌, refl, sym, ◌∙◌}
 use mathlib.Core.Bool.{true}
 use native.Mathlib.Omega.{arith}
 use lib.ListN.{length}
+use Rattle.std.specs.Prelude.{Result, Err}
 use Rattle.integers.proofs.Machine.{clean}
 use Rattle.tables.specs.Checks.{order_of}
 use Rattle.tables.specs.Entering.{Entered}
+use Rattle.tables.specs.declared.Refusal.{Refusal}
 use Rattle.tables.proofs.Checks.{sizes-of}
-use Rattle.tables.proofs.Answers.{exactly}
-use Rattle.tables.proofs.Admission.{order_fits, order-positive, no-order, came-through, entered-refused, entered-passed}
+use Rattle.tables.proofs.Answers.{exactly, handed_on}
+use Rattle.tables.proofs.Admission.{order_fits, order-positive, no-order, order-passed, order-refused, came-through, entered-refused, entered-passed}
 use Rattle.residual.specs.FactorTest.{factor_sizes, factor_tested, factor_test, Meaning}
 use Rattle.residual.specs.declared.factor_test.FactorAnswer.{FactorAnswer}
 use Rattle.residual.proofs.Meaning.{tested-means}
-use Rattle.residual.proofs.factor_test.test_factor.Lts as lts
-use Rattle.residual.proofs.factor_test.test_factor.Tie as tie
-use Rattle.residual.proofs.factor_test.test_factor.Reads as reads
 use Rattle.residual.proofs.factor_test.test_factor.Goals as goal
-
-abbrev After-enter : Type 0
-After-enter = lts.After-enter tie.the-claims reads.Pre reads.Post tie.handed_clauses
-
-abbrev After-order_of : Type 0
-After-order_of = lts.After-order_of tie.the-claims reads.Pre reads.Post tie.handed_clauses
-
-abbrev After-sizes_ok : Type 0
-After-sizes_ok = lts.After-sizes_ok tie.the-claims reads.Pre reads.Post tie.handed_clauses
-
-abbrev Start : Type 0
-Start = lts.Start tie.the-claims reads.Pre reads.Post tie.handed_clauses
-
-order : (c : After-order_of) → c.order_of-m.result ≡ order_of c.args.n
-order c = rw (clean c.ranges.n) at c.order_of-m.ensures
+use Rattle.residual.proofs.factor_test.test_factor.Goals.{Start, After-sizes_ok-sized, After-enter}
 
 -- what check 2 finds
-sized : (c : After-sizes_ok) → let a = c.args in
+sized : (c : After-sizes_ok-sized) → let a = c.args in
     c.sizes_ok-sized.result ≡ factor_sizes (order_of a.n) (length a.low.now) (length a.high.now) (length a.factor.now)
-sized c = rw (order c.before.before) at c.sizes_ok-sized.ensures
+sized c = rw (order-passed c.ranges.n c.in_ok-m.ensures).0 at c.sizes_ok-sized.ensures
 
 -- the door, with what it found
 came : (c : After-enter) → let a = c.args in
     Entered a.n (factor_sizes (order_of a.n) (length a.low.now) (length a.high.now) (length a.factor.now)) true a.low.now a.high.now
-    c.enter-checked.result c.enter-checked.new.l c.enter-checked.new.u
-came c = rw (clean c.ranges.n, sized c.before.before.before) at c.enter-checked.ensures
+    c.enter.result c.enter.new.l c.enter.new.u
+came c = rw (clean c.ranges.n, c.sizes_ok-sized.ensures, (order-passed c.ranges.n c.in_ok-m.ensures).0) at c.enter.ensures
 
 -- what an answer means
-abbrev means : Start → FactorAnswer → Type 0
-means s = let a = s.args in Meaning a.n a.low.now a.high.now a.factor.now
-
-meant : (s : Start) → let a = s.args in means s (factor_test a.n a.low.now a.high.now a.factor.now)
+means : (s : Start) → let a = s.args in (r : Result FactorAnswer Refusal) → r ≡ factor_test a.n a.low.now a.high.now a.factor.now →
+    record { exact : r ≡ factor_test a.n a.low.now a.high.now a.factor.now; meaning : Meaning a.n a.low.now a.high.now a.factor.now r }
 unfolding factor_test
-meant s = let a = s.args in tested-means a.n a.low.now a.high.now a.factor.now _
+means s = let a = s.args in exactly (Meaning a.n a.low.now a.high.now a.factor.now) (tested-means a.n a.low.now a.high.now a.factor.now _)
 
-pub returns-then-m-eq0 : goal.returns-then-m-eq0
+pub returns-in_err-m : goal.returns-in_err-m
 unfolding factor_test factor_tested
-returns-then-m-eq0 c = exactly (means c.before.before) (meant c.before.before) _ (no-order _ _ _ _ _ FactorAnswer.Refused _ (sym (order c.before) ∙ c.if-m-eq0.true))
+returns-in_err-m c =
+    let o = order-refused c.ranges.n c.in_err-m.ensures in
+    means (goal.at.returns-in_err-m c).Start _ (rw (handed_on c.from_residual.ensures.1, o.0) (no-order _ _ _ _ _ Err _ o.1))
 
 pub overflow_mul-m : goal.overflow_mul-m
-unfolding factor_test factor_tested
-overflow_mul-m c = record { fits = omega (arith, order_fits _ (order c.before)) }
+overflow_mul-m c = record { fits = omega (arith, order_fits _ (order-passed c.ranges.n c.in_ok-m.ensures).0) }
 
 pub overflow_mul-m-2 : goal.overflow_mul-m-2
-unfolding factor_test factor_tested
-overflow_mul-m-2 c = record { fits = omega (arith, order_fits _ (order c.before)) }
+overflow_mul-m-2 c = record { fits = omega (arith, order_fits _ (order-passed c.ranges.n c.in_ok-m.ensures).0) }
 
-pub enter-checked-requires : goal.enter-checked-requires
-unfolding factor_test factor_tested
-enter-checked-requires c =
-    ((λ s. rw (clean c.ranges.n) (let z = sizes-of _ _ _ _ _ (sym (sized c.before.before) ∙ s) in (z.0, z.1))), refl, refl)
+pub enter-requires : goal.enter-requires
+enter-requires c =
+    ((λ s. rw (clean c.ranges.n) (let z = sizes-of _ _ _ _ _ (sym (sized (goal.at.enter-requires c).After-sizes_ok-sized) ∙ s) in (z.0, z.1))), refl, refl)
 
-pub returns-in-Refused : goal.returns-in-Refused
+pub returns-in_err-enter : goal.returns-in_err-enter
 unfolding factor_test factor_tested
-returns-in-Refused c =
-    exactly (means c.before.before.before.before.before.before.before) (meant c.before.before.before.before.before.before.before) _ (entered-refused _ _ _ _ _ FactorAnswer.Refused _ (came c.before) c.in-Refused.is)
+returns-in_err-enter c =
+    let d = came (goal.at.returns-in_err-enter c).After-enter in
+    means (goal.at.returns-in_err-enter c).Start _ (rw (handed_on c.from_residual-in_err-enter.ensures.1) (entered-refused _ _ _ _ _ Err _ d c.in_err-enter.was))
 
 pub answer-requires : goal.answer-requires
-unfolding factor_test factor_tested
 answer-requires c =
-    let q = c.in_default.is in
-    let b = came-through _ _ _ _ _ (came c.before.before.before) q in
+    let d = came (goal.at.answer-requires c).After-enter in
+    let q = c.in_ok-enter.was in
+    let b = came-through _ _ _ _ _ d q in
     let z = sizes-of _ _ _ _ _ b.sizes in
-    rw (order c.before.before.before.before.before.before.before.before) (((came c.before.before.before).held q).tables, (came c.before.before.before).rooms, omega (arith, z.2), order-positive _ b.ordered)
+    rw (order-passed c.ranges.n c.in_ok-m.ensures).0 ((d.held q).tables, d.rooms, omega (arith, z.2), order-positive _ b.ordered)
 
 pub returns : goal.returns
 unfolding factor_test factor_tested
 returns c =
-    let q = c.in_default.is in
-    let h = (came c.before.before.before.before).held q in
-    exactly (means c.before.before.before.before.before.before.before.before.before.before) (meant c.before.before.before.before.before.before.before.before.before.before) _
-    ((rw (order c.before.before.before.before.before.before.before.before.before, h.low, h.high) at c.answer.ensures) ∙ entered-passed _ _ _ _ _ FactorAnswer.Refused _ (came c.before.before.before.before) q)
+    let d = came (goal.at.returns c).After-enter in
+    let q = c.in_ok-enter.was in
+    let h = d.held q in
+    means (goal.at.returns c).Start _
+    ((rw ((order-passed c.ranges.n c.in_ok-m.ensures).0, h.low, h.high) at c.answer.ensures) ∙ entered-passed _ _ _ _ _ Err _ d q)

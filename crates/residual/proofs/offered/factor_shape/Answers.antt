@@ -5,8 +5,7 @@ use Rattle.residual.specs.FactorTest.{factor_shape}
 use Rattle.residual.proofs.offered.factor_shape.Goals as goal
 
 pub loop-i-init : goal.loop-i-init
-unfolding factor_shape
-loop-i-init c = (omega arith, all_none _)
+loop-i-init c = all_none _
 
 pub returns-then-not-row_shape : goal.returns-then-not-row_shape
 unfolding factor_shape
@@ -14,13 +13,12 @@ returns-then-not-row_shape c =
     sym (all_false _ _ c.loop-i.i c.loop-i-test.true (call_false c.row_shape.ensures c.if-not-row_shape.true-raw))
 
 pub loop-i-preserved : goal.loop-i-preserved
-unfolding factor_shape
 loop-i-preserved c =
     let l = c.loop-i in
-    (omega arith, all_more _ l.i l.invariant.1 (call_true c.row_shape.ensures c.if-not-row_shape.false-raw))
+    all_more _ l.i l.invariant (call_true c.row_shape.ensures c.if-not-row_shape.false-raw)
 
 pub returns : goal.returns
 unfolding factor_shape
 returns c =
     let e : c.loop-i.i ≡ c.args.n = omega arith in
-    sym (rw e at c.loop-i.invariant.1)
+    sym (rw e at c.loop-i.invariant)

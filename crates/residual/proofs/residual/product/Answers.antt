@@ -16,26 +16,16 @@ overflow_mul-s c =
 pub overflow_add-s : goal.overflow_add-s
 overflow_add-s c =
     let p = c.requires in
-    rw (clean (overflow_mul-s c), clean_element c.entry.result c.entry.type_inv, c.entry.ensures, clean_element c.entry-in-loop-k.result c.entry-in-loop-k.type_inv, c.entry-in-loop-k.ensures, c.loop-k.invariant.1) (products_fit p.0 _ p.1 p.2 (omega arith))
+    rw (clean (overflow_mul-s c), clean_element c.entry.result c.entry.type_inv, c.entry.ensures, clean_element c.entry-in-loop-k.result c.entry-in-loop-k.type_inv, c.entry-in-loop-k.ensures, c.loop-k.invariant) (products_fit p.0 _ p.1 p.2 (omega arith))
 
 pub loop-k-init : goal.loop-k-init
-unfolding gram_at
-loop-k-init c = (omega arith, sym (sum_zero _))
-
-pub entry-requires : goal.entry-requires
-unfolding gram_at
-entry-requires c = let p = c.requires in (p.0.order, omega arith, omega arith, p.0.size)
-
-pub entry-requires-in-loop-k : goal.entry-requires-in-loop-k
-unfolding gram_at
-entry-requires-in-loop-k c = let p = c.requires in (p.0.order, omega arith, p.2, p.0.size)
+loop-k-init c = sym (sum_zero _)
 
 pub loop-k-preserved : goal.loop-k-preserved
-unfolding gram_at
 loop-k-preserved c =
     let l = c.loop-k in
-    (omega arith, clean (overflow_add-s c) ∙ rw (clean (overflow_mul-s c), clean_element c.entry.result c.entry.type_inv, c.entry.ensures, clean_element c.entry-in-loop-k.result c.entry-in-loop-k.type_inv, c.entry-in-loop-k.ensures, l.invariant.1, add-one) (sym (sum_suc l.k _)))
+    clean (overflow_add-s c) ∙ rw (clean (overflow_mul-s c), clean_element c.entry.result c.entry.type_inv, c.entry.ensures, clean_element c.entry-in-loop-k.result c.entry-in-loop-k.type_inv, c.entry-in-loop-k.ensures, l.invariant, add-one) (sym (sum_suc l.k _))
 
 pub returns : goal.returns
 unfolding gram_at
-returns c = let e : c.loop-k.k ≡ suc c.args.i = omega arith in rw e at c.loop-k.invariant.1
+returns c = let e : c.loop-k.k ≡ suc c.args.i = omega arith in rw e at c.loop-k.invariant

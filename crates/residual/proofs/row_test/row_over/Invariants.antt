@@ -1,12 +1,8 @@
 -- The loop's invariant: what is left of the row after the radii of the columns before j.
 use mathlib.Core.Path.{◌≡◌}
-use Prim.Native.Nat.{◌-◌, ◌≤◌}
 use Rattle.tables.specs.Matrix.{at}
 use Rattle.residual.proofs.Rows.{left}
 use Rattle.residual.proofs.row_test.row_over.Given as goal
 
 abbrev pub invariant-loop-j : goal.invariant-loop-j
-invariant-loop-j l = (l.j ≤ l.n) × (l.over ≡ left (at l.n l.low) (at l.n l.high) l.i l.j)
-
-abbrev pub decreases-loop-j : goal.decreases-loop-j
-decreases-loop-j l = l.n - l.j
+invariant-loop-j l = l.over ≡ left (at l.n l.low) (at l.n l.high) l.i l.j

@@ -7,8 +7,9 @@ use Rattle.integers.proofs.Machine.{clean}
 use Rattle.tables.specs.Matrix.{tabulate}
 use Rattle.tables.specs.Checks.{order_of}
 use Rattle.tables.specs.Problem.{lengths_of}
-use Rattle.tables.proofs.Answers.{exactly}
-use Rattle.samples.specs.declared.sample.Sample.{Sample}
+use Rattle.tables.proofs.Answers.{exactly, handed_on}
+use Rattle.tables.specs.declared.Refusal.TheVariants.{Sample}
+use Rattle.samples.specs.declared.sample.Sample as Declared
 use Rattle.samples.specs.Gathering.{sums_sized, gathering}
 use Rattle.sums.specs.Sums.{Outcome}
 use Rattle.sums.specs.Lent.{Lent, Left, laid_sums, sums_of}
@@ -25,7 +26,7 @@ narrow c =
     record { rolling = g.0.1; climb = g.1.0.1; air = g.1.1.0.1; start = g.1.1.1.0.1; draw = g.1.1.1.1.0.1 }
 
 -- what gathering into lent sums gives, and what that means
-module _ (s : Sample) (n : ℤ) (b : Lent (List ℤ)) where
+module _ (s : Declared.Sample) (n : ℤ) (b : Lent (List ℤ)) where
   abbrev sized : Bool
   sized = sums_sized 1 (order_of n) (lengths_of (length b.low) (length b.high) (length b.from) (length b.to)) (length b.limit)
 
@@ -39,18 +40,23 @@ module _ (s : Sample) (n : ℤ) (b : Lent (List ℤ)) where
   unfolding gather
   stated w o e j q = exactly means (gather-means s w n b) j (q ∙ ap given e)
 
+abbrev lent : Start → Lent (List ℤ)
+lent c = let a = c.args in record { low = a.low.now; high = a.high.now; from = a.from.now; to = a.to.now; limit = a.limit.now }
+
+pub returns-in_err-measures : goal.returns-in_err-measures
+returns-in_err-measures c =
+    let s = (goal.at.returns-in_err-measures c).Start in
+    let e = c.in_err-measures.ensures in
+    let k : c.in_err-measures.field-0.0 ≡ Sample = (let v = rw e.ok_part at e.value in cc) in
+    stated c.args.sample c.args.n (lent s) (narrow s) _ (gathering_outside _ c.args.n _ _ (sym e.ok_part ∙ c.measure.ensures)) _
+    (rw (handed_on c.from_residual.ensures.1, k) refl)
+
 pub gather_measured-requires : goal.gather_measured-requires
-gather_measured-requires c = inside_near _ (narrow (goal.at.gather_measured-requires c).Start) (sym c.in-Inside.is ∙ c.measure-measured.ensures)
+gather_measured-requires c =
+    inside_near _ (narrow (goal.at.gather_measured-requires c).Start) (sym c.in_ok-measures.ensures.ok_part ∙ c.measure.ensures)
 
-pub returns-in-Inside : goal.returns-in-Inside
-returns-in-Inside c =
-    let a = c.args in
-    let b : Lent (List ℤ) = record { low = a.low.now; high = a.high.now; from = a.from.now; to = a.to.now; limit = a.limit.now } in
-    stated a.sample a.n b (narrow (goal.at.returns-in-Inside c).Start) _ (gathering_inside _ a.n _ _ (sym c.in-Inside.is ∙ c.measure-measured.ensures)) _
+pub returns : goal.returns
+returns c =
+    let s = (goal.at.returns c).Start in
+    stated c.args.sample c.args.n (lent s) (narrow s) _ (gathering_inside _ c.args.n _ _ (sym c.in_ok-measures.ensures.ok_part ∙ c.measure.ensures)) _
     (rw (clean c.ranges.n) at c.gather_measured.ensures)
-
-pub returns-in-Outside : goal.returns-in-Outside
-returns-in-Outside c =
-    let a = c.args in
-    let b : Lent (List ℤ) = record { low = a.low.now; high = a.high.now; from = a.from.now; to = a.to.now; limit = a.limit.now } in
-    stated a.sample a.n b (narrow (goal.at.returns-in-Outside c).Start) _ (gathering_outside _ a.n _ _ (sym c.in-Outside.is ∙ c.measure-measured.ensures)) _ refl

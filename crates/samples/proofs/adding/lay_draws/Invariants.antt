@@ -1,6 +1,6 @@
 -- The loop's invariant: the first i ends of both lists are the products with the draw, taken off 0.
 use mathlib.Core.List.{List}
-use Prim.Native.Nat.{ℕ, ◌-◌, ◌≤◌}
+use Prim.Native.Nat.{ℕ}
 use lib.IntN.{ℤ, pos, ◌-ℤ◌}
 use Rattle.tables.specs.Buffers.{Filled}
 use Rattle.samples.specs.Samples.{factor_count, between}
@@ -16,7 +16,4 @@ least low high i = least_product (between low high i) (between low high factor_c
 
 abbrev pub invariant-loop-i : goal.invariant-loop-i
 invariant-loop-i live =
-    (live.i ≤ factor_count) × Filled factor_count live.i (λ k. pos 0 -ℤ greatest live.low live.high k) live.a × Filled factor_count live.i (λ k. pos 0 -ℤ least live.low live.high k) live.b
-
-abbrev pub decreases-loop-i : goal.decreases-loop-i
-decreases-loop-i l = factor_count - l.i
+    Filled factor_count live.i (λ k. pos 0 -ℤ greatest live.low live.high k) live.a × Filled factor_count live.i (λ k. pos 0 -ℤ least live.low live.high k) live.b

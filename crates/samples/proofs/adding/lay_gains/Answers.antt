@@ -11,15 +11,6 @@ overflow_sub-result c =
     let square = clean_element c.least_square.result c.least_square.type_inv ∙ c.least_square.ensures in
     rw square (negated_fits (least_square_within (near-read c.args.m c.requires.0) {i = factor_count} (omega arith)))
 
-pub lay_products-requires : goal.lay_products-requires
-lay_products-requires c = (near-read c.args.m c.requires.0, c.requires.1.low, c.requires.1.high)
-
-pub lay_draws-requires : goal.lay_draws-requires
-lay_draws-requires c = (near-read c.args.m c.requires.0, c.requires.1.linear_low, c.requires.1.linear_high)
-
-pub least_square-requires : goal.least_square-requires
-least_square-requires c = (near-read c.args.m c.requires.0, omega arith)
-
 pub returns : goal.returns
 unfolding gains
 returns c =

@@ -1,6 +1,6 @@
 -- The loop's invariant: the first k entries of both tables are the products.
 use mathlib.Core.List.{List}
-use Prim.Native.Nat.{ℕ, ◌*◌, ◌/◌, ◌%◌, ◌-◌, ◌≤◌}
+use Prim.Native.Nat.{ℕ, ◌*◌, ◌/◌, ◌%◌}
 use lib.IntN.{ℤ}
 use Rattle.tables.specs.Buffers.{Filled}
 use Rattle.samples.specs.Samples.{factor_count, between}
@@ -15,7 +15,4 @@ abbrev pub least : List ℤ → List ℤ → ℕ → ℤ
 least low high k = least_product (between low high (k / factor_count)) (between low high (k % factor_count))
 
 abbrev pub invariant-loop-k : goal.invariant-loop-k
-invariant-loop-k l = let s = factor_count * factor_count in (l.k ≤ s) × Filled s l.k (least l.low l.high) l.l × Filled s l.k (greatest l.low l.high) l.u
-
-abbrev pub decreases-loop-k : goal.decreases-loop-k
-decreases-loop-k l = factor_count * factor_count - l.k
+invariant-loop-k l = let s = factor_count * factor_count in Filled s l.k (least l.low l.high) l.l × Filled s l.k (greatest l.low l.high) l.u

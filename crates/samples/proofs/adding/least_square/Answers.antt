@@ -4,16 +4,6 @@ use Rattle.tables.specs.Matrix.{nth}
 use Rattle.samples.proofs.Near.{product_fits}
 use Rattle.samples.proofs.adding.least_square.Goals as goal
 
-pub overflow_mul-a : goal.overflow_mul-a
-overflow_mul-a c =
-    let n = c.requires.0.low c.args.i c.requires.1 in
-    rw (clean_element (nth c.args.low.now c.args.i) (omega arith)) (product_fits n n)
-
-pub overflow_mul-b : goal.overflow_mul-b
-overflow_mul-b c =
-    let n = c.requires.0.high c.args.i c.requires.1 in
-    rw (clean_element (nth c.args.high.now c.args.i) (omega arith)) (product_fits n n)
-
 pub returns : goal.returns
 returns c =
     let a = c.args in

@@ -1,6 +1,6 @@
 -- The loop's invariant: the entries of row i before j are scaled.
 use mathlib.Core.Path.{◌≡◌}
-use Prim.Native.Nat.{◌+◌, ◌*◌, ◌-◌, ◌≤◌}
+use Prim.Native.Nat.{◌+◌, ◌*◌}
 use lib.ListN.{length}
 use Rattle.tables.specs.Ranges.{table_room}
 use Rattle.tables.specs.Matrix.{at}
@@ -8,7 +8,4 @@ use Rattle.scaling.specs.Scratch.{scale_in, Part}
 use Rattle.scaling.proofs.rescaling.scale_row.Given as goal
 
 abbrev pub invariant-loop-j : goal.invariant-loop-j
-invariant-loop-j l = (l.j ≤ l.n) × (length l.t ≡ table_room) × Part l.n (scale_in l.x) (at l.n l.initial.t) (l.i * l.n) (l.i * l.n + l.j) l.t
-
-abbrev pub decreases-loop-j : goal.decreases-loop-j
-decreases-loop-j l = l.n - l.j
+invariant-loop-j l = (length l.t ≡ table_room) × Part l.n (scale_in l.x) (at l.n l.initial.t) (l.i * l.n) (l.i * l.n + l.j) l.t

@@ -1,43 +1,37 @@
 use mathlib.Core.Path.{◌≡◌, refl, sym}
 use mathlib.Core.Bool.{false≢true}
-use Prim.Native.Nat.{suc, ◌+◌, ◌*◌}
+use Prim.Native.Nat.{suc, ◌+◌}
 use native.Mathlib.Omega.{arith}
 use Rattle.tables.proofs.Checks.{call_true, call_false}
-use Rattle.scaling.proofs.Parts.{part_none, part_join, part_range, row_leaves, all_stay}
+use Rattle.scaling.proofs.Parts.{part_join, part_range, row_leaves, all_stay}
 use Rattle.scaling.proofs.rescaling.scale_table.Goals as goal
-
-pub loop-i-init : goal.loop-i-init
-loop-i-init c = let e : 0 * c.args.n ≡ 0 = omega arith in (omega arith, c.requires.3, rw e (part_none c.args.t.now 0))
 
 pub scale_row-requires : goal.scale_row-requires
 scale_row-requires c =
     let p = c.requires in
     let l = c.loop-i in
-    (p.0, c.loop-i-test.true, p.1, part_range _ p.2 l.invariant.2, l.invariant.1)
+    (p.0, c.loop-i-test.true, p.1, part_range _ p.2 l.invariant.1, l.invariant.0)
 
 pub returns-then-not-scale_row : goal.returns-then-not-scale_row
 returns-then-not-scale_row c =
     let r = c.scale_row.ensures in
     let l = c.loop-i in
     record {
-      answered = sym (row_leaves l.i c.loop-i-test.true l.invariant.2 (call_false r.answered c.if-not-scale_row.true-raw));
+      answered = sym (row_leaves l.i c.loop-i-test.true l.invariant.1 (call_false r.answered c.if-not-scale_row.true-raw));
       size = r.size;
       part = λ e. absurd (false≢true e);
     }
-
-pub overflow_add-i : goal.overflow_add-i
-overflow_add-i c = omega (arith, c.requires.0, c.loop-i-test.true)
 
 pub loop-i-preserved : goal.loop-i-preserved
 loop-i-preserved c =
     let r = c.scale_row.ensures in
     let l = c.loop-i in
     let n = c.args.n in
-    (omega (arith, c.loop-i-test.true), r.size, let e : suc l.i ≡ l.i + 1 = omega arith in rw (← e) (part_join (omega arith) (omega arith) l.invariant.2 (r.part (call_true refl c.if-not-scale_row.false-raw))))
+    (r.size, let e : suc l.i ≡ l.i + 1 = omega arith in rw (← e) (part_join (omega arith) (omega arith) l.invariant.1 (r.part (call_true refl c.if-not-scale_row.false-raw))))
 
 pub returns : goal.returns
 returns c =
     let l = c.loop-i in
     let e : l.i ≡ c.args.n = omega arith in
-    let p = rw e at l.invariant.2 in
-    record { answered = sym (all_stay p); size = l.invariant.1; part = λ _. p }
+    let p = rw e at l.invariant.1 in
+    record { answered = sym (all_stay p); size = l.invariant.0; part = λ _. p }

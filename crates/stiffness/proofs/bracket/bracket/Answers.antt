@@ -2,35 +2,17 @@ use mathlib.Core.Path.{◌≡◌, refl, sym, ap, ◌∙◌}
 use mathlib.Core.Bool.{Bool, true}
 use Prim.Native.Nat.{◌*◌}
 use native.Mathlib.Omega.{arith}
-use borrow.Author.Rules.{rules}
 use lib.ListN.{length}
 use Rattle.integers.proofs.Machine.{clean}
 use Rattle.tables.specs.Checks.{order_of, sizes_ok}
 use Rattle.tables.specs.Entering.{Entered}
-use Rattle.tables.proofs.Answers.{exactly}
+use Rattle.tables.proofs.Answers.{exactly, handed_on}
 use Rattle.tables.proofs.Checks.{sizes-of}
-use Rattle.tables.proofs.Admission.{order_fits, order-positive, no-order, came-through, entered-refused, entered-passed}
+use Rattle.tables.proofs.Admission.{order_fits, order-positive, no-order, order-passed, order-refused, came-through, entered-refused, entered-passed}
 use Rattle.stiffness.specs.Bracket.{Bracketing, refused, Bracketed, written, bracketing, bracket, Meaning}
 use Rattle.stiffness.proofs.Meanings.{bracketing-means}
-use Rattle.stiffness.proofs.bracket.bracket.Lts as lts
-use Rattle.stiffness.proofs.bracket.bracket.Tie as tie
-use Rattle.stiffness.proofs.bracket.bracket.Reads as reads
 use Rattle.stiffness.proofs.bracket.bracket.Goals as goal
-
-abbrev After-enter : Type 0
-After-enter = lts.After-enter tie.the-claims reads.Pre reads.Post tie.handed_clauses
-
-abbrev After-order_of : Type 0
-After-order_of = lts.After-order_of tie.the-claims reads.Pre reads.Post tie.handed_clauses
-
-abbrev After-sizes_ok : Type 0
-After-sizes_ok = lts.After-sizes_ok tie.the-claims reads.Pre reads.Post tie.handed_clauses
-
-abbrev Start : Type 0
-Start = lts.Start tie.the-claims reads.Pre reads.Post tie.handed_clauses
-
-order : (c : After-order_of) → c.order_of-m.result ≡ order_of c.args.n
-order c = rw (clean c.ranges.n) at c.order_of-m.ensures
+use Rattle.stiffness.proofs.bracket.bracket.Goals.{Start, After-sizes_ok-sized, After-enter}
 
 -- what check 2 finds
 abbrev sizes : Start → Bool
@@ -39,13 +21,13 @@ sizes s =
     let k = order_of a.n in
     sizes_ok (k * k) k (length a.low.now) (length a.high.now) (length a.vector.now)
 
-sized : (c : After-sizes_ok) → c.sizes_ok-sized.result ≡ sizes c.before.before.before
-sized c = rw (order c.before.before) at c.sizes_ok-sized.ensures
+sized : (c : After-sizes_ok-sized) → c.sizes_ok-sized.result ≡ sizes (goal.at.After-sizes_ok-sized c).Start
+sized c = rw (order-passed c.ranges.n c.in_ok-m.ensures).0 at c.sizes_ok-sized.ensures
 
 -- the door, with what it found
-came : (c : After-enter) → let a = c.args in
-    Entered a.n (sizes c.before.before.before.before.before.before) true a.low.now a.high.now c.enter-checked.result c.enter-checked.new.l c.enter-checked.new.u
-came c = rw (clean c.ranges.n, sized c.before.before.before) at c.enter-checked.ensures
+came : (c : After-enter) → let s = (goal.at.After-enter c).Start in
+    Entered s.args.n (sizes s) true s.args.low.now s.args.high.now c.enter.result c.enter.new.l c.enter.new.u
+came c = rw (clean c.ranges.n, sized (goal.at.After-enter c).After-sizes_ok-sized) at c.enter.ensures
 
 -- what an answer means
 abbrev means : Start → Bracketed → Type 0
@@ -59,35 +41,44 @@ shown s = let a = s.args in bracketing-means a.n _ a.low.now a.high.now a.vector
 abbrev given : Start → Bracketing → Bracketed
 given s g = written g s.args.vector.now
 
-pub returns-then-m-eq0 : goal.returns-then-m-eq0
+pub returns-in_err-m-clause-exact : goal.returns-in_err-m-clause-exact
 unfolding bracket bracketing
-returns-then-m-eq0 c = exactly (means c.before.before) (shown c.before.before) _ (ap (given c.before.before) (no-order _ _ _ _ _ refused _ (sym (order c.before) ∙ c.if-m-eq0.true)))
+returns-in_err-m-clause-exact c =
+    let s = (goal.at.returns-in_err-m-clause-exact c).Start in
+    let o = order-refused c.ranges.n c.in_err-m.ensures in
+    rw (handed_on c.from_residual.ensures.1, o.0) (ap (given s) (no-order _ _ _ _ _ refused _ o.1))
 
 pub overflow_mul-m : goal.overflow_mul-m
-unfolding bracket bracketing
-overflow_mul-m c = record { fits = omega (arith, order_fits _ (order c.before)) }
+overflow_mul-m c = record { fits = omega (arith, order_fits _ (order-passed c.ranges.n c.in_ok-m.ensures).0) }
 
-pub enter-checked-requires : goal.enter-checked-requires
-unfolding bracket bracketing
-enter-checked-requires c =
-    ((λ s. rw (clean c.ranges.n) (let z = sizes-of _ _ _ _ _ (sym (sized c.before.before) ∙ s) in (z.0, z.1))), refl, refl)
+pub enter-requires : goal.enter-requires
+enter-requires c = (
+  (λ s. rw (clean c.ranges.n) (let z = sizes-of _ _ _ _ _ (sym (sized (goal.at.enter-requires c).After-sizes_ok-sized) ∙ s) in (z.0, z.1))),
+  refl,
+  refl,
+)
 
-pub returns-in-Refused : goal.returns-in-Refused
+pub returns-in_err-enter-clause-exact : goal.returns-in_err-enter-clause-exact
 unfolding bracket bracketing
-returns-in-Refused c =
-    exactly (means c.before.before.before.before.before.before.before) (shown c.before.before.before.before.before.before.before) _ (ap (given c.before.before.before.before.before.before.before) (entered-refused _ _ _ _ _ refused _ (came c.before) c.in-Refused.is))
+returns-in_err-enter-clause-exact c =
+    let s = (goal.at.returns-in_err-enter-clause-exact c).Start in
+    let d = came (goal.at.returns-in_err-enter-clause-exact c).After-enter in
+    rw (handed_on c.from_residual-in_err-enter.ensures.1) (ap (given s) (entered-refused _ _ _ _ _ refused _ d c.in_err-enter.was))
 
 pub bracket_bounds-requires : goal.bracket_bounds-requires
-unfolding bracket bracketing
 bracket_bounds-requires c =
-    let q = c.in_default.is in
-    let b = came-through _ _ _ _ _ (came c.before.before.before.before) q in
-    rw (order c.before.before.before.before.before.before.before.before.before) (((came c.before.before.before.before).held q).tables, order-positive _ b.ordered, (sizes-of _ _ _ _ _ b.sizes).2)
+    let d = came (goal.at.bracket_bounds-requires c).After-enter in
+    let q = c.in_ok-enter.was in
+    let b = came-through _ _ _ _ _ d q in
+    rw (order-passed c.ranges.n c.in_ok-m.ensures).0 ((d.held q).tables, order-positive _ b.ordered, (sizes-of _ _ _ _ _ b.sizes).2)
 
 pub returns : goal.returns
 unfolding bracket bracketing
 returns c =
-    let q = c.in_default.is in
-    let h = (came c.before.before.before.before.before.before).held q in
-    exactly (means c.before.before.before.before.before.before.before.before.before.before.before.before) (shown c.before.before.before.before.before.before.before.before.before.before.before.before) _
-    ((rw (order c.before.before.before.before.before.before.before.before.before.before.before, h.low, h.high) at c.bracket_bounds.ensures) ∙ ap (given c.before.before.before.before.before.before.before.before.before.before.before.before) (entered-passed _ _ _ _ _ refused _ (came c.before.before.before.before.before.before) q))
+    let s = (goal.at.returns c).Start in
+    let d = came (goal.at.returns c).After-enter in
+    let q = c.in_ok-enter.was in
+    let h = d.held q in
+    exactly (means s) (shown s) _
+    ((rw ((order-passed c.ranges.n c.in_ok-m.ensures).0, h.low, h.high) at c.bracket_bounds.ensures)
+    ∙ ap (given s) (entered-passed _ _ _ _ _ refused _ d q))

@@ -1,6 +1,5 @@
 use mathlib.Core.Path.{◌∙◌}
 use native.Mathlib.Omega.{arith}
-use borrow.Author.Rules.{rules}
 use Rattle.tables.proofs.Buffers.{copied-whole}
 use Rattle.stiffness.proofs.Stating.{stated-written}
 use Rattle.stiffness.proofs.bracket.bracket_bounds.Goals as goal

@@ -1,15 +1,12 @@
 -- One less than the upper number, or the middle: between the two either way.
 use mathlib.Core.List.{[], ◌∷◌}
-use Prim.Native.Nat.{◌+◌}
 use native.Mathlib.Omega.{arith}
-use borrow.Author.Rules.{rules}
 use lib.IntN.{ℤ, pos, ◌+ℤ◌}
 use lib.Signed.{◌<ℤ◌}
 use Rattle.integers.specs.Division.{floor_div}
 use Rattle.integers.proofs.Division.{floor_law}
 use Rattle.integers.proofs.Solver.{◌&◌, none, order, solver}
-use Rattle.integers.proofs.Machine.{clean, clean_result, fits_within, within-+, within_in, within_low, within-high, clean_element}
-use Rattle.lookahead.specs.Pairs.{under_range}
+use Rattle.integers.proofs.Machine.{clean, fits_within, within-+, clean_element}
 use Rattle.stiffness.specs.Descent.{Inside}
 use Rattle.stiffness.proofs.least_bound.next.Goals as goal
 
@@ -22,23 +19,8 @@ middle {a} {b} h =
       high = order (a ∷ b ∷ q ∷ []) (f.low & h) (search solver depth 40 fits 20000) (omega arith);
     }
 
-pub overflow_sub-result : goal.overflow_sub-result
-overflow_sub-result c =
-    let w = c.requires.1 in
-    rw (clean c.ranges.v)
-    (fits_within {m = under_range + 2} (within_in (order (c.args.v ∷ []) (within_low w) (search solver depth 40 fits 20000) (omega arith))
-    (order (c.args.v ∷ []) (within-high w) (search solver depth 40 fits 20000) (omega arith))) (omega arith))
-
 pub overflow_add-below : goal.overflow_add-below
 overflow_add-below c = rw (clean c.ranges.below, clean c.ranges.v) (fits_within (within-+ c.requires.0 c.requires.1) (omega arith))
-
-pub returns-then-left-gt0 : goal.returns-then-left-gt0
-returns-then-left-gt0 c =
-    let a = c.args in
-    rw (clean (overflow_sub-result c), clean c.ranges.v) (record {
-      low = order (a.below ∷ a.v ∷ []) c.requires.2.high (search solver depth 40 fits 20000) (omega arith);
-      high = order (a.v ∷ []) none (search solver depth 40 fits 20000) (omega arith);
-    })
 
 pub returns : goal.returns
 returns c =

@@ -1,24 +1,10 @@
 use mathlib.Core.Path.{◌∙◌}
-use native.Mathlib.Omega.{arith}
-use Rattle.integers.proofs.Machine.{clean_result, within_more, within-*, clean_element}
+use Rattle.integers.proofs.Machine.{clean_result, clean_element}
 use Rattle.tables.proofs.Forms.{norm_positive}
 use Rattle.tables.specs.Matrix.{norm_squared}
 use Rattle.stiffness.specs.Bracket.{quotient}
 use Rattle.stiffness.proofs.Descending.{least-small}
 use Rattle.stiffness.proofs.least_bound.quotient.Goals as goal
-
-pub least_value-requires : goal.least_value-requires
-unfolding quotient norm_squared
-least_value-requires c = let p = c.requires in record { tables = p.0; vector-length = p.1.room; entries = λ i h. within_more (omega arith) (p.1.small i h) }
-
-pub product_sum-requires : goal.product_sum-requires
-unfolding quotient norm_squared
-product_sum-requires c = let p = c.requires in record {
-  order = p.0.order;
-  first-length = p.1.room;
-  second-length = p.1.room;
-  products = λ i h. within_more (omega arith) (within-* (p.1.small i h) (p.1.small i h));
-}
 
 pub ceil_div-requires : goal.ceil_div-requires
 unfolding quotient norm_squared

@@ -2,14 +2,12 @@
 use mathlib.Core.Path.{◌≡◌, sym, ap, ◌∙◌}
 use mathlib.Core.List.{List}
 use Prim.Native.Nat.{ℕ}
-use borrow.Author.Rules.{rules}
 use lib.IntN.{ℤ}
 use Rattle.integers.proofs.Machine.{clean_element}
 use Rattle.tables.specs.Matrix.{at}
 use Rattle.stiffness.specs.Bracket.{Bracketing, bracketed}
 use Rattle.stiffness.specs.Descent.{stated, Stated}
 use Rattle.stiffness.specs.declared.bracket.Stiffness.{Stiffness}
-use Rattle.stiffness.specs.declared.bracket.Stiffness.TheVariants as Stiffness
 use Rattle.buffers.proofs.Stores.{number-stored}
 use Rattle.stiffness_buffers.specs.StiffnessBuffers.{StoredStiffness, stored_stiffness}
 use Rattle.stiffness_buffers.proofs.bracketing.bracket_bounds.Lts as lts
@@ -48,8 +46,3 @@ returns-in-AtMost c =
     let v = c.in-AtMost.v in
     rw (c.store_bound-in-AtMost.ensures.0, c.store_bound-in-AtMost.ensures.1, clean_element v c.in-AtMost.known_told-in-AtMost-1-own.given.0.1)
     (made (given c.before.before.before.before.before.before.before.before.before.before.before.before.before.before.before) {g = of c.before.before.before.before.before.before.before.before.before.before.before.before.before.before.before} c.find-found.ensures (Stiffness.AtMost v) c.in-AtMost.is)
-
-pub returns-in-Refused : goal.returns-in-Refused
-unfolding stated
-returns-in-Refused c =
-    made (given c.before.before.before.before.before.before.before) {g = of c.before.before.before.before.before.before.before} c.find-found.ensures (Stiffness.Refused c.in-Refused.r) c.in-Refused.is

@@ -1,5 +1,4 @@
 use native.Mathlib.Omega.{arith}
-use borrow.Author.Rules.{rules}
 use borrow.Author.Tests.{eq-eqb, ne_eqb}
 use Rattle.tables.proofs.Matrix.{table_fits}
 use Rattle.stiffness_buffers.specs.StiffnessBuffers.{stiffness_buffers}

@@ -1,5 +1,4 @@
 use mathlib.Core.Path.{◌∙◌}
-use borrow.Author.Rules.{rules}
 use Rattle.integers.proofs.Machine.{clean}
 use Rattle.buffers.proofs.Stores.{numbers-stored, number-stored}
 use Rattle.stiffness_buffers.proofs.bracketing.store_bound.Goals as goal

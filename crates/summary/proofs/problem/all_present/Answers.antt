@@ -1,25 +1,20 @@
-use mathlib.Core.Path.{◌≡◌, sym, ap}
+use mathlib.Core.Path.{◌≡◌, ap, ◌∙◌}
 use native.Mathlib.Omega.{arith}
-use lib.Dec.{ltb}
-use lib.ListN.{get_or}
-use borrow.Author.Tests.{lt-ltb}
+use lib.ListN.{length, get_or}
+use Rattle.std.proofs.Common.{rules, tests}
+use Rattle.std.specs.Prelude.{None, is_some}
+use Rattle.std.proofs.lemmas.Iterator.{YieldsList-from_slice}
+use Rattle.std.proofs.lemmas.Iterator.Search.{all_from_yields_List}
+use Rattle.tables.specs.Checks.{all}
 use Rattle.fields.specs.Fields.{kind_count}
-use Rattle.tables.proofs.Checks.{all_none, all_more, all_false}
 use Rattle.summary.specs.Problems.{all_present}
+use Rattle.summary.proofs.Tests.{all-list_all}
 use Rattle.summary.proofs.problem.all_present.Goals as goal
-
-pub loop-place-init : goal.loop-place-init
-unfolding all_present
-loop-place-init c = (omega arith, all_none _)
-
-pub returns-then-starts-place-eq0 : goal.returns-then-starts-place-eq0
-unfolding all_present
-returns-then-starts-place-eq0 c = sym (all_false _ kind_count c.loop-place.place (omega arith) (ap (ltb 0) c.if-starts-place-eq0.true))
-
-pub loop-place-preserved : goal.loop-place-preserved
-unfolding all_present
-loop-place-preserved c = let l = c.loop-place in (omega arith, all_more _ l.place l.invariant.1 (lt-ltb 0 (get_or c.args.layout.starts l.place 0) (omega arith)))
 
 pub returns : goal.returns
 unfolding all_present
-returns c = let e : c.loop-place.place ≡ kind_count = omega arith in sym (rw e at c.loop-place.invariant.1)
+returns c =
+    let parts = c.args.layout.parts in
+    let r = all_from_yields_List is_some _ _ c.all.result c.all.ensures.ran (YieldsList-from_slice parts cc) (λ x b q k. search (rules, tests)) in
+    let l : length parts ≡ kind_count = omega arith in
+    r ∙ all-list_all None is_some parts ∙ ap (λ n. all n (λ k. is_some (get_or parts k None))) l

@@ -4,7 +4,7 @@ use mir.Val.{to_z}
 use borrow.Author.Tests.{eq-eqb, ne_eqb}
 use Rattle.integers.proofs.Machine.{read_i64}
 use Rattle.tables.specs.Checks.{order_ok, first_refusal}
-use Rattle.tables.specs.declared.Checked.TheVariants.{Passed, Refused}
+use Rattle.std.specs.Prelude.{Ok, Err}
 use Rattle.tables.specs.declared.Refusal.TheVariants.{Order, Absent, Size}
 use Rattle.tables.proofs.Checks.{first-none, first_passes, first-refuses, order-of}
 use Rattle.fields.specs.declared.field.Kind.TheVariants as Kind
@@ -19,26 +19,26 @@ found {n} s l h e q = sym (rw (read_i64 n (omega arith), e) at q)
 
 -- where 13 is the first to refuse; 14 of tag 01; 1; and the last check decides
 module _ (s : List ℕ) (l : Layout) where
-  absent : all_present l ≡ false → Refused Absent ≡ first_refusal (field_checks s l)
+  absent : all_present l ≡ false → Err Absent ≡ first_refusal (field_checks s l)
   unfolding field_checks
   absent a = sym (first-refuses _ _ a)
 
   module _ (a : all_present l ≡ true) where
-    unsized : eqb (length_of l Kind.Order) 1 ≡ false → Refused Size ≡ first_refusal (field_checks s l)
+    unsized : eqb (length_of l Kind.Order) 1 ≡ false → Err Size ≡ first_refusal (field_checks s l)
     unfolding field_checks
     unsized b = sym (first_passes _ _ a ∙ first-refuses _ _ b)
 
     module _ (b : eqb (length_of l Kind.Order) 1 ≡ true) where
-      disordered : order_ok (pos (order_in s l)) ≡ false → Refused Order ≡ first_refusal (field_checks s l)
+      disordered : order_ok (pos (order_in s l)) ≡ false → Err Order ≡ first_refusal (field_checks s l)
       unfolding field_checks
       disordered o = sym (first_passes _ _ a ∙ first_passes _ _ b ∙ first-refuses _ _ o)
 
       module _ (o : order_ok (pos (order_in s l)) ≡ true) where
-        passed : lengths_ok l (order_in s l) ≡ true → Passed ≡ first_refusal (field_checks s l)
+        passed : lengths_ok l (order_in s l) ≡ true → Ok tt ≡ first_refusal (field_checks s l)
         unfolding field_checks
         passed k = sym (first_passes _ _ a ∙ first_passes _ _ b ∙ first_passes _ _ o ∙ first_passes _ _ k ∙ first-none)
 
-        missized : lengths_ok l (order_in s l) ≡ false → Refused Size ≡ first_refusal (field_checks s l)
+        missized : lengths_ok l (order_in s l) ≡ false → Err Size ≡ first_refusal (field_checks s l)
         unfolding field_checks
         missized k = sym (first_passes _ _ a ∙ first_passes _ _ b ∙ first_passes _ _ o ∙ first-refuses _ _ k)
 

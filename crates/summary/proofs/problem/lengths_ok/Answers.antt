@@ -1,34 +1,21 @@
-use mathlib.Core.Path.{◌≡◌, sym, ap, ◌∙◌}
-use mathlib.Core.List.{List}
-use Prim.Native.Nat.{ℕ}
-use native.Mathlib.Omega.{arith}
-use borrow.Author.Tests.{eq-eqb, ne_eqb}
-use lib.Dec.{eqb}
-use lib.ListN.{get_or}
-use Rattle.tables.specs.Checks.{all}
-use Rattle.tables.proofs.Checks.{all_none, all_more, all_false}
-use Rattle.fields.specs.declared.layout.Layout.{Layout}
+use Rattle.std.proofs.Common.{◌≡◌, ◌∙◌, ap, ℕ, map, length, get_or, eqb, arith}
+use Rattle.std.specs.Prelude.{None}
+use Rattle.std.proofs.Math.ListN.{length-map, get_or-map}
 use Rattle.fields.specs.Fields.{kind_count}
+use Rattle.fields.specs.Layouts.{length_in}
+use Rattle.tables.specs.Checks.{all}
+use Rattle.tables.proofs.Checks.{all_ext}
 use Rattle.summary.specs.Problems.{lengths_for, lengths_ok}
+use Rattle.summary.proofs.Tests.{all-pointwise}
 use Rattle.summary.proofs.problem.lengths_ok.Goals as goal
 
-as_called : (l : Layout) (n : ℕ) {called : List ℕ} → called ≡ lengths_for n
-    → all kind_count (λ i. eqb (get_or l.lengths i 0) (get_or called i 0)) ≡ lengths_ok l n
-unfolding lengths_ok
-as_called l n e = ap (λ (called : List ℕ). all kind_count (λ i. eqb (get_or l.lengths i 0) (get_or called i 0))) e
-
-pub loop-k-init : goal.loop-k-init
-loop-k-init c = (omega arith, all_none _)
-
-pub returns-then-lengths-k : goal.returns-then-lengths-k
-returns-then-lengths-k c =
-    let l = c.loop-k in
-    sym (all_false _ kind_count l.k (omega arith) (ne_eqb _ _ c.if-lengths-k.true)) ∙ as_called _ _ c.lengths_for-called.ensures
-
-pub loop-k-preserved : goal.loop-k-preserved
-loop-k-preserved c = let l = c.loop-k in (omega arith, all_more _ l.k l.invariant.1 (eq-eqb _ _ c.if-lengths-k.false))
-
 pub returns : goal.returns
+unfolding lengths_ok
 returns c =
-    let e : c.loop-k.k ≡ kind_count = omega arith in
-    sym (rw e at c.loop-k.invariant.1) ∙ as_called _ _ c.lengths_for-called.ensures
+    let parts = c.args.layout.parts in
+    let lengths = map length_in parts in
+    let called = lengths_for c.args.n in
+    let long : length lengths ≡ kind_count = omega (arith, length-map parts length_in) in
+    rw (c.lengths.ensures, c.lengths_for.ensures) at c.eq.ensures ∙ all-pointwise lengths called long
+    ∙ ap (λ (m : ℕ). all m (λ k. eqb (get_or lengths k 0) (get_or called k 0))) long
+    ∙ all_ext kind_count _ _ (λ k h. ap (λ (n : ℕ). eqb n (get_or called k 0)) (get_or-map length_in parts k None))

@@ -6,10 +6,10 @@ use Rattle.tables.specs.Entering.{Mended}
 use Rattle.tables.specs.Problem.{problem_of, problem_checks, problem_within, constraint_ends}
 use Rattle.tables.specs.declared.problem.Problem.{Problem}
 use Rattle.tables.specs.declared.Refusal.{Refusal}
-use Rattle.tables.specs.declared.Checked.{Checked}
-use Rattle.tables.specs.declared.Checked.TheVariants.{Passed, Refused}
+use Rattle.tables.specs.Checks.{Checked}
+use Rattle.std.specs.Prelude.{Ok, Err}
+use Rattle.tables.proofs.Answers.{handed_on}
 use Rattle.tables.proofs.Checks.{more-checks, no-more-checks}
-use Rattle.tables.proofs.Matrix.{table_fits}
 use Rattle.summary.proofs.problem.mend_problem.Goals as goal
 
 -- what is left of a problem's checks once its tables are checked
@@ -20,7 +20,7 @@ module _ (p : Problem) (k : Checked) (l u : List ℤ) where
   abbrev Done : Checked → Type 0
   Done k = let d = p.constraint in Mended (problem_checks p) d.order d.low d.high k l u
 
-  passed : Laid k → k ≡ Passed → {e : Checked} → e ≡ first_refusal (constraint_ends p.constraint) → Done e
+  passed : Laid k → k ≡ Ok tt → {e : Checked} → e ≡ first_refusal (constraint_ends p.constraint) → Done e
   passed m q a =
       record {
         answered = a ∙ sym (more-checks _ _ (sym m.answered ∙ q));
@@ -30,7 +30,7 @@ module _ (p : Problem) (k : Checked) (l u : List ℤ) where
         high = λ _. m.high q;
       }
 
-  refused : {r : Refusal} → Laid k → k ≡ Refused r → Done (Refused r)
+  refused : {r : Refusal} → Laid k → k ≡ Err r → Done (Err r)
   refused m q =
       record {
         answered = sym (no-more-checks _ _ _ (sym m.answered ∙ q));
@@ -40,17 +40,14 @@ module _ (p : Problem) (k : Checked) (l u : List ℤ) where
         high = λ e. cc e;
       }
 
-pub check_laid-checked-requires : goal.check_laid-checked-requires
-check_laid-checked-requires c = let z = c.requires in (z.order, table_fits z.order, record { low-size = z.low; high-size = z.high })
-
-pub returns-in-Passed : goal.returns-in-Passed
-returns-in-Passed c =
+pub returns-in_err-check_laid : goal.returns-in_err-check_laid
+returns-in_err-check_laid c =
     let a = c.args in
-    let m = rw (rw (clean c.ranges.limit) at c.sized_within-within.ensures) at c.check_laid-checked.ensures in
-    passed (problem_of a.n a.low.now a.high.now a.from.now a.to.now a.limit a.centre.now) _ _ _ m c.in-Passed.is c.check_ends.ensures
+    let m = rw (rw (clean c.ranges.limit) at c.sized_within-within.ensures) at c.check_laid.ensures in
+    rw (handed_on c.from_residual.ensures.1) (refused (problem_of a.n a.low.now a.high.now a.from.now a.to.now a.limit a.centre.now) _ _ _ m c.in_err-check_laid.was)
 
-pub returns-in-Refused : goal.returns-in-Refused
-returns-in-Refused c =
+pub returns : goal.returns
+returns c =
     let a = c.args in
-    let m = rw (rw (clean c.ranges.limit) at c.sized_within-within.ensures) at c.check_laid-checked.ensures in
-    refused (problem_of a.n a.low.now a.high.now a.from.now a.to.now a.limit a.centre.now) _ _ _ m c.in-Refused.is
+    let m = rw (rw (clean c.ranges.limit) at c.sized_within-within.ensures) at c.check_laid.ensures in
+    passed (problem_of a.n a.low.now a.high.now a.from.now a.to.now a.limit a.centre.now) _ _ _ m c.in_ok-check_laid.was c.check_ends.ensures

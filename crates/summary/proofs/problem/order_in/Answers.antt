@@ -1,18 +1,15 @@
-use mathlib.Core.Path.{sym}
-use native.Mathlib.Omega.{arith}
-use lib.ListN.{get_or-eq_default}
-use Rattle.fields.specs.declared.field.Kind.TheVariants as Kind
+use mathlib.Core.Path.{ap, ◌∙◌}
+use mathlib.Core.List.{List}
+use Prim.Native.Nat.{ℕ}
+use lib.ListN.{get_or}
+use Rattle.std.specs.Prelude.{Option}
+use Rattle.std.specs.Option.{unwrap_or}
+use Rattle.std.proofs.lemmas.Option.{unwrap_or-slice_get}
 use Rattle.summary.specs.Problems.{order_in}
 use Rattle.summary.proofs.problem.order_in.Goals as goal
 
-pub content-part-requires : goal.content-part-requires
-unfolding order_in
-content-part-requires c = c.requires.ends Kind.Order
-
-pub returns-then-part-eq0 : goal.returns-then-part-eq0
-unfolding order_in
-returns-then-part-eq0 c = let p = c.content-part in rw (sym p.ensures) (sym (get_or-eq_default p.result.now 0 {n = 0} (omega arith)))
-
 pub returns : goal.returns
 unfolding order_in
-returns c = rw c.content-part.ensures
+returns c =
+    c.unwrap_or.ensures ∙ ap (λ (o : Option ℕ). unwrap_or o 0) (c.copied.ensures ∙ c.first.ensures.value)
+    ∙ unwrap_or-slice_get c.content.result.now 0 0 ∙ ap (λ (t : List ℕ). get_or t 0 0) c.content.ensures

@@ -1,5 +1,4 @@
 -- The loop's invariant: the first k numbers of x have those of g added, and the others are as they were.
-use Prim.Native.Nat.{◌-◌, ◌≤◌}
 use lib.IntN.{◌+ℤ◌}
 use lib.ListN.{length}
 use Rattle.tables.specs.Matrix.{nth}
@@ -7,7 +6,4 @@ use Rattle.sums.proofs.InPlace.{Replaced}
 use Rattle.sums.proofs.adding.add_numbers.Given as goal
 
 abbrev pub invariant-loop-k : goal.invariant-loop-k
-invariant-loop-k live = (live.k ≤ live.count) × Replaced (length live.initial.x) live.k (λ i. nth live.initial.x i +ℤ nth live.g i) live.initial.x live.x
-
-abbrev pub decreases-loop-k : goal.decreases-loop-k
-decreases-loop-k l = l.count - l.k
+invariant-loop-k live = Replaced (length live.initial.x) live.k (λ i. nth live.initial.x i +ℤ nth live.g i) live.initial.x live.x

@@ -1,6 +1,13 @@
+use Rattle.tables.specs.Answers.{after}
+use Rattle.tables.proofs.Answers.{handed_on}
 use Rattle.sums.proofs.Checked.{mended_both}
 use Rattle.sums.proofs.checking.mend_sums.Goals as goal
 
+pub returns-in_err-mend_bounds : goal.returns-in_err-mend_bounds
+unfolding after
+returns-in_err-mend_bounds c =
+    mended_both _ _ (rw c.terms_in.ensures at c.in_err-mend_bounds.ensures) (handed_on c.from_residual.ensures.1)
+
 pub returns : goal.returns
-returns c =
-    mended_both _ _ (rw c.terms_in.ensures at c.mend_bounds-checked.ensures) c.ends_after.ensures
+unfolding after
+returns c = mended_both _ _ (rw c.terms_in.ensures at c.in_ok-mend_bounds.ensures) c.check_ends.ensures

@@ -1,10 +1,12 @@
-use mathlib.Core.Path.{sym, ap, ◌∙◌}
+use mathlib.Core.Path.{◌≡◌, sym, ap, ◌∙◌}
 use mathlib.Core.Bool.{Bool}
 use mathlib.Core.List.{List}
 use Prim.Native.Nat.{ℕ}
 use Rattle.integers.proofs.Machine.{clean}
 use Rattle.tables.specs.Checks.{order_of}
 use Rattle.tables.specs.declared.problem.Constraint.{Constraint}
+use Rattle.tables.specs.declared.Refusal.TheVariants.{Sample}
+use Rattle.tables.proofs.Answers.{handed_on}
 use Rattle.sums.specs.Sums.{Outcome}
 use Rattle.sums.specs.Lent.{Lent, Left}
 use Rattle.samples.specs.Samples.{factor_count}
@@ -32,16 +34,19 @@ posed c = spelled_sums (order_of c.args.n) (lent c)
 abbrev given : Start → Outcome → Left (List ℕ)
 given c o = stored_sums factor_count o (lent c)
 
+pub returns-in_err-measures : goal.returns-in_err-measures
+returns-in_err-measures c =
+    let s = (goal.at.returns-in_err-measures c).Start in
+    let e = c.in_err-measures.ensures in
+    let k : c.in_err-measures.field-0.0 ≡ Sample = (let v = rw e.ok_part at e.value in cc) in
+    rw (handed_on c.from_residual.ensures.1, k)
+    (ap (given s) (gathering_outside c.args.sample c.args.n (sized s) (posed s) (sym e.ok_part ∙ c.measure.ensures)))
+
 pub gather_measured-requires : goal.gather_measured-requires
-gather_measured-requires c = inside_near _ (narrow (goal.at.gather_measured-requires c).Start) (sym c.in-Inside.is ∙ c.measure-measured.ensures)
+gather_measured-requires c = inside_near _ (narrow (goal.at.gather_measured-requires c).Start) (sym c.in_ok-measures.ensures.ok_part ∙ c.measure.ensures)
 
-pub returns-in-Inside : goal.returns-in-Inside
-returns-in-Inside c =
-    let s = (goal.at.returns-in-Inside c).Start in
+pub returns : goal.returns
+returns c =
+    let s = (goal.at.returns c).Start in
     (rw (clean c.ranges.n) at c.gather_measured.ensures)
-    ∙ ap (given s) (gathering_inside c.args.sample c.args.n (sized s) (posed s) (sym c.in-Inside.is ∙ c.measure-measured.ensures))
-
-pub returns-in-Outside : goal.returns-in-Outside
-returns-in-Outside c =
-    let s = (goal.at.returns-in-Outside c).Start in
-    ap (given s) (gathering_outside c.args.sample c.args.n (sized s) (posed s) (sym c.in-Outside.is ∙ c.measure-measured.ensures))
+    ∙ ap (given s) (gathering_inside c.args.sample c.args.n (sized s) (posed s) (sym c.in_ok-measures.ensures.ok_part ∙ c.measure.ensures))

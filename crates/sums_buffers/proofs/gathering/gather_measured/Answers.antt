@@ -10,16 +10,18 @@ use mir.Val.{bytes}
 use Rattle.integers.proofs.Machine.{clean, clean_element}
 use Rattle.words.specs.Numbers.{bytes_of}
 use Rattle.tables.specs.Ranges.{limit_range}
-use Rattle.tables.specs.Checks.{order_of, within, first_refusal}
+use Rattle.tables.specs.Checks.{order_ok, order_of, within, first_refusal}
 use Rattle.tables.specs.Answers.{after}
 use Rattle.tables.specs.Problem.{constraint_of, lengths_of, constraint_ends, constraint_entered}
 use Rattle.tables.specs.declared.Refusal.TheVariants.{Order, Length}
 use Rattle.tables.specs.declared.problem.Constraint.{Constraint}
-use Rattle.tables.proofs.Admission.{no-order, no-sizes, order-given}
-use Rattle.sums.specs.Sums.{Outcome, refused, terms_in}
+use Rattle.tables.proofs.Admission.{no-order, no-sizes, order-positive, order-passed, order-refused}
+use Rattle.sums.specs.Sums.{Outcome, terms_in}
 use Rattle.sums.specs.Lent.{Lent}
 use Rattle.sums.specs.Required.{front, Stated}
-use Rattle.sums.specs.declared.Summed.{Summed}
+use Rattle.std.specs.Prelude.{Result, Err}
+use Rattle.tables.specs.declared.Refusal.{Refusal}
+use Rattle.tables.proofs.Answers.{handed_on}
 use Rattle.sums.proofs.Fronts.{constraint_by}
 use Rattle.sums.proofs.Laying.{stated_by, laid-taken, laid-refused}
 use Rattle.samples.specs.Samples.{factor_count, factor_of}
@@ -32,7 +34,7 @@ use Rattle.buffers.specs.Buffers.{table_of, vector_of, number_of, bytes_of_numbe
 use Rattle.buffers.proofs.Stores.{number-stored}
 use Rattle.sums_buffers.specs.SumsBuffers.{spelled_sums, SumsBytes, sums_buffers, stored_sums}
 use Rattle.sums_buffers.proofs.gathering.gather_measured.Goals as goal
-use Rattle.sums_buffers.proofs.gathering.gather_measured.Goals.{After-order_of-order, After-sums_sized, Else-not-sums_sized, After-load_sample, After-add_checked-summed}
+use Rattle.sums_buffers.proofs.gathering.gather_measured.Goals.{After-sums_sized, Else-not-sums_sized, After-load_sample, After-add_checked}
 
 -- the sums that are lent
 abbrev lent : List ℕ → List ℕ → List ℕ → List ℕ → List ℕ → Lent (List ℕ)
@@ -54,15 +56,15 @@ module _ (m : Measures) (n : ℤ) (b : Lent (List ℕ)) where
   others = terms_in (within limit_range posed.limit) posed
 
   abbrev act : Outcome
-  act = after refused (first_refusal (constraint_ends posed)) (added_within (factor_of m) m.draw posed)
+  act = after Err (first_refusal (constraint_ends posed)) (added_within (factor_of m) m.draw posed)
 
-  unordered : order_of n ≡ 0 → refused Order ≡ whole
+  unordered : order_of n ≡ 0 → Err Order ≡ whole
   unfolding constraint_entered
-  unordered e = no-order n sizes others posed.low posed.high refused act e
+  unordered e = no-order n sizes others posed.low posed.high Err act e
 
-  unsized : (order_of n ≡ 0 → ⊥) → sizes ≡ false → refused Length ≡ whole
+  unsized : (order_of n ≡ 0 → ⊥) → sizes ≡ false → Err Length ≡ whole
   unfolding constraint_entered
-  unsized h e = no-sizes n sizes others posed.low posed.high refused act h e
+  unsized h e = no-sizes n sizes others posed.low posed.high Err act h e
 
   module _ (passed : sizes ≡ true) where
     lengths : SumsSizes (bytes w64) (order_of n) (lengths_of (length b.low) (length b.high) (length b.from) (length b.to)) (length b.limit)
@@ -72,7 +74,7 @@ module _ (m : Measures) (n : ℤ) (b : Lent (List ℕ)) where
     lying = let z = lengths in record { low = z.low; high = z.high; linear_low = z.linear_low; linear_high = z.linear_high }
 
     -- loaded to arrays of a sample's order
-    states : (order_of n ≡ 0 → ⊥) → {l u f t : List ℤ} {α : ℤ} {r : Summed} {l' u' f' t' : List ℤ} → Arrays l u f t →
+    states : order_ok n ≡ true → {l u f t : List ℤ} {α : ℤ} {r : Result ℤ Refusal} {l' u' f' t' : List ℤ} → Arrays l u f t →
         (front (factor_count * factor_count) l ≡ table_of factor_count b.low) × (front (factor_count * factor_count) u ≡ table_of factor_count b.high)
         × (front factor_count f ≡ vector_of factor_count b.from) × (front factor_count t ≡ vector_of factor_count b.to) →
         α ≡ number_of b.limit → Stated factor_count (checked_sums (factor_of m) m.draw (constraint_of factor_count l u f t α)) r l' u' f' t' → Stated factor_count whole r l' u' f' t'
@@ -80,46 +82,43 @@ module _ (m : Measures) (n : ℤ) (b : Lent (List ℕ)) where
         let F = factor_of m in
         stated_by
         (ap (checked_sums F m.draw) (sym (arrays_front z _) ∙ constraint_by p.0 p.1 p.2 p.3 e)
-        ∙ ap (λ (k : ℕ). checked_sums F m.draw (spelled_sums k b)) (sym lengths.order) ∙ sums-sized F m.draw n sizes posed (order-given n h) passed refl)
+        ∙ ap (λ (k : ℕ). checked_sums F m.draw (spelled_sums k b)) (sym lengths.order) ∙ sums-sized F m.draw n sizes posed h passed refl)
 
 -- ---- in the code
-given : (c : After-order_of-order) → c.order_of-order.result ≡ order_of c.args.n
-given c = rw (clean c.ranges.n) at c.order_of-order.ensures
-
 found : (c : After-sums_sized) → let a = c.args in c.sums_sized.result ≡ sizes a.m a.n (lent a.low.now a.high.now a.from.now a.to.now a.limit.now)
-found c = rw (c.lengths_of-lengths.ensures, c.order_of-order.ensures, clean c.ranges.n) at c.sums_sized.ensures
+found c = rw (c.lengths_of-lengths.ensures, (order-passed c.ranges.n c.in_ok-order.ensures).0) at c.sums_sized.ensures
 
 passed : (c : Else-not-sums_sized) → let a = c.args in sizes a.m a.n (lent a.low.now a.high.now a.from.now a.to.now a.limit.now) ≡ true
-passed c = sym (rw (c.lengths_of-lengths.ensures, c.order_of-order.ensures, clean c.ranges.n) at c.sums_sized.ensures) ∙ c.if-not-sums_sized.false
+passed c = sym (rw (c.lengths_of-lengths.ensures, (order-passed c.ranges.n c.in_ok-order.ensures).0) at c.sums_sized.ensures) ∙ c.if-not-sums_sized.false
 
 loaded : (c : After-load_sample) → let o = c.load_sample.new in Arrays o.l o.u o.a o.b
 loaded c =
     let k = c.load_sample.auto in
     record { low = omega (arith, k.l); high = omega (arith, k.u); linear_low = omega (arith, k.a); linear_high = omega (arith, k.b) }
 
-summed : (c : After-add_checked-summed) → (let a = c.args in sizes a.m a.n (lent a.low.now a.high.now a.from.now a.to.now a.limit.now) ≡ true) → (let o = c.load_sample.new in Arrays o.l o.u o.a o.b) →
+summed : (c : After-add_checked) → (let a = c.args in sizes a.m a.n (lent a.low.now a.high.now a.from.now a.to.now a.limit.now) ≡ true) → (let o = c.load_sample.new in Arrays o.l o.u o.a o.b) →
     let a = c.args in
-    let o = c.add_checked-summed.new in
-    Stated factor_count (whole a.m a.n (lent a.low.now a.high.now a.from.now a.to.now a.limit.now)) c.add_checked-summed.result o.l o.u o.a o.b
+    let o = c.add_checked.new in
+    Stated factor_count (whole a.m a.n (lent a.low.now a.high.now a.from.now a.to.now a.limit.now)) c.add_checked.result o.l o.u o.a o.b
 summed c e z =
     let a = c.args in
     states a.m a.n (lent a.low.now a.high.now a.from.now a.to.now a.limit.now) e
-    (λ h. c.if-order-eq0.false (c.order_of-order.ensures ∙ rw (clean c.ranges.n) h)) z c.load_sample.ensures
-    (clean_element c.load_signed-running.result c.load_signed-running.type_inv ∙ c.load_signed-running.ensures) c.add_checked-summed.ensures
+    (order-passed c.ranges.n c.in_ok-order.ensures).1 z c.load_sample.ensures
+    (clean_element c.load_signed-running.result c.load_signed-running.type_inv ∙ c.load_signed-running.ensures) c.add_checked.ensures
 
-pub returns-then-order-eq0 : goal.returns-then-order-eq0
-returns-then-order-eq0 c =
+pub returns-in_err-order : goal.returns-in_err-order
+returns-in_err-order c =
     let a = c.args in
     let b = lent a.low.now a.high.now a.from.now a.to.now a.limit.now in
-    ap (λ (o : Outcome). stored_sums factor_count o b) (unordered a.m a.n b (sym (given (goal.at.returns-then-order-eq0 c).After-order_of-order) ∙ c.if-order-eq0.true))
+    let o = order-refused c.ranges.n c.in_err-order.ensures in
+    rw (handed_on c.from_residual.ensures.1, o.0) (ap (λ (o : Outcome). stored_sums factor_count o b) (unordered a.m a.n b o.1))
 
 pub returns-then-not-sums_sized : goal.returns-then-not-sums_sized
 returns-then-not-sums_sized c =
     let a = c.args in
     let b = lent a.low.now a.high.now a.from.now a.to.now a.limit.now in
-    let order = given (goal.at.returns-then-not-sums_sized c).After-order_of-order in
     let sized = found (goal.at.returns-then-not-sums_sized c).After-sums_sized in
-    ap (λ (o : Outcome). stored_sums factor_count o b) (unsized a.m a.n b (λ e. c.if-order-eq0.false (order ∙ e)) (sym sized ∙ c.if-not-sums_sized.true))
+    ap (λ (o : Outcome). stored_sums factor_count o b) (unsized a.m a.n b (λ e. absurd (omega (arith, order-positive _ (order-passed c.ranges.n c.in_ok-order.ensures).1, e))) (sym sized ∙ c.if-not-sums_sized.true))
 
 pub load_sample-requires : goal.load_sample-requires
 load_sample-requires c =
@@ -129,32 +128,33 @@ pub load_signed-running-requires : goal.load_signed-running-requires
 load_signed-running-requires c =
     (refl, omega (arith, (lengths c.args.m _ _ (passed (goal.at.load_signed-running-requires c).Else-not-sums_sized)).limit))
 
-pub add_checked-summed-requires : goal.add_checked-summed-requires
-add_checked-summed-requires c = (c.requires, loaded (goal.at.add_checked-summed-requires c).After-load_sample)
+pub add_checked-requires : goal.add_checked-requires
+add_checked-requires c = (c.requires, loaded (goal.at.add_checked-requires c).After-load_sample)
 
 pub store_sums-requires : goal.store_sums-requires
 store_sums-requires c =
     let p = goal.at.store_sums-requires c in
     let e = passed p.Else-not-sums_sized in
-    (omega arith, (summed p.After-add_checked-summed e (loaded p.After-load_sample)).rooms, lying c.args.m _ _ e)
+    (omega arith, (summed p.After-add_checked e (loaded p.After-load_sample)).rooms, lying c.args.m _ _ e)
 
 pub store_signed-requires : goal.store_signed-requires
 store_signed-requires c = (refl, omega (arith, (lengths c.args.m _ _ (passed (goal.at.store_signed-requires c).Else-not-sums_sized)).limit))
 
-pub returns-in-Within : goal.returns-in-Within
-returns-in-Within c =
-    let p = goal.at.returns-in-Within c in
+pub returns-in_err-sum : goal.returns-in_err-sum
+returns-in_err-sum c =
+    let p = goal.at.returns-in_err-sum c in
+    let a = c.args in
+    rw (handed_on c.from_residual-in_err-sum.ensures.1)
+    (laid-refused (λ t. bytes_of w64 t (factor_count * factor_count)) (λ x. bytes_of w64 x factor_count) bytes_of_number
+    (lent a.low.now a.high.now a.from.now a.to.now a.limit.now) (rw c.in_err-sum.was at (summed p.After-add_checked (passed p.Else-not-sums_sized) (loaded p.After-load_sample))))
+
+pub returns : goal.returns
+returns c =
+    let p = goal.at.returns c in
     let e = passed p.Else-not-sums_sized in
     let q = c.store_sums.ensures in
     let a = c.args in
     let b = lent a.low.now a.high.now a.from.now a.to.now a.limit.now in
     laid-taken (λ t. bytes_of w64 t (factor_count * factor_count)) (λ x. bytes_of w64 x factor_count) bytes_of_number
-    (summed p.After-add_checked-summed e (loaded p.After-load_sample)) b c.in-Within.sum c.in-Within.is q.0 q.1 q.2 q.3
-    (number-stored b.limit (lengths a.m a.n b e).limit (clean_element c.in-Within.sum (omega arith)) c.store_signed.ensures)
-
-pub returns-in-Refused : goal.returns-in-Refused
-returns-in-Refused c =
-    let p = goal.at.returns-in-Refused c in
-    let a = c.args in
-    laid-refused (λ t. bytes_of w64 t (factor_count * factor_count)) (λ x. bytes_of w64 x factor_count) bytes_of_number
-    (summed p.After-add_checked-summed (passed p.Else-not-sums_sized) (loaded p.After-load_sample)) (lent a.low.now a.high.now a.from.now a.to.now a.limit.now) c.in-Refused.r c.in-Refused.is
+    b (rw c.in_ok-sum.was at (summed p.After-add_checked e (loaded p.After-load_sample))) q.0 q.1 q.2 q.3
+    (number-stored b.limit (lengths a.m a.n b e).limit (clean_element c.in_ok-sum.sum (omega arith)) c.store_signed.ensures)

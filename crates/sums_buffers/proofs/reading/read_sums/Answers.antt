@@ -14,8 +14,10 @@ use Rattle.tables.specs.Answers.{after}
 use Rattle.tables.specs.Problem.{constraint_of, lengths_of, constraint_ends, constraint_entered}
 use Rattle.tables.specs.declared.Refusal.TheVariants.{Order, Length}
 use Rattle.tables.specs.declared.problem.Constraint.{Constraint}
-use Rattle.tables.proofs.Admission.{order_small, order_fits, order-given, no-order, no-sizes}
-use Rattle.rides.specs.declared.reading.Reading.{Reading}
+use Rattle.tables.proofs.Answers.{handed_on}
+use Rattle.tables.proofs.Admission.{order_small, order_fits, order-positive, order-passed, order-refused, no-order, no-sizes}
+use Rattle.std.specs.Prelude.{Result, Ok, Err}
+use Rattle.tables.specs.declared.Refusal.{Refusal}
 use Rattle.sums.specs.Sums.{terms_in}
 use Rattle.rides.specs.Reading.{limits_in, read_limit, read_sums}
 use Rattle.rides.proofs.Readings.{reading-sized}
@@ -25,7 +27,7 @@ use Rattle.buffers.proofs.Loading.{terms_by}
 use Rattle.buffers.proofs.Stores.{number-stored}
 use Rattle.sums_buffers.proofs.Sums.{read-sizes-of, reading-spelled, laid_by}
 use Rattle.sums_buffers.proofs.reading.read_sums.Goals as goal
-use Rattle.sums_buffers.proofs.reading.read_sums.Goals.{Start, After-order_of-m, After-read_sized-sized, After-read_checked-reading}
+use Rattle.sums_buffers.proofs.reading.read_sums.Goals.{Start, In_ok-m, After-read_sized-sized, After-read_checked}
 
 -- the sums that the buffers spell, and what check 2 finds
 module _ (n : ℤ) (l u f t : List ℕ) (α : ℤ) (s : List ℕ) where
@@ -37,30 +39,30 @@ module _ (n : ℤ) (l u f t : List ℕ) (α : ℤ) (s : List ℕ) where
 
   -- what is read with the allowance K: what check 3 finds beside the tables, and what is behind check 5
   module _ (K : ℤ) where
-    abbrev whole : Reading
+    abbrev whole : Result ℤ Refusal
     whole = read_sums n sizes K sums
 
     abbrev others : Bool
     others = terms_in (limits_in K α) sums
 
-    abbrev act : Reading
-    act = after Reading.Refused (first_refusal (constraint_ends sums)) (read_limit K sums)
+    abbrev act : Result ℤ Refusal
+    act = after Err (first_refusal (constraint_ends sums)) (read_limit K sums)
 
-    unordered : order_of n ≡ 0 → Reading.Refused Order ≡ whole
+    unordered : order_of n ≡ 0 → Err Order ≡ whole
     unfolding read_sums constraint_entered
-    unordered e = no-order n sizes others sums.low sums.high Reading.Refused act e
+    unordered e = no-order n sizes others sums.low sums.high Err act e
 
-    unsized : (order_of n ≡ 0 → ⊥) → sizes ≡ false → Reading.Refused Length ≡ whole
+    unsized : (order_of n ≡ 0 → ⊥) → sizes ≡ false → Err Length ≡ whole
     unfolding read_sums constraint_entered
-    unsized h e = no-sizes n sizes others sums.low sums.high Reading.Refused act h e
+    unsized h e = no-sizes n sizes others sums.low sums.high Err act h e
 
 -- ---- in the code
-order : (c : After-order_of-m) → c.order_of-m.result ≡ order_of c.args.n
-order c = rw (clean c.ranges.n) at c.order_of-m.ensures
+order : (c : In_ok-m) → c.in_ok-m.m ≡ order_of c.args.n
+order c = (order-passed c.ranges.n c.in_ok-m.ensures).0
 
 found : (c : After-read_sized-sized) → let a = c.args in c.read_sized-sized.result ≡ sizes a.n a.low.now a.high.now a.from.now a.to.now a.running a.limit.now
 unfolding read_buffers
-found c = rw (c.lengths_of-lengths.ensures, c.order_of-m.ensures, clean c.ranges.n) at c.read_sized-sized.ensures
+found c = rw (c.lengths_of-lengths.ensures, (order-passed c.ranges.n c.in_ok-m.ensures).0) at c.read_sized-sized.ensures
 
 -- where it passes each buffer has its size
 lent : (c : After-read_sized-sized) → c.read_sized-sized.result ≡ true → let a = c.args in
@@ -70,55 +72,57 @@ lent c e =
     let a = c.args in
     read-sizes-of (order_of a.n) (lengths_of (length a.low.now) (length a.high.now) (length a.from.now) (length a.to.now)) (length a.limit.now) (sym (found c) ∙ e)
 
-read : (c : After-read_checked-reading) → (let a = c.args in c.read_sized-sized.result ≡ sizes a.n a.low.now a.high.now a.from.now a.to.now a.running a.limit.now) → let a = c.args in
-    c.read_checked-reading.result ≡ whole a.n a.low.now a.high.now a.from.now a.to.now a.running a.limit.now a.allowance
+read : (c : After-read_checked) → (let a = c.args in c.read_sized-sized.result ≡ sizes a.n a.low.now a.high.now a.from.now a.to.now a.running a.limit.now) → let a = c.args in
+    c.read_checked.result ≡ whole a.n a.low.now a.high.now a.from.now a.to.now a.running a.limit.now a.allowance
 read c sized =
     let a = c.args in
-    let m = rw (clean c.ranges.n) at c.order_of-m.ensures in
+    let o = order-passed c.ranges.n c.in_ok-m.ensures in
+    let m = o.0 in
     let passed = c.if-not-sized.false in
     reading-spelled (order_of a.n) a.low.now a.high.now a.from.now a.to.now _ _ _ _ a.running (order_small a.n) (laid_by a.low.now a.high.now m passed c.load_bounds.ensures)
     (terms_by m passed c.load_terms.ensures) (terms_by m passed c.load_terms-2.ensures) a.allowance
-    c.read_checked-reading.ensures m (clean c.ranges.running) (clean c.ranges.allowance)
+    c.read_checked.ensures m (clean c.ranges.running) (clean c.ranges.allowance)
     ∙ reading-sized a.n (sizes a.n a.low.now a.high.now a.from.now a.to.now a.running a.limit.now) a.allowance (sums a.n a.low.now a.high.now a.from.now a.to.now a.running a.limit.now)
-    (order-given a.n (λ z. c.if-m-eq0.false (m ∙ z))) (sym sized ∙ passed) refl
+    o.1 (sym sized ∙ passed) refl
 
-pub returns-then-m-eq0 : goal.returns-then-m-eq0
-returns-then-m-eq0 c =
+pub returns-in_err-m : goal.returns-in_err-m
+returns-in_err-m c =
     let a = c.args in
-    ap (λ (r : Reading). stored_limit r a.limit.now)
-    (unordered a.n a.low.now a.high.now a.from.now a.to.now a.running a.limit.now a.allowance (sym (order (goal.at.returns-then-m-eq0 c).After-order_of-m) ∙ c.if-m-eq0.true))
+    let o = order-refused c.ranges.n c.in_err-m.ensures in
+    rw (handed_on c.from_residual.ensures.1, o.0)
+    (ap (λ (r : Result ℤ Refusal). stored_limit r a.limit.now) (unordered a.n a.low.now a.high.now a.from.now a.to.now a.running a.limit.now a.allowance o.1))
 
 pub overflow_mul-sizes : goal.overflow_mul-sizes
-overflow_mul-sizes c = record { fits = omega (arith, order_fits _ (order (goal.at.overflow_mul-sizes c).After-order_of-m)) }
+overflow_mul-sizes c = record { fits = omega (arith, order_fits _ (order (goal.at.overflow_mul-sizes c).In_ok-m)) }
 
 pub overflow_mul-sizes-2 : goal.overflow_mul-sizes-2
-overflow_mul-sizes-2 c = record { fits = omega (arith, order_fits _ (order (goal.at.overflow_mul-sizes-2 c).After-order_of-m)) }
+overflow_mul-sizes-2 c = record { fits = omega (arith, order_fits _ (order (goal.at.overflow_mul-sizes-2 c).In_ok-m)) }
 
 pub overflow_mul-sizes-3 : goal.overflow_mul-sizes-3
-overflow_mul-sizes-3 c = record { fits = omega (arith, order_small c.args.n, order (goal.at.overflow_mul-sizes-3 c).After-order_of-m) }
+overflow_mul-sizes-3 c = record { fits = omega (arith, order_small c.args.n, order (goal.at.overflow_mul-sizes-3 c).In_ok-m) }
 
 pub returns-then-not-sized : goal.returns-then-not-sized
 returns-then-not-sized c =
     let p = goal.at.returns-then-not-sized c in
     let a = c.args in
-    ap (λ (r : Reading). stored_limit r a.limit.now)
-    (unsized a.n a.low.now a.high.now a.from.now a.to.now a.running a.limit.now a.allowance (λ e. c.if-m-eq0.false (order p.After-order_of-m ∙ e))
+    ap (λ (r : Result ℤ Refusal). stored_limit r a.limit.now)
+    (unsized a.n a.low.now a.high.now a.from.now a.to.now a.running a.limit.now a.allowance (λ e. absurd (omega (arith, order-positive _ (order-passed c.ranges.n c.in_ok-m.ensures).1, e)))
     (sym (found p.After-read_sized-sized) ∙ c.if-not-sized.true))
 
 pub load_terms-requires : goal.load_terms-requires
 load_terms-requires c =
     let p = goal.at.load_terms-requires c in
-    rw (order p.After-order_of-m) (order_small _, (λ s. let z = lent p.After-read_sized-sized s in omega (arith, z.2)), refl)
+    rw (order p.In_ok-m) (order_small _, (λ s. let z = lent p.After-read_sized-sized s in omega (arith, z.2)), refl)
 
 pub load_terms-requires-2 : goal.load_terms-requires-2
 load_terms-requires-2 c =
     let p = goal.at.load_terms-requires-2 c in
-    rw (order p.After-order_of-m) (order_small _, (λ s. let z = lent p.After-read_sized-sized s in omega (arith, z.3)), refl)
+    rw (order p.In_ok-m) (order_small _, (λ s. let z = lent p.After-read_sized-sized s in omega (arith, z.3)), refl)
 
 pub load_bounds-requires : goal.load_bounds-requires
 load_bounds-requires c =
     let p = goal.at.load_bounds-requires c in
-    rw (order p.After-order_of-m) (order_small _, (λ s. let z = lent p.After-read_sized-sized s in (omega (arith, z.0), omega (arith, z.1))), refl, refl)
+    rw (order p.In_ok-m) (order_small _, (λ s. let z = lent p.After-read_sized-sized s in (omega (arith, z.0), omega (arith, z.1))), refl, refl)
 
 pub slice_bounds-read_checked-end : goal.slice_bounds-read_checked-end
 slice_bounds-read_checked-end c = sym c.load_bounds.ensures.rooms.low-size
@@ -132,10 +136,10 @@ slice_bounds-read_checked-end-3 c = sym c.load_terms.ensures.size
 pub slice_bounds-read_checked-end-4 : goal.slice_bounds-read_checked-end-4
 slice_bounds-read_checked-end-4 c = sym c.load_terms-2.ensures.size
 
-pub read_checked-reading-requires : goal.read_checked-reading-requires
-read_checked-reading-requires c =
-    let m = order (goal.at.read_checked-reading-requires c).After-order_of-m in
-    let h : c.order_of-m.result ≤ greatest_order = omega (arith, order_small c.args.n, m) in
+pub read_checked-requires : goal.read_checked-requires
+read_checked-requires c =
+    let m = order (goal.at.read_checked-requires c).In_ok-m in
+    let h : c.in_ok-m.m ≤ greatest_order = omega (arith, order_small c.args.n, m) in
     let f = order_fits _ m in
     let r = c.load_bounds.ensures.rooms in
     (h, omega (arith, f, r.low-size), omega (arith, f, r.high-size), omega (arith, h, c.load_terms.ensures.size), omega (arith, h, c.load_terms-2.ensures.size))
@@ -143,15 +147,16 @@ read_checked-reading-requires c =
 pub store_signed-requires : goal.store_signed-requires
 store_signed-requires c = (refl, omega (arith, (lent (goal.at.store_signed-requires c).After-read_sized-sized c.if-not-sized.false).4))
 
-pub returns-in-Limit : goal.returns-in-Limit
-returns-in-Limit c =
-    let p = goal.at.returns-in-Limit c in
-    let f = clean_element c.in-Limit.alpha (omega arith) in
-    ap₂ (λ (w : ℤ) (o : List ℕ). record { answer = Reading.Limit w; limit = o }) f
-    (number-stored c.args.limit.now (lent p.After-read_sized-sized c.if-not-sized.false).4 f c.store_signed.ensures)
-    ∙ ap (λ (r : Reading). stored_limit r c.args.limit.now) (sym c.in-Limit.is ∙ read p.After-read_checked-reading (found p.After-read_sized-sized))
+pub returns-in_err-alpha : goal.returns-in_err-alpha
+returns-in_err-alpha c =
+    let p = goal.at.returns-in_err-alpha c in
+    rw (handed_on c.from_residual-in_err-alpha.ensures.1)
+    (ap (λ (r : Result ℤ Refusal). stored_limit r c.args.limit.now) (sym c.in_err-alpha.was ∙ read p.After-read_checked (found p.After-read_sized-sized)))
 
-pub returns-in-Refused : goal.returns-in-Refused
-returns-in-Refused c =
-    let p = goal.at.returns-in-Refused c in
-    ap (λ (r : Reading). stored_limit r c.args.limit.now) (sym c.in-Refused.is ∙ read p.After-read_checked-reading (found p.After-read_sized-sized))
+pub returns : goal.returns
+returns c =
+    let p = goal.at.returns c in
+    let f = clean_element c.in_ok-alpha.alpha (omega arith) in
+    ap₂ (λ (w : ℤ) (o : List ℕ). record { answer = Ok w; limit = o }) f
+    (number-stored c.args.limit.now (lent p.After-read_sized-sized c.if-not-sized.false).4 f c.store_signed.ensures)
+    ∙ ap (λ (r : Result ℤ Refusal). stored_limit r c.args.limit.now) (sym c.in_ok-alpha.was ∙ read p.After-read_checked (found p.After-read_sized-sized))

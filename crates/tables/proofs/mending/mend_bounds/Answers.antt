@@ -8,14 +8,14 @@ use Rattle.integers.specs.Numbers.{min_ℤ, max_ℤ}
 use Rattle.tables.specs.Checks.{bounds_checks}
 use Rattle.tables.specs.Pairs.{tables_bounded}
 use Rattle.tables.specs.Entering.{Mended}
-use Rattle.tables.specs.declared.Checked.TheVariants.{Passed}
+use Rattle.std.specs.Prelude.{Ok}
 use Rattle.tables.proofs.Checks.{bounded-passed, bounded_symmetric}
 use Rattle.tables.proofs.MendedTables.{greater_pairing, smaller_pairing, symmetric_mended}
 use Rattle.tables.proofs.mending.mend_bounds.Goals as goal
 
 module _ (n : ℕ) (l u : List ℤ) (h : n * n ≤ length l) (k : n * n ≤ length u) where
   -- halves that agree: nothing is mended
-  even : tables_bounded n true l u ≡ true → Mended (bounds_checks true n l u) n l u Passed l u
+  even : tables_bounded n true l u ≡ true → Mended (bounds_checks true n l u) n l u (Ok tt) l u
   even e =
       let s = bounded_symmetric n l u e in
       record {

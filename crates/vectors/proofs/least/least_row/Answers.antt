@@ -1,4 +1,4 @@
-use mathlib.Core.Path.{◌≡◌, sym, ◌∙◌}
+use mathlib.Core.Path.{sym, ◌∙◌}
 use native.Mathlib.Omega.{arith}
 use native.Mathlib.Numerals.{add-one}
 use Rattle.integers.proofs.Machine.{clean, clean_result}
@@ -10,22 +10,15 @@ use Rattle.vectors.proofs.least.least_row.Goals as goal
 pub overflow_add-s : goal.overflow_add-s
 overflow_add-s c =
     let p = c.requires in
-    rw (clean_result c.least_pair-s, c.least_pair-s.ensures, c.loop-k.invariant.1) (row_fits p.0 p.1 (omega arith))
+    rw (clean_result c.least_pair-s, c.least_pair-s.ensures, c.loop-k.invariant) (row_fits p.0 p.1 (omega arith))
 
 pub loop-k-init : goal.loop-k-init
 unfolding least_row
-loop-k-init c = (omega arith, sym (sum_zero _))
-
-pub least_pair-s-requires : goal.least_pair-s-requires
-unfolding least_row
-least_pair-s-requires c = let p = c.requires in (p.0, p.1, omega arith)
+loop-k-init c = sym (sum_zero _)
 
 pub loop-k-preserved : goal.loop-k-preserved
 unfolding least_row
 loop-k-preserved c =
     let l = c.loop-k in
-    (omega arith, clean (overflow_add-s c) ∙ rw (clean_result c.least_pair-s, c.least_pair-s.ensures, l.invariant.1, add-one) (sym (sum_suc l.k _)))
-
-pub returns : goal.returns
-unfolding least_row
-returns c = let e : c.loop-k.k ≡ c.args.i = omega arith in rw e at c.loop-k.invariant.1
+    clean (overflow_add-s c)
+    ∙ rw (clean_result c.least_pair-s, c.least_pair-s.ensures, l.invariant, add-one) (sym (sum_suc l.k _))

@@ -8,20 +8,18 @@ use Rattle.vectors.proofs.least.least_value.Goals as goal
 
 pub overflow_add-s : goal.overflow_add-s
 overflow_add-s c =
-    rw (clean_result c.least_share-s, c.least_share-s.ensures, c.loop-i.invariant.1) (sum_fits c.requires c.loop-i-test.true)
+    rw (clean_result c.least_share-s, c.least_share-s.ensures, c.loop-i.invariant) (sum_fits c.requires c.loop-i-test.true)
 
 pub loop-i-init : goal.loop-i-init
-loop-i-init c = (omega arith, sym (sum_zero _))
-
-pub least_share-s-requires : goal.least_share-s-requires
-least_share-s-requires c = (c.requires, c.loop-i-test.true)
+loop-i-init c = sym (sum_zero _)
 
 pub loop-i-preserved : goal.loop-i-preserved
 loop-i-preserved c =
     let l = c.loop-i in
-    (omega arith, clean (overflow_add-s c) ∙ rw (clean_result c.least_share-s, c.least_share-s.ensures, l.invariant.1, add-one) (sym (sum_suc l.i _)))
+    clean (overflow_add-s c)
+    ∙ rw (clean_result c.least_share-s, c.least_share-s.ensures, l.invariant, add-one) (sym (sum_suc l.i _))
 
 pub returns : goal.returns
 returns c =
     let e : c.loop-i.i ≡ c.args.n = omega arith in
-    (rw e at c.loop-i.invariant.1) ∙ shares_add _ _ _ _ c.requires.tables.bounds
+    (rw e at c.loop-i.invariant) ∙ shares_add _ _ _ _ c.requires.tables.bounds

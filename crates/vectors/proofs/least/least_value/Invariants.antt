@@ -1,12 +1,8 @@
 -- The loop's invariant: s is the sum of the shares passed.
 use mathlib.Core.Path.{◌≡◌}
-use Prim.Native.Nat.{◌-◌, ◌≤◌}
 use Rattle.integers.specs.Sum.{sum}
 use Rattle.vectors.specs.LeastShares.{least_share}
 use Rattle.vectors.proofs.least.least_value.Given as goal
 
 abbrev pub invariant-loop-i : goal.invariant-loop-i
-invariant-loop-i l = (l.i ≤ l.n) × (l.s ≡ sum l.i (least_share l.n l.low l.high l.x))
-
-abbrev pub decreases-loop-i : goal.decreases-loop-i
-decreases-loop-i l = l.n - l.i
+invariant-loop-i l = l.s ≡ sum l.i (least_share l.n l.low l.high l.x)

@@ -1,27 +1,40 @@
-use mathlib.Core.Path.{◌≡◌, sym, ap}
-use mathlib.Core.Bool.{not}
+use mathlib.Core.Path.{◌≡◌, refl, ◌∙◌}
+use mathlib.Core.Bool.{Bool, true, false, not, ◌&&◌, ◌||◌}
+use mathlib.Core.List.{List}
+use Prim.Native.Nat.{ℕ, zero, suc, ◌≤◌}
 use native.Mathlib.Omega.{arith}
-use lib.IntN.{pos}
-use Rattle.tables.proofs.Checks.{all_none, all_more, all_false, read_same, read_differs}
+use lib.IntN.{ℤ, pos}
+use lib.ListN.{length, take}
+use lib.Seq.{take-suc}
+use borrow.Author.Rules.{rules}
+use borrow.Author.Tests.{tests}
+use Rattle.std.specs.List.{list_any}
+use Rattle.std.proofs.lemmas.Iterator.{YieldsList-from_slice}
+use Rattle.std.proofs.lemmas.Iterator.Search.{any_from_yields_List}
+use Rattle.std.proofs.lemmas.List.Folds.{list_any-append}
+use Rattle.tables.specs.Matrix.{nth}
+use Rattle.tables.specs.Checks.{all, same}
 use Rattle.vectors.specs.Least.{nonzero}
 use Rattle.vectors.proofs.vector_test.nonzero.Goals as goal
 
-pub loop-i-init : goal.loop-i-init
-unfolding nonzero
-loop-i-init c = (omega arith, all_none _)
+differs : ℤ → Bool
+differs v = not (same v (pos 0))
 
-pub returns-then-x-i-ne0 : goal.returns-then-x-i-ne0
-unfolding nonzero
-returns-then-x-i-ne0 c =
-    sym (ap not (all_false _ _ c.loop-i.i c.loop-i-test.true (read_differs _ (pos 0) c.t7-1.given (omega arith) c.if-x-i-ne0.true)))
+either : (a b : Bool) → (not a || (not b || false)) ≡ not (a && b)
+either true true = refl
+either true false = refl
+either false b = refl
 
-pub loop-i-preserved : goal.loop-i-preserved
-unfolding nonzero
-loop-i-preserved c =
-    (omega arith, all_more _ _ c.loop-i.invariant.1 (read_same _ (pos 0) c.t7-1.given (omega arith) c.if-x-i-ne0.false))
+-- one of the first n entries differs from 0
+any_first : (n : ℕ) (x : List ℤ) → n ≤ length x → list_any differs (take n x) ≡ nonzero n (nth x)
+unfolding all nonzero differs
+any_first zero x h = refl
+any_first (suc n) x h =
+    rw (take-suc x n (pos 0) h, list_any-append differs (take n x), any_first n x (omega arith)) (either (all n (λ i. same (nth x i) (pos 0))) (same (nth x n) (pos 0)))
 
 pub returns : goal.returns
-unfolding nonzero
+unfolding differs same
 returns c =
-    let e : c.loop-i.i ≡ c.args.n = omega arith in
-    sym (ap not (rw e at c.loop-i.invariant.1))
+    let a = c.args in
+    any_from_yields_List differs _ _ c.any.result c.any.ensures.ran (YieldsList-from_slice (take a.n a.x.now) cc) (λ x b q k. search (rules, tests))
+    ∙ any_first a.n a.x.now c.requires

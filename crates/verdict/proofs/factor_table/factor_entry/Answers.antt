@@ -1,7 +1,6 @@
 -- By the test.
 use mathlib.Core.Path.{sym, ◌∙◌}
 use native.Mathlib.Omega.{arith}
-use borrow.Author.Rules.{rules}
 use Rattle.integers.proofs.Machine.{clean_element}
 use Rattle.cholesky.specs.Store.{upper}
 use Rattle.cholesky.proofs.Store.{triangle_on, triangle-below}

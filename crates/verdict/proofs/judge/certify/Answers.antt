@@ -1,5 +1,5 @@
 use native.Mathlib.Omega.{arith}
-use Rattle.integers.proofs.Machine.{clean_result, clean_element}
+use Rattle.integers.proofs.Machine.{clean_element}
 use Rattle.verdict.proofs.Decisions.{factor_shaped, certified}
 use Rattle.verdict.proofs.judge.certify.Goals as goal
 

@@ -2,9 +2,8 @@
 use mathlib.Core.Path.{◌≡◌, refl, sym, ap}
 use mathlib.Core.Bool.{Bool, true, false}
 use mathlib.Core.List.{List}
-use borrow.Author.Rules.{rules}
 use lib.IntN.{ℤ}
-use Rattle.integers.proofs.Machine.{clean_result, clean_element}
+use Rattle.integers.proofs.Machine.{clean_element}
 use Rattle.solved.proofs.Stops.{stopped_ready}
 use Rattle.verdict.specs.Deciding.{stated, shown_verdict, left_by}
 use Rattle.verdict.specs.declared.judge.Verdict.{Verdict}
@@ -21,17 +20,17 @@ pub certify-requires : goal.certify-requires
 unfolding stated left_by
 certify-requires c =
     let p = c.requires in
-    (p.0, p.1, p.2, rw c.in-Ends.is at c.factor_tables-outcome.ensures, p.3)
+    (p.0, p.1, p.2, rw c.in-Ok.is at c.factor_tables.ensures, p.3)
 
 pub first_listed-requires : goal.first_listed-requires
 unfolding stated left_by
 first_listed-requires c =
     let p = c.requires in
-    (p.0, stopped_ready p.0.bounds p.0.order (rw c.in-Stops.is at c.factor_tables-outcome.ensures), p.4)
+    (p.0, stopped_ready p.0.bounds p.0.order (rw c.in-Err.is at c.factor_tables.ensures), p.4)
 
-pub returns-in-Ends : goal.returns-in-Ends
+pub returns-in-Ok : goal.returns-in-Ok
 unfolding stated left_by
-returns-in-Ends c =
+returns-in-Ok c =
     record {
       verdict = rw (clean_element c.certify.result c.certify.type_inv) c.certify.ensures;
       left = refl;
@@ -39,12 +38,12 @@ returns-in-Ends c =
       size = c.requires.4;
     }
 
-pub returns-in-Stops : goal.returns-in-Stops
+pub returns-in-Err : goal.returns-in-Err
 unfolding stated left_by
-returns-in-Stops c =
+returns-in-Err c =
     let f = c.first_listed.ensures in
     record {
-      verdict = decided_shown _ _ _ _ _ _ (rw c.in-Stops.is at c.factor_tables-outcome.ensures) f c.shown.ensures;
+      verdict = decided_shown _ _ _ _ _ _ (rw c.in-Err.is at c.factor_tables.ensures) f c.shown.ensures;
       left = sym (shown-left _ _ _ c.shown.ensures);
       room = refl;
       size = f.size;

@@ -1,4 +1,3 @@
-use borrow.Author.Rules.{rules}
 use Rattle.verdict.specs.Judge.{judge_sizes}
 use Rattle.verdict.proofs.judge.sizes_ok.Goals as goal
 

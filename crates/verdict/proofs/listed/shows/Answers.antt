@@ -1,6 +1,5 @@
 -- By the two tests of the definition.
-use borrow.Author.Rules.{rules}
-use Rattle.integers.proofs.Machine.{clean_result, clean_element}
+use Rattle.integers.proofs.Machine.{clean_element}
 use Rattle.tables.proofs.Checks.{call_true, call_false}
 use Rattle.verdict.proofs.Listing.{shows_zero, shows_value}
 use Rattle.verdict.proofs.listed.shows.Goals as goal

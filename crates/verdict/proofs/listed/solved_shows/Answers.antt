@@ -1,7 +1,6 @@
 -- There is no solved vector, or the one that there is shows it, or not.
 use mathlib.Core.Path.{◌≡◌, refl}
 use mathlib.Core.Bool.{true, false}
-use borrow.Author.Rules.{rules}
 use Rattle.integers.proofs.Machine.{clean}
 use Rattle.tables.proofs.Checks.{call_true, call_false}
 use Rattle.tables.proofs.Matrix.{nth-tabulate}
@@ -24,4 +23,4 @@ pub returns : goal.returns
 returns c =
     let e : c.solve.result ≡ true = call_true refl c.if-not-solve.false-raw in
     let a = c.args in
-    solved-one _ {o = solved a.n (stopped_at a.t.now a.j a.m) a.s} (rw (clean c.ranges.s, e) at c.solve.ensures) _ (rw c.shows.ensures (shows_ext _ _ _ _ _ (nth-tabulate _ _)))
+    solved-one _ {o = solved a.n (stopped_at a.t.now a.stop.column a.stop.rows) a.s} (rw (clean c.ranges.s, e) at c.solve.ensures) _ (rw c.shows.ensures (shows_ext _ _ _ _ _ (nth-tabulate _ _)))
