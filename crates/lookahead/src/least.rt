@@ -11,7 +11,7 @@ use crate::ahead::{OTHER_SIGN_START, Pairs, row_entry};
 use integers::smaller;
 
 // What an entry would add if it were 1, and if it were -1.
-#[derive(Clone, Copy)]
+#[derive(Clone, Copy, Debug, PartialEq, Eq)]
 pub struct Share {
     pub plus: i64,
     pub minus: i64,

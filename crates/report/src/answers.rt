@@ -9,7 +9,7 @@ use verdict::judge::{Verdict, decide};
 
 // The verdict on a problem and the answer of its box. Where the verdict is 'definite' the factor stands in factor, row by row, where it is
 // 'not definite' the vector in vector, and where the box has sides they stand in sides.
-#[derive(Drop)]
+#[derive(Clone, Copy, Debug, PartialEq, Eq)]
 pub struct Answers {
     pub verdict: Verdict,
     pub factor: Table,

@@ -13,7 +13,7 @@ use crate::lines::{BOX_ROOM, VERDICT_ROOM, put_box, put_refused, put_verdict};
 const ROOM: usize = VERDICT_ROOM + BOX_ROOM;
 
 // What is printed: the first length bytes of text, and zeros after them.
-#[derive(Drop)]
+#[derive(Clone, Copy, Debug, PartialEq, Eq)]
 pub struct Output {
     pub text: [u8; ROOM],
     pub length: usize,

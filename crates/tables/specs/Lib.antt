@@ -10,3 +10,4 @@ pub mod Answers
 pub mod Bounds
 pub mod Entering
 pub mod Problem
+pub mod Bounded

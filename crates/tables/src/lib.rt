@@ -11,6 +11,7 @@ ghost use Rattle.tables.specs.Checks.{linear_within, terms_within, nowhere_cross
 ghost use Rattle.tables.specs.Checks.{first_refusal};
 ghost use Rattle.tables.specs.Pairs.{entry_bounded, pair_even, pair_meets, pair_bounded, row_bounded, tables_bounded};
 
+pub mod bounded;
 pub mod entering;
 pub mod mending;
 pub mod problem;

@@ -5,7 +5,7 @@ ghost use Rattle.tables.specs.Problem.{lengths_of, constraint_sized};
 use crate::{Table, Vector, sizes_ok};
 
 // Linear terms between two ends: the first n numbers of each, and zeros.
-#[derive(Clone, Copy)]
+#[derive(Clone, Copy, Debug, PartialEq, Eq)]
 pub struct Linear {
     pub low: Vector,
     pub high: Vector,
@@ -13,7 +13,7 @@ pub struct Linear {
 
 // A quadratic constraint of order n: x'Mx + 2a'x ≤ limit. The bounds of M stand row by row in the first n² numbers of low and high, and
 // zeros follow; those of a are the linear terms' ends.
-#[derive(Clone, Copy)]
+#[derive(Clone, Copy, Debug, PartialEq, Eq)]
 pub struct Constraint {
     pub order: usize,
     pub low: Table,
@@ -23,28 +23,28 @@ pub struct Constraint {
 }
 
 // A constraint, and the centre around which its box is laid: the first n numbers, and zeros.
-#[derive(Drop)]
+#[derive(Clone, Copy, Debug, PartialEq, Eq)]
 pub struct Problem {
     pub constraint: Constraint,
     pub centre: Vector,
 }
 
 // The sizes that an order calls for: of a table and of a vector, in numbers or in bytes.
-#[derive(Drop)]
+#[derive(Clone, Copy, Debug, PartialEq, Eq)]
 pub struct Sizes {
     pub table: usize,
     pub vector: usize,
 }
 
 // The sizes of two buffers, one with low and one with high ends.
-#[derive(Drop)]
+#[derive(Clone, Copy, Debug, PartialEq, Eq)]
 pub struct Pair {
     pub low: usize,
     pub high: usize,
 }
 
 // The sizes of the buffers in which a constraint is lent: bounds, and linear terms.
-#[derive(Drop)]
+#[derive(Clone, Copy, Debug, PartialEq, Eq)]
 pub struct Lengths {
     pub bounds: Pair,
     pub linear: Pair,
