@@ -7,41 +7,36 @@ use Prim.Native.Nat.{ℕ, zero, suc, ◌+◌, ◌-◌, ◌≤◌, ◌<◌}
 use native.Mathlib.Omega.{arith}
 use native.Mathlib.Decide.{ℕ_discrete}
 use lib.IntN.{ℤ, pos, neg_ℤ, ◌+ℤ◌, ◌*ℤ◌, zero-*ℤ}
-use lib.ListN.{length, set, drop, replicate, length-set, length-append, length-drop, length-replicate}
+use lib.ListN.{length, set, replicate, length-set, length-replicate}
 use lib.Seq.{get_or-set_same, get_or-set_other}
-use Rattle.std.proofs.lemmas.List.{get_or_append_left, get_or-replicate}
+use Rattle.std.proofs.lemmas.List.{get_or-replicate}
+use Rattle.std.specs.Prelude.{Some, None}
 use Rattle.integers.specs.Numbers.{Within}
-use Rattle.integers.specs.Sum.{sum}
+use Rattle.integers.specs.Sum.{sum, only}
 use Rattle.integers.specs.Division.{floor_div}
 use Rattle.integers.proofs.Sums.{sum_ext, sum_prefix, only_by, only_same, only_other}
 use Rattle.tables.specs.Ranges.{greatest_order, vector_range}
 use Rattle.tables.specs.Matrix.{Matrix, nth, tabulate}
 use Rattle.tables.specs.Checks.{within}
-use Rattle.tables.specs.Buffers.{Filled}
 use Rattle.tables.proofs.Matrix.{length-tabulate, nth-tabulate, tabulate_ext}
 use Rattle.tables.proofs.Checks.{within_of}
 use Rattle.cholesky.proofs.Store.{length-column_of, length-columns_of}
 use Rattle.solved.specs.Solved.{solved_entry, solved_rows, solved}
-use Rattle.solved.specs.Stopped.{stopped_at, Stopped, start_range, Started, Ready, row_sum, entry_of, solved_of}
+use Rattle.solved.specs.Stopped.{stopped_at, Stopped, start_range, Ready, row_sum, entry_of, solved_of}
 use Rattle.solved.proofs.StoppedFactor.{factor, factor-at, factor_past}
 
--- ---- the start: the first n entries are set to 0, and then entry j to s
-pub cleared : (n : ℕ) (x : List ℤ) → length x ≡ greatest_order → n ≤ greatest_order → Filled greatest_order n (λ k. pos 0) (replicate n (pos 0) ++ drop n x)
-cleared n x e h =
-    record {
-      size = rw (length-append, length-replicate, length-drop) (omega (arith, e));
-      entries = λ k l.
-          get_or_append_left (replicate n (pos 0)) (drop n x) (pos 0) k (rw length-replicate l) ∙ get_or-replicate n k (pos 0) (pos 0) l;
-    }
+-- ---- the start: s at j, and 0 elsewhere
+abbrev pub start_of : ℕ → ℤ → List ℤ
+start_of j s = set (replicate greatest_order (pos 0)) j s
 
-pub cleared_end : {x : List ℤ} {n j : ℕ} {s : ℤ} → j < greatest_order → Filled greatest_order n (λ k. pos 0) x → Started n (set x j s) j s
-cleared_end {x} {n} {j} {s} h c =
-    record {
-      size = length-set x j s ∙ c.size;
-      entries = λ k m.
-          only_by k j s (λ z. nth (set x j s) k ≡ z) (λ e. rw e (get_or-set_same x j s (pos 0) (omega (arith, c.size))))
-          (λ d. get_or-set_other x j k s (pos 0) d ∙ c.entries k m);
-    }
+start_size : (j : ℕ) (s : ℤ) → length (start_of j s) ≡ greatest_order
+start_size j s = length-set (replicate greatest_order (pos 0)) j s ∙ length-replicate greatest_order (pos 0)
+
+start_entries : (j : ℕ) (s : ℤ) → j < greatest_order → (k : ℕ) → k < greatest_order → nth (start_of j s) k ≡ only k j s
+start_entries j s h k l =
+    let x = replicate greatest_order (pos 0) in
+    only_by k j s (λ z. nth (start_of j s) k ≡ z) (λ e. rw e (get_or-set_same x j s (pos 0) h))
+    (λ d. get_or-set_other x j k s (pos 0) d ∙ get_or-replicate greatest_order k (pos 0) (pos 0) l)
 
 -- ---- one row
 module _ (R : Matrix) (i : ℕ) (xs : List ℤ) where
@@ -71,7 +66,8 @@ from_more n x i v h l =
     let e : n - i ≡ suc (n - suc i) = omega arith in
     rw e (ap₂ (λ (y : ℤ) (ys : List ℤ). y ∷ ys)
     (sym (get_or-set_same x i v (pos 0) l) ∙ ap (nth (set x i v)) (omega arith))
-    (tabulate_ext (n - suc i) _ _ (λ k q. sym (get_or-set_other x i (suc i + k) v (pos 0) (omega arith)) ∙ ap (nth (set x i v)) (omega arith)))
+    (tabulate_ext (n - suc i) _ _
+    (λ k q. sym (get_or-set_other x i (suc i + k) v (pos 0) (omega arith)) ∙ ap (nth (set x i v)) (omega arith)))
     ∙ sym (tabulate_cons (n - suc i) (λ k. nth (set x i v) (i + k))))
 
 -- ---- before the rows from i - 1 down
@@ -83,20 +79,25 @@ pub record Solving (n : ℕ) (t : List ℤ) (j m : ℕ) (s : ℤ) (x : List ℤ)
 
 module _ {n : ℕ} {t : List ℤ} {j m : ℕ} (a : Stopped n t j m) where
   -- before the first row
-  begun : {x : List ℤ} {s : ℤ} → Started n x j s → solved n (stopped_at t j m) s ≡ solved_rows (factor t j m) m (from n x m)
+  begun : (s : ℤ) → solved n (stopped_at t j m) s ≡ solved_rows (factor t j m) m (from n (start_of j s) m)
   unfolding solved stopped_at
-  begun {x} {s} b =
-      rw (length-column_of t j m, length-columns_of t j)
-      (ap (solved_rows (factor t j m) m) (tabulate_ext (n - m) _ _ (λ k l. sym (b.entries (m + k) (omega arith)))))
-
-  pub solving_start : {x : List ℤ} {s : ℤ} → Within start_range s → Started n x j s → Solving n t j m s x m
-  solving_start {x} {s} w b =
+  begun s =
       let p = a.inside in
+      let o = a.order in
+      rw (length-column_of t j m, length-columns_of t j)
+      (ap (solved_rows (factor t j m) m)
+      (tabulate_ext (n - m) _ _ (λ k l. sym (start_entries j s (omega arith) (m + k) (omega arith)))))
+
+  pub solving_start : {s : ℤ} → Within start_range s → Solving n t j m s (start_of j s) m
+  solving_start {s} w =
+      let p = a.inside in
+      let o = a.order in
       record {
-        size = b.size;
-        small = λ k h l. rw (b.entries k (omega arith), only_other k j s (omega arith)) (record { size = omega arith });
-        start = rw (b.entries j (omega arith), only_same j s) w;
-        here = begun b;
+        size = start_size j s;
+        small = λ k h l.
+            rw (start_entries j s (omega arith) k (omega arith), only_other k j s (omega arith)) (record { size = omega arith });
+        start = rw (start_entries j s (omega arith) j (omega arith), only_same j s) w;
+        here = begun s;
       }
 
   -- T, and the entry, as the code has them
@@ -108,9 +109,13 @@ module _ {n : ℕ} {t : List ℤ} {j m : ℕ} (a : Stopped n t j m) where
         let q = a.rows in
         rw (length-tabulate (n - suc i) (λ k. nth x (suc i + k)))
         (sum_prefix (n - suc i) (suc j - suc i) _ (omega arith)
-        (λ k u v. ap (λ (z : ℤ). z *ℤ nth (from n x (suc i)) k) (factor_past t j m i (suc i + k) (omega arith)) ∙ zero-*ℤ (nth (from n x (suc i)) k))
+        (λ k u v.
+        ap (λ (z : ℤ). z *ℤ nth (from n x (suc i)) k) (factor_past t j m i (suc i + k) (omega arith))
+        ∙ zero-*ℤ (nth (from n x (suc i)) k))
         ∙ sum_ext (suc j - suc i) _ _
-        (λ k u. ap₂ (λ (y z : ℤ). y *ℤ z) (factor-at t j m i (suc i + k) h (omega arith) (omega arith)) (nth-tabulate (n - suc i) _ k (omega arith))))
+        (λ k u.
+        ap₂ (λ (y z : ℤ). y *ℤ z) (factor-at t j m i (suc i + k) h (omega arith) (omega arith))
+        (nth-tabulate (n - suc i) _ k (omega arith))))
 
     pub entry_is : solved_entry (factor t j m) i (from n x (suc i)) ≡ entry_of t x i j
     unfolding solved_entry entry_of
@@ -144,7 +149,8 @@ module _ {n : ℕ} {t : List ℤ} {j m : ℕ} (a : Stopped n t j m) where
         record {
           size = length-set x i (entry_of t x i j) ∙ w.size;
           small = λ k u v.
-              by_cases (ℕ_discrete k i) (λ f. rw (f, get_or-set_same x i (entry_of t x i j) (pos 0) (omega arith)) (within_of vector_range _ e))
+              by_cases (ℕ_discrete k i)
+              (λ f. rw (f, get_or-set_same x i (entry_of t x i j) (pos 0) (omega arith)) (within_of vector_range _ e))
               (λ d. rw (get_or-set_other x i k (entry_of t x i j) (pos 0) (omega arith)) (w.small k (omega arith) v));
           start = rw (get_or-set_other x i j (entry_of t x i j) (pos 0) (omega arith)) w.start;
           here = w.here ∙ rows_on (factor t j m) i (from n x (suc i)) (rw (entry_is x i h) e)
@@ -152,12 +158,13 @@ module _ {n : ℕ} {t : List ℤ} {j m : ℕ} (a : Stopped n t j m) where
         }
 
     -- it passes the range
-    pub solving_none : within vector_range (entry_of t x i j) ≡ false → (x' : List ℤ) → solved n (stopped_at t j m) s ≡ solved_of n false x'
+    pub solving_none : within vector_range (entry_of t x i j) ≡ false → solved_of n None ≡ solved n (stopped_at t j m) s
     unfolding solved_of
-    solving_none e x' = w.here ∙ rows_none (factor t j m) i (from n x (suc i)) (rw (entry_is x i h) e)
+    solving_none e = sym (w.here ∙ rows_none (factor t j m) i (from n x (suc i)) (rw (entry_is x i h) e))
 
-  pub solving_end : {s : ℤ} {x : List ℤ} → Solving n t j m s x 0 → solved n (stopped_at t j m) s ≡ solved_of n true x
+  pub solving_end : {s : ℤ} {x : List ℤ} → Solving n t j m s x 0 → solved_of n (Some x) ≡ solved n (stopped_at t j m) s
   unfolding solved_rows solved_of
   solving_end {x = x} w =
       let e : n - 0 ≡ n = omega arith in
-      w.here ∙ rw e (ap (λ (v : List ℤ). v ∷ []) (tabulate_ext n _ _ (λ k l. let f : 0 + k ≡ k = omega arith in rw f)))
+      sym
+      (w.here ∙ rw e (ap (λ (v : List ℤ). v ∷ []) (tabulate_ext n _ _ (λ k l. let f : 0 + k ≡ k = omega arith in rw f))))

@@ -1,7 +1,7 @@
 -- What the code asks of the table of a factoring that stopped, and what it answers.
-use Rattle.std.specs.Prelude.{Bool, true, false, ◌≡◌, List, [], ◌∷◌, ℕ, suc, ◌+◌, ◌*◌, ◌-◌, ◌≤◌, ◌<◌, ℤ, pos, neg_ℤ, ◌+ℤ◌, ◌*ℤ◌, ◌≤ℤ◌, length}
+use Rattle.std.specs.Prelude.{false, List, [], ◌∷◌, Option, Some, None, ℕ, suc, ◌+◌, ◌*◌, ◌-◌, ◌≤◌, ◌<◌, ℤ, pos, neg_ℤ, ◌+ℤ◌, ◌*ℤ◌, ◌≤ℤ◌}
 use Rattle.integers.specs.Numbers.{Within}
-use Rattle.integers.specs.Sum.{sum, only}
+use Rattle.integers.specs.Sum.{sum}
 use Rattle.integers.specs.Division.{floor_div}
 use Rattle.tables.specs.Ranges.{greatest_order, factor_range, vector_range}
 use Rattle.tables.specs.Matrix.{nth, tabulate}
@@ -32,11 +32,6 @@ pub record Stopped (n : ℕ) (t : List ℤ) (j m : ℕ) : Type 0 where
   pub diagonal : (l : ℕ) → l < j → pos 1 ≤ℤ upper t l l
   pub last : (i : ℕ) → i < m → Within stop_range (upper t i j)
 
--- what stands in x before the first row: s at j, and 0 elsewhere
-pub record Started (n : ℕ) (x : List ℤ) (j : ℕ) (s : ℤ) : Type 0 where
-  pub size : length x ≡ greatest_order
-  pub entries : (k : ℕ) → k < n → nth x k ≡ only k j s
-
 -- row i of the table, and the entries of x that it meets: those before column j are small, r(i,j) is an entry of a stop and x(j)
 -- within the range of s
 pub record Ready (t x : List ℤ) (i j : ℕ) : Type 0 where
@@ -56,11 +51,7 @@ row_sum t x i l = sum (l - suc i) (λ k. upper t i (suc i + k) *ℤ nth x (suc i
 unfoldable pub entry_of : List ℤ → List ℤ → ℕ → ℕ → ℤ
 entry_of t x i j = neg_ℤ (floor_div (pos 2 *ℤ row_sum t x i (suc j) +ℤ upper t i i) (pos 2 *ℤ upper t i i))
 
--- the vector that stands in x, or none
-unfoldable pub solved_of : ℕ → Bool → List ℤ → List (List ℤ)
-solved_of n r x = elim r [ true ↦ tabulate n (nth x) ∷ [] | false ↦ [] ]
-
--- the code's answer r and the vector in x are what o has
-pub record Answered (o : List (List ℤ)) (n : ℕ) (r : Bool) (x : List ℤ) : Type 0 where
-  pub answer : o ≡ solved_of n r x
-  pub size : length x ≡ greatest_order
+-- the solved vector that the code answers, of order n, or none
+unfoldable pub solved_of : ℕ → Option (List ℤ) → List (List ℤ)
+solved_of n (Some x) = tabulate n (nth x) ∷ []
+solved_of n None = []

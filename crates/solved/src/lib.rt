@@ -1,16 +1,15 @@
 // R10 of docs/RULES.md: the solved vectors, from the table of a factoring that stopped.
-// Entry (i, k) of the table lies at STRIDE k + i. The vector's first n entries stand in x.
+// Entry (i, k) of the table lies at STRIDE k + i, and the vector is the first n entries of an array.
 #![tactic(auto)]
 
-ghost use Rattle.std.specs.Prelude.{◌≡◌, suc, ◌≤◌, ◌<◌, length};
+ghost use Rattle.std.specs.Prelude.{◌≡◌, suc};
 ghost use Rattle.integers.specs.Numbers.{Within};
-ghost use Rattle.tables.specs.Ranges.{greatest_order};
 ghost use Rattle.solved.specs.Solved.{solved};
-ghost use Rattle.solved.specs.Stopped.{stopped_at, Stopped, start_range, Started, Ready, row_sum, entry_of, Answered};
+ghost use Rattle.solved.specs.Stopped.{stopped_at, Stopped, start_range, Ready, row_sum, entry_of, solved_of};
 
 use cholesky::STRIDE;
 use cholesky::factoring::Stop;
-use tables::{Table, VECTOR_RANGE, Vector};
+use tables::{GREATEST_ORDER, Table, VECTOR_RANGE, Vector};
 
 // T: the sum of r(i,k) x(k) over k from i + 1 to j.
 fn row_sum(t: &Table, x: &Vector, i: usize, j: usize) -> i64
@@ -34,28 +33,20 @@ fn entry(t: &Table, x: &Vector, i: usize, j: usize) -> i64
     -integers::floor_div(2 * sum + diagonal, 2 * diagonal)
 }
 
-// Puts s at j, and 0 elsewhere.
-fn start(n: usize, j: usize, s: i64, x: &mut Vector)
-    requires { (n ≤ greatest_order) × (j < n) × (length x.old ≡ greatest_order) }
-    ensures { Started n x.new j s }
-{
-    x[..n].fill(0);
-    x[j] = s;
-}
-
-// The solved vector for s, of a factoring of order n that stopped. Answers false where an entry passes ±2^15: there is none.
-pub fn solve(n: usize, t: &Table, stop: Stop, s: i64, x: &mut Vector) -> bool
-    requires { Stopped n t.now stop.column stop.rows × Within start_range s × (length x.old ≡ greatest_order) }
-    ensures { Answered (solved n (stopped_at t.now stop.column stop.rows) s) n result x.new }
+// The solved vector for s, of a factoring of order n that stopped. There is none where an entry passes ±2^15.
+pub fn solve(n: usize, t: &Table, stop: Stop, s: i64) -> Option<Vector>
+    requires { Stopped n t.now stop.column stop.rows × Within start_range s }
+    ensures { solved_of n result ≡ solved n (stopped_at t.now stop.column stop.rows) s }
 {
     let j = stop.column;
-    start(n, j, s, x);
+    let mut x = [0i64; GREATEST_ORDER];
+    x[j] = s;
     for i in (0..stop.rows).rev() {
-        let e = entry(t, x, i, j);
+        let e = entry(t, &x, i, j);
         if !tables::within(e, VECTOR_RANGE) {
-            return false;
+            return None;
         }
         x[i] = e;
     }
-    true
+    Some(x)
 }

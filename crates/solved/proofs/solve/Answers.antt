@@ -18,17 +18,17 @@ use Rattle.solved.proofs.solve.Goals as goal
 abbrev Else1 : Type 0
 Else1 = lts.Else1 tie.the-claims reads.Pre reads.Post goal.the-invariant-loop-i goal.the-decreases-loop-i
 
-abbrev In-loop : Type 0
-In-loop = lts.In-loop tie.the-claims reads.Pre reads.Post goal.the-invariant-loop-i goal.the-decreases-loop-i
+abbrev After-x : Type 0
+After-x = lts.After-x tie.the-claims reads.Pre reads.Post goal.the-invariant-loop-i goal.the-decreases-loop-i
 
 abbrev Then1 : Type 0
 Then1 = lts.Then1 tie.the-claims reads.Pre reads.Post goal.the-invariant-loop-i goal.the-decreases-loop-i
 
 -- in the loop: there is a row, and what holds before it
-inside : (c : In-loop) → c.loop-i.i - 1 < c.args.stop.rows
+inside : (c : After-x) → c.loop-i.i - 1 < c.args.stop.rows
 inside c = omega arith
 
-walked : (c : In-loop) →
+walked : (c : After-x) →
     (let a = c.args in
     let l = c.loop-i in
     Solving a.n a.t.now a.stop.column a.stop.rows (to_z w64 (of_z w64 a.s)) l.x (suc (l.i - 1)))
@@ -53,14 +53,14 @@ failed c =
     rw (clean_result e, e.ensures) at (call_false c.within.ensures c.if-not-within.true-raw)
 
 pub loop-i-init : goal.loop-i-init
-loop-i-init c = rw (clean c.ranges.s) (solving_start c.requires.0 c.requires.1 (rw (clean c.ranges.s) at c.start.ensures))
+loop-i-init c = rw (clean c.ranges.s) (solving_start c.requires.0 c.requires.1)
 
 pub entry-e-requires : goal.entry-e-requires
 entry-e-requires c = solving_ready c.requires.0 (inside c) (walked c)
 
 pub returns-then-not-within : goal.returns-then-not-within
 returns-then-not-within c =
-    record { answer = rw (clean c.ranges.s) at (solving_none c.requires.0 (inside c.before.before.before) (walked c.before.before.before) (failed c) c.loop-i.x); size = c.loop-i.invariant.size }
+    rw (clean c.ranges.s) at (solving_none c.requires.0 (inside c.before.before.before) (walked c.before.before.before) (failed c))
 
 pub loop-i-preserved : goal.loop-i-preserved
 loop-i-preserved c =
@@ -72,4 +72,4 @@ pub returns : goal.returns
 returns c =
     let l = c.loop-i in
     let e : l.i ≡ 0 = omega arith in
-    record { answer = rw (clean c.ranges.s) at (solving_end c.requires.0 (rw e at l.invariant)); size = l.invariant.size }
+    rw (clean c.ranges.s) at (solving_end c.requires.0 (rw e at l.invariant))
