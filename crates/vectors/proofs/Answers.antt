@@ -8,7 +8,7 @@ use lib.Signed.{le_z}
 use lib.ListN.{length}
 use Rattle.tables.specs.Ranges.{vector_range}
 use Rattle.tables.specs.Matrix.{Matrix, nth}
-use Rattle.tables.specs.Bounds.{Bounds, CheckedTables}
+use Rattle.tables.specs.Bounds.{Bounds}
 use Rattle.tables.specs.Checks.{all, within, order_of}
 use Rattle.tables.specs.Entering.{low_bounds, high_bounds}
 use Rattle.tables.specs.declared.Refusal.{Refusal}
@@ -18,7 +18,7 @@ use Rattle.tables.proofs.Answers.{after-passed, after_ok}
 use Rattle.tables.proofs.Admission.{entered-means}
 use Rattle.vectors.specs.Least.{least_value, nonzero, shows}
 use Rattle.vectors.specs.VectorTest.{vector_shape, vector_answer, vector_tested, Meaning}
-use Rattle.vectors.specs.LeastShares.{Asked}
+use Rattle.vectors.specs.LeastShares.{VectorEntries}
 use Rattle.vectors.proofs.Showing.{shows-witness, witness-shows, witness-handed, witness-mended}
 
 -- a vector that passed check 7 is not zero, so its least value alone decides
@@ -29,10 +29,10 @@ answer_shows n L U x e b k =
     let s : (nonzero n x && le_z (least_value n L U x) (pos 0)) ≡ b = rw (z, k) in
     ap Ok (sym s) ∙ after-passed Err _ (first_passes _ _ e ∙ first-none)
 
-pub asked : (n : ℕ) (l u v : List ℤ) → CheckedTables n l u → vector_shape n (nth v) ≡ true → n ≤ length v → Asked n l u v
+pub shaped-entries : (n : ℕ) (v : List ℤ) → vector_shape n (nth v) ≡ true → n ≤ length v → VectorEntries n v
 unfolding vector_shape
-asked n l u v t e c =
-    record { tables = t; vector-length = c; entries = λ i h. within_of vector_range (nth v i) (all-at _ n (and_right (nonzero n (nth v)) _ e) i h) }
+shaped-entries n v e c =
+    record { vector-length = c; entries = λ i h. within_of vector_range (nth v i) (all-at _ n (and_right (nonzero n (nth v)) _ e) i h) }
 
 -- ---- what an answer means
 answer_means : (n : ℕ) (l u v : List ℤ) → Bounds n (low_bounds n l) (high_bounds n u) → Meaning (vector_answer n (low_bounds n l) (high_bounds n u) (nth v)) n l u v

@@ -17,11 +17,11 @@ use Rattle.integers.proofs.Solver.{ring, solver}
 use Rattle.integers.proofs.Sums.{sum_zero, sum_suc, sum_ext, sum-none, sum-*, eqb_by}
 use Rattle.tables.specs.Ranges.{greatest_order, entry_range}
 use Rattle.tables.specs.Matrix.{Matrix, at, nth, form}
-use Rattle.tables.specs.Bounds.{Bounds}
+use Rattle.tables.specs.Bounds.{Bounds, CheckedTables}
 use Rattle.tables.proofs.Forms.{form_suc}
 use Rattle.tables.proofs.CheckedTables.{low-within, high-within}
 use Rattle.vectors.specs.Least.{least_member, least_value}
-use Rattle.vectors.specs.LeastShares.{least_term, least_pair, least_row, least_share, vector_pair_range, least_term_range, least_share_range, Asked}
+use Rattle.vectors.specs.LeastShares.{least_term, least_pair, least_row, least_share, vector_pair_range, least_term_range, least_share_range, VectorEntries}
 use Rattle.vectors.proofs.Showing.{least_by, least_symmetric}
 
 -- ---- a pair's cases
@@ -51,7 +51,7 @@ term_within : {l u p : ℤ} → Within entry_range l → Within entry_range u �
 unfolding least_term
 term_within {l} {u} {p} a b k = choice_by (Within least_term_range) (lt_z (pos 0) p) (λ t. within-* a k) (λ t. within-* b k)
 
-module _ {n : ℕ} {l u v : List ℤ} (a : Asked n l u v) where
+module _ {n : ℕ} {l u v : List ℤ} (t : CheckedTables n l u) (a : VectorEntries n v) where
   module _ {i j : ℕ} (h : i < n) (k : j < n) where
     pub product_within : Within vector_pair_range (nth v i *ℤ nth v j)
     product_within = within-* (a.entries i h) (a.entries j k)
@@ -61,12 +61,12 @@ module _ {n : ℕ} {l u v : List ℤ} (a : Asked n l u v) where
 
     pair-within : Within least_term_range (least_pair n l u v i j)
     unfolding least_pair
-    pair-within = term_within (low-within a.tables h k) (high-within a.tables h k) product_within
+    pair-within = term_within (low-within t h k) (high-within t h k) product_within
 
   module _ {i : ℕ} (h : i < n) where
     row_within : {k : ℕ} → k ≤ n → Within (greatest_order * least_term_range) (least_row n l u v i k)
     unfolding least_row
-    row_within {k} m = within_more (omega (arith, a.tables.order)) (within-sum k least_term_range _ (λ j q. pair-within h (omega arith)))
+    row_within {k} m = within_more (omega (arith, t.order)) (within-sum k least_term_range _ (λ j q. pair-within h (omega arith)))
 
     -- the next pair added up
     pub row_fits : {k : ℕ} → k < n → SFits w64 (least_row n l u v i k +ℤ least_pair n l u v i k)
@@ -77,14 +77,14 @@ module _ {n : ℕ} {l u v : List ℤ} (a : Asked n l u v) where
 
     share-within : Within least_share_range (least_share n l u v i)
     unfolding least_share
-    share-within = within-+ (within-* two-within (row_within (omega arith))) (within-* (low-within a.tables h h) (product_within h h))
+    share-within = within-+ (within-* two-within (row_within (omega arith))) (within-* (low-within t h h) (product_within h h))
 
     pub share_adds : SFits w64 (pos 2 *ℤ least_row n l u v i i +ℤ at n l i i *ℤ (nth v i *ℤ nth v i))
     unfolding least_share
     share_adds = fits_within share-within (omega arith)
 
   sum-within : (k : ℕ) → k ≤ n → Within (greatest_order * least_share_range) (sum k (least_share n l u v))
-  sum-within k m = within_more (omega (arith, a.tables.order)) (within-sum k least_share_range _ (λ i h. share-within (omega arith)))
+  sum-within k m = within_more (omega (arith, t.order)) (within-sum k least_share_range _ (λ i h. share-within (omega arith)))
 
   -- the next share added up
   pub sum_fits : {k : ℕ} → k < n → SFits w64 (sum k (least_share n l u v) +ℤ least_share n l u v k)

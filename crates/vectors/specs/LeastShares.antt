@@ -5,7 +5,6 @@ use Rattle.integers.specs.Numbers.{Within}
 use Rattle.integers.specs.Sum.{sum}
 use Rattle.tables.specs.Ranges.{greatest_order, entry_range, vector_range}
 use Rattle.tables.specs.Matrix.{at, nth}
-use Rattle.tables.specs.Bounds.{CheckedTables}
 
 -- ---- sizes: a product of two entries of a vector, a bound times such a product, and what an entry adds
 abbrev pub vector_pair_range : ℕ
@@ -33,8 +32,7 @@ least_row n l u v i k = sum k (least_pair n l u v i)
 unfoldable pub least_share : ℕ → List ℤ → List ℤ → List ℤ → ℕ → ℤ
 least_share n l u v i = pos 2 *ℤ least_row n l u v i i +ℤ at n l i i *ℤ (nth v i *ℤ nth v i)
 
--- tables that passed checks 3 to 5, and a vector with entries in their range
-pub record Asked (n : ℕ) (l u v : List ℤ) : Type 0 where
-  pub tables : CheckedTables n l u
+-- a vector of order n with entries in their range
+pub record VectorEntries (n : ℕ) (v : List ℤ) : Type 0 where
   pub vector-length : n ≤ length v
   pub entries : (i : ℕ) → i < n → Within vector_range (nth v i)

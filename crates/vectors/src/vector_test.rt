@@ -1,12 +1,13 @@
 // The vector test, R8.4 of docs/RULES.md.
-ghost use Rattle.std.specs.Prelude.{◌≡◌, ◌*◌, ◌≤◌, length};
-ghost use Rattle.tables.specs.Matrix.{at, nth};
+ghost use Rattle.std.specs.Prelude.{◌≡◌, ◌≤◌, length};
+ghost use Rattle.tables.specs.Matrix.{nth};
 ghost use Rattle.tables.specs.Checks.{order_of};
-ghost use Rattle.tables.specs.Bounds.{CheckedTables};
+ghost use Rattle.tables.specs.Bounded.{low_of, high_of};
 ghost use Rattle.vectors.specs.Least.{nonzero};
 ghost use Rattle.vectors.specs.VectorTest.{vector_shape, vector_answer, vector_test, Meaning};
 
 use crate::least::least_value;
+use tables::bounded::Bounded;
 use tables::entering::{enter, order};
 use tables::{Refusal, TABLE_ROOM, VECTOR_RANGE};
 
@@ -29,15 +30,15 @@ fn vector_shape(n: usize, x: &[i64]) -> bool
     tables::all_within(x, n, VECTOR_RANGE)
 }
 
-// Check 7 and what the vector shows, of bounds of order n, the first n² numbers of each, and the first n numbers of the vector.
-pub fn answer(n: usize, low: &[i64], high: &[i64], x: &[i64]) -> Result<bool, Refusal>
-    requires { CheckedTables n low.now high.now × (n ≤ length x.now) }
-    ensures { result ≡ vector_answer n (at n low.now) (at n high.now) (nth x.now) }
+// Check 7 and what a vector shows of bounds: the first numbers of x, as many as their order.
+pub fn answer(bounds: Bounded, x: &[i64]) -> Result<bool, Refusal>
+    requires { bounds.order ≤ length x.now }
+    ensures { result ≡ vector_answer bounds.entry.order (low_of bounds.entry) (high_of bounds.entry) (nth x.now) }
 {
-    if !vector_shape(n, x) {
+    if !vector_shape(bounds.order, x) {
         return Err(Refusal::Vector);
     }
-    Ok(least_value(n, low, high, x) <= 0)
+    Ok(least_value(bounds, x) <= 0)
 }
 
 // The vector test, of any numbers at all: n is an order or not, and each slice has any length.
@@ -51,5 +52,10 @@ pub fn test_vector(n: i64, low: &[i64], high: &[i64], x: &[i64]) -> Result<bool,
     let mut l = [0i64; TABLE_ROOM];
     let mut u = [0i64; TABLE_ROOM];
     enter(n, sized, true, low, high, &mut l, &mut u)?;
-    answer(m, &l, &u, x)
+    let bounds = Bounded {
+        order: m,
+        low: &l,
+        high: &u,
+    };
+    answer(bounds, x)
 }

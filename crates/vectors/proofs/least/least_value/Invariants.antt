@@ -5,4 +5,4 @@ use Rattle.vectors.specs.LeastShares.{least_share}
 use Rattle.vectors.proofs.least.least_value.Given as goal
 
 abbrev pub invariant-loop-i : goal.invariant-loop-i
-invariant-loop-i l = l.s ≡ sum l.i (least_share l.n l.low l.high l.x)
+invariant-loop-i l = l.s ≡ sum l.i (least_share l.bounds.order l.bounds.low.now l.bounds.high.now l.x)

@@ -51,18 +51,22 @@ returns-in_err-enter c =
     let d = came (goal.at.returns-in_err-enter c).After-enter in
     means (goal.at.returns-in_err-enter c).Start _ (rw (handed_on c.from_residual-in_err-enter.ensures.1) (entered-refused _ _ _ _ _ Err _ d c.in_err-enter.was))
 
-pub slice_bounds-answer-end : goal.slice_bounds-answer-end
-slice_bounds-answer-end c = sym c.enter.ensures.rooms.low-size
+pub slice_bounds-bounds-end : goal.slice_bounds-bounds-end
+slice_bounds-bounds-end c = sym c.enter.ensures.rooms.low-size
 
-pub slice_bounds-answer-end-2 : goal.slice_bounds-answer-end-2
-slice_bounds-answer-end-2 c = sym c.enter.ensures.rooms.high-size
+pub slice_bounds-bounds-end-2 : goal.slice_bounds-bounds-end-2
+slice_bounds-bounds-end-2 c = sym c.enter.ensures.rooms.high-size
+
+pub invariant_of-bounds : goal.invariant_of-bounds
+invariant_of-bounds c =
+    let d = came (goal.at.invariant_of-bounds c).After-enter in
+    rw (order-passed c.ranges.n c.in_ok-m.ensures).0 (record { checked = (d.held c.in_ok-enter.was).tables })
 
 pub answer-requires : goal.answer-requires
 answer-requires c =
     let d = came (goal.at.answer-requires c).After-enter in
-    let q = c.in_ok-enter.was in
-    let z = sizes-of _ _ _ _ _ (came-through _ _ _ _ _ d q).sizes in
-    rw (order-passed c.ranges.n c.in_ok-m.ensures).0 ((d.held q).tables, omega (arith, z.2))
+    let z = sizes-of _ _ _ _ _ (came-through _ _ _ _ _ d c.in_ok-enter.was).sizes in
+    rw (order-passed c.ranges.n c.in_ok-m.ensures).0 (omega (arith, z.2))
 
 pub returns : goal.returns
 unfolding vector_test vector_tested
