@@ -1,9 +1,10 @@
 -- A row that was taken, and those after it: whether factoring ends.
 use mathlib.Core.Path.{◌≡◌, refl, sym, ◌∙◌, subst}
-use mathlib.Core.Bool.{false, ◌&&◌, and-true}
+use mathlib.Core.Bool.{true, false, ◌&&◌, and-true}
 use mathlib.Core.List.{List}
 use Prim.Native.Nat.{ℕ, suc, ◌-◌, ◌≤◌, ◌<◌}
 use native.Mathlib.Omega.{arith}
+use Rattle.std.specs.Prelude.{Option, Some, None, IfSome, is_some, unwrap_or}
 use lib.Dec.{T}
 use lib.IntN.{ℤ, pos}
 use lib.Signed.{◌≤ℤ◌, le_z}
@@ -48,3 +49,14 @@ module _ {s s' : List ℤ} {n i r : ℕ} (t : ColumnsTaken s i n r s') where
 pub ends_last : (S : Matrix) (i : ℕ) → ends_from 1 S i ≡ le_z (pos 1) (S i i)
 unfolding ends_from row_from
 ends_last S i = and-true (le_z (pos 1) (S i i))
+
+-- ---- what a row or a column answers
+-- where it is some, it is before the end
+pub some_before : (a : Option ℕ) {e : ℕ} → IfSome a (λ c. c < e) → is_some a ≡ true → unwrap_or a e < e
+some_before (Some c) h t = h
+some_before None h t = cc t
+
+-- where it is none, it is the end
+pub none_end : (a : Option ℕ) (e : ℕ) → is_some a ≡ false → unwrap_or a e ≡ e
+none_end (Some c) e f = cc f
+none_end None e f = refl

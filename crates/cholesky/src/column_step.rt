@@ -1,6 +1,6 @@
 // The column step of factoring (R6.2 to R6.5 of docs/RULES.md): column j of a matrix becomes the factor's, after the columns before it. It
 // takes the leaf of the row step with the loops exchanged: all rows of one column, in place of all columns of one row.
-ghost use Rattle.std.specs.Prelude.{pos, ◌≤ℤ◌};
+ghost use Rattle.std.specs.Prelude.{pos, ◌≤ℤ◌, unwrap_or, IfSome, ◌<◌};
 ghost use Rattle.cholesky.specs.Factoring.{next_column};
 ghost use Rattle.cholesky.specs.Store.{upper, columns_of};
 ghost use Rattle.cholesky.specs.Columns.{ColumnReady, RowsTaken, ColumnWorked};
@@ -9,18 +9,18 @@ use crate::STRIDE;
 use crate::row_step::take_column;
 use tables::Table;
 
-// The rows of column j above the diagonal, one after the other. Answers the row that stopped, or j.
-fn take_rows(s: &mut Table, j: usize) -> usize
+// The rows of column j above the diagonal, one after the other. Answers the row that stopped, if one did.
+fn take_rows(s: &mut Table, j: usize) -> Option<usize>
     requires { ColumnReady s.old j × (pos 1 ≤ℤ upper s.old j j) }
-    ensures { RowsTaken s.old j result s.new }
+    ensures { IfSome result (λ i. i < j) × RowsTaken s.old j (unwrap_or result j) s.new }
 {
     for i in 0..j {
         let d = s[STRIDE * i + i];
         if !take_column(s, i, j, d) {
-            return i;
+            return Some(i);
         }
     }
-    j
+    None
 }
 
 // Works out column j, after the columns before it. Where it stops, the error is how many of its rows were worked out.
@@ -31,9 +31,8 @@ pub fn work_column(s: &mut Table, j: usize) -> Result<(), usize>
     if s[STRIDE * j + j] < 1 {
         return Err(0);
     }
-    let stop = take_rows(s, j);
-    if stop < j {
-        return Err(stop + 1);
+    if let Some(row) = take_rows(s, j) {
+        return Err(row + 1);
     }
     s[STRIDE * j + j] = integers::whole_root(s[STRIDE * j + j]);
     Ok(())

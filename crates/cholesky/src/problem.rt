@@ -1,29 +1,28 @@
 // Factoring the problem of two tables.
 ghost use Rattle.std.specs.Prelude.{◌≡◌, length};
 ghost use Rattle.tables.specs.Ranges.{table_room};
-ghost use Rattle.tables.specs.Matrix.{at};
+ghost use Rattle.tables.specs.Bounded.{low_of, high_of};
 ghost use Rattle.cholesky.specs.Factoring.{factored};
 ghost use Rattle.cholesky.specs.Store.{Stored};
-ghost use Rattle.tables.specs.Bounds.{CheckedTables};
 
 use crate::factoring::{Stop, factor};
 use crate::scaling::scale;
+use tables::bounded::Bounded;
 use tables::{TABLE_ROOM, Table};
 
-// Factors H of the tables of L and U, of order n, into the columns of t.
-pub fn factor_tables(n: usize, low: &[i64], high: &[i64], t: &mut Table) -> Result<(), Stop>
-    requires { CheckedTables n low.now high.now × (length t.old ≡ table_room) }
-    ensures { Stored (factored n (at n low.now) (at n high.now)) result t.new }
+// Factors H of bounds L and U into the columns of t.
+pub fn factor_tables(bounds: Bounded, t: &mut Table) -> Result<(), Stop>
+    requires { length t.old ≡ table_room }
+    ensures { Stored (factored bounds.entry.order (low_of bounds.entry) (high_of bounds.entry)) result t.new }
 {
-    scale(n, low, high, t);
-    factor(n, t)
+    scale(bounds.order, bounds.low, bounds.high, t);
+    factor(bounds.order, t)
 }
 
-// Whether factoring the tables of L and U, of order n, ends.
-pub fn ends(n: usize, low: &[i64], high: &[i64]) -> bool
-    requires { CheckedTables n low.now high.now }
-    ensures { result ≡ (factored n (at n low.now) (at n high.now)).ends }
+// Whether factoring bounds L and U ends.
+pub fn ends(bounds: Bounded) -> bool
+    ensures { result ≡ (factored bounds.entry.order (low_of bounds.entry) (high_of bounds.entry)).ends }
 {
     let mut t = [0i64; TABLE_ROOM];
-    factor_tables(n, low, high, &mut t).is_ok()
+    factor_tables(bounds, &mut t).is_ok()
 }

@@ -1,7 +1,7 @@
 // The row step of factoring (R6.3 and R6.4 of docs/RULES.md, by rows): row i of what is left of a matrix becomes the factor's, and the
 // rows after it the Schur complement, in place. Entry (i, j) of a table stands at STRIDE j + i. Factoring, and the trials that ask only
 // whether it ends, take their rows here; the step that adds a column to a factor is column_step.rt, over the same leaf.
-ghost use Rattle.std.specs.Prelude.{◌≡◌, suc, ◌-◌, ◌<◌, pos, ◌≤ℤ◌};
+ghost use Rattle.std.specs.Prelude.{◌≡◌, suc, ◌-◌, ◌<◌, pos, ◌≤ℤ◌, unwrap_or, IfSome};
 ghost use Rattle.integers.specs.Division.{floor_div};
 ghost use Rattle.integers.specs.Numbers.{Within};
 ghost use Rattle.integers.specs.Root.{whole_root};
@@ -38,23 +38,24 @@ pub fn take_column(s: &mut Table, i: usize, j: usize, d: i64) -> bool
 }
 
 // Works out row i to the right of its diagonal entry d, in the columns before end. The divisions do not wait for each other. Answers
-// the column that stopped, or end.
-fn take_columns(s: &mut Table, i: usize, end: usize, d: i64) -> usize
+// the column that stopped, if one did.
+fn take_columns(s: &mut Table, i: usize, end: usize, d: i64) -> Option<usize>
     requires { Factorable s.old end i × (i < end) × (pos 1 ≤ℤ d) × (d ≡ whole_root (upper s.old i i)) }
-    ensures { ColumnsTaken s.old i end result s.new }
+    ensures { IfSome result (λ c. c < end) × ColumnsTaken s.old i end (unwrap_or result end) s.new }
 {
     for j in i + 1..end {
         if !take_column(s, i, j, d) {
-            return j;
+            return Some(j);
         }
     }
-    end
+    None
 }
 
-// Works out row i in the columns before end: its diagonal entry is the root of what is left there.
-pub fn take_row(s: &mut Table, i: usize, end: usize) -> usize
+// Works out row i in the columns before end: its diagonal entry is the root of what is left there. Answers the column that stopped, if one
+// did.
+pub fn take_row(s: &mut Table, i: usize, end: usize) -> Option<usize>
     requires { Factorable s.old end i × (i < end) × (pos 1 ≤ℤ upper s.old i i) }
-    ensures { RowTaken s.old i end result s.new }
+    ensures { IfSome result (λ c. c < end) × RowTaken s.old i end (unwrap_or result end) s.new }
 {
     let d = integers::whole_root(s[STRIDE * i + i]);
     let stop = take_columns(s, i, end, d);
@@ -68,7 +69,7 @@ pub fn ends_from(s: &mut Table, n: usize, first: usize) -> bool
     ensures { result ≡ ends_from (n - first) (upper s.old) first }
 {
     for i in first..n - 1 {
-        if take_row(s, i, n) < n {
+        if take_row(s, i, n).is_some() {
             return false;
         }
     }

@@ -35,7 +35,7 @@ take_column-requires c =
 pub returns-then-not-take_column : goal.returns-then-not-take_column
 unfolding upper
 returns-then-not-take_column c =
-    taking_stops c.requires.0 c.loop-i-test.true c.loop-i.invariant (row-taken c.before) (call_false refl c.if-not-take_column.true-raw)
+    (c.loop-i-test.true, taking_stops c.requires.0 c.loop-i-test.true c.loop-i.invariant (row-taken c.before) (call_false refl c.if-not-take_column.true-raw))
 
 pub loop-i-preserved : goal.loop-i-preserved
 unfolding upper

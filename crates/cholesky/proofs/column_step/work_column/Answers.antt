@@ -22,24 +22,24 @@ pub returns-then-s-j-lt1 : goal.returns-then-s-j-lt1
 unfolding upper
 returns-then-s-j-lt1 c = worked-none c.requires (read_less (diagonal c.before.before) (pos 1) c.t9-1.given (omega arith) c.if-s-j-lt1.true)
 
-pub take_rows-stop-requires : goal.take_rows-stop-requires
+pub take_rows-requires : goal.take_rows-requires
 unfolding upper
-take_rows-stop-requires c =
+take_rows-requires c =
     (c.requires, le_of (pos 1) _ (read_not_less (diagonal c.before.before.before) (pos 1) c.t9-1.given (omega arith) c.if-s-j-lt1.false))
 
-pub returns-then-stop-j : goal.returns-then-stop-j
+pub returns-in-Some : goal.returns-in-Some
 unfolding upper
-returns-then-stop-j c = worked_stops c.requires c.take_rows-stop.ensures c.if-stop-j.true
+returns-in-Some c = let t = c.in-Some.ensures in worked_stops c.requires t.1 t.0
 
 pub whole_root-requires : goal.whole_root-requires
 unfolding upper
 whole_root-requires c =
     let z = c.requires in
-    rw (clean_element _ c.whole_root-arg-1.given) (≤ℤ_trans (pos_nonneg 1) (worked_some z c.take_rows-stop.ensures c.if-stop-j.false))
+    rw (clean_element _ c.whole_root-arg-1.given) (≤ℤ_trans (pos_nonneg 1) (worked_some z c.in_default.ensures.1 (omega arith)))
 
 pub returns : goal.returns
 unfolding upper
 returns c =
     let z = c.requires in
-    worked_rooted z c.take_rows-stop.ensures c.if-stop-j.false
+    worked_rooted z c.in_default.ensures.1 (omega arith)
     (clean_result c.whole_root ∙ (rw (clean_element _ c.whole_root-arg-1.given) at c.whole_root.ensures))

@@ -25,8 +25,10 @@ some c = le_of (pos 1) _ (read_not_less (diagonal c.before.before.before) (pos 1
 
 pub returns-then-s-j-lt1 : goal.returns-then-s-j-lt1
 unfolding upper
-returns-then-s-j-lt1 c =
-    record { bound = omega arith; some = c.loop-j.invariant; none = λ h. read_less (diagonal c.before.before.before) (pos 1) c.t10-1.given (omega arith) c.if-s-j-lt1.true }
+returns-then-s-j-lt1 c = (
+  c.loop-j-test.true,
+  record { bound = omega arith; some = c.loop-j.invariant; none = λ h. read_less (diagonal c.before.before.before) (pos 1) c.t10-1.given (omega arith) c.if-s-j-lt1.true },
+)
 
 pub loop-j-preserved : goal.loop-j-preserved
 unfolding upper

@@ -1,5 +1,5 @@
 use mathlib.Core.Path.{sym}
-use Rattle.tables.specs.Matrix.{at}
+use Rattle.tables.specs.Bounded.{low_of, high_of}
 use Rattle.cholesky.specs.Scale.{scaled}
 use Rattle.cholesky.specs.Store.{upper}
 use Rattle.cholesky.proofs.Extensional.{factoring_ext}
@@ -7,12 +7,12 @@ use Rattle.cholesky.proofs.Filling.{checked_lent, scaled_factorable}
 use Rattle.cholesky.proofs.problem.factor_tables.Goals as goal
 
 pub scale-requires : goal.scale-requires
-scale-requires c = (checked_lent c.requires.0, c.requires.1)
+scale-requires c = (checked_lent c.args.bounds.checked, c.requires)
 
 pub factor-requires : goal.factor-requires
-factor-requires c = let p = c.requires.0 in scaled_factorable p.bounds p.order c.scale.ensures
+factor-requires c = let p = c.args.bounds.checked in scaled_factorable p.bounds p.order c.scale.ensures
 
 pub returns : goal.returns
 returns c =
-    let a = c.args in
-    rw (sym (factoring_ext a.n (upper _) (scaled a.n (at a.n a.low.now) (at a.n a.high.now)) c.scale.ensures.entries)) c.factor.ensures
+    let b = c.args.bounds in
+    rw (sym (factoring_ext b.order (upper _) (scaled b.order (low_of b) (high_of b)) c.scale.ensures.entries)) c.factor.ensures

@@ -5,20 +5,21 @@ use native.Mathlib.Numerals.{add-one}
 use Rattle.integers.proofs.Parts.{le_z_true}
 use Rattle.cholesky.specs.Store.{upper}
 use Rattle.cholesky.proofs.Rows.{left_factorable}
-use Rattle.cholesky.proofs.Passing.{row_done, row_next, ends-row, ends_stop, ends_last}
+use Rattle.cholesky.proofs.Passing.{row_done, row_next, ends-row, ends_stop, ends_last, some_before, none_end}
 use Rattle.cholesky.proofs.row_step.ends_from.Goals as goal
 
-pub returns-then-take_row-n : goal.returns-then-take_row-n
-returns-then-take_row-n c =
+pub returns-then-is_some : goal.returns-then-is_some
+returns-then-is_some c =
     let v = c.loop-i.invariant in
-    sym (v.2 ∙ ends_stop c.take_row.ensures.columns (omega arith) v.1 c.if-take_row-n.true)
+    let t = c.take_row.ensures in
+    sym (v.2 ∙ ends_stop t.1.columns (omega arith) v.1 (some_before _ t.0 (sym c.is_some.ensures ∙ c.if-is_some.true)))
 
 pub loop-i-preserved : goal.loop-i-preserved
 loop-i-preserved c =
     let v = c.loop-i.invariant in
-    let k = c.if-take_row-n.false in
-    let t = c.take_row.ensures.columns in
-    rw add-one (left_factorable v.0 (omega arith) (row_done t k), row_next t k (omega arith), v.2 ∙ ends-row t (omega arith) v.1 k)
+    let e = none_end c.take_row.result c.args.n (sym c.is_some.ensures ∙ c.if-is_some.false) in
+    let t = rw e at c.take_row.ensures.1.columns in
+    rw add-one (left_factorable v.0 (omega arith) (row_done t (omega arith)), row_next t (omega arith) (omega arith), v.2 ∙ ends-row t (omega arith) v.1 (omega arith))
 
 pub returns : goal.returns
 returns c =

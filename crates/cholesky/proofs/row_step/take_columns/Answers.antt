@@ -27,8 +27,10 @@ take_column-requires c =
     (going_rowed c.requires.0 (omega arith) c.loop-j-test.true c.loop-j.invariant, rw (clean c.ranges.d) c.requires.2)
 
 pub returns-then-not-take_column : goal.returns-then-not-take_column
-returns-then-not-take_column c =
-    going_stops c.requires.0 (omega arith) c.loop-j-test.true c.loop-j.invariant (column_taken_lem c.before) (call_false refl c.if-not-take_column.true-raw)
+returns-then-not-take_column c = (
+  c.loop-j-test.true,
+  going_stops c.requires.0 (omega arith) c.loop-j-test.true c.loop-j.invariant (column_taken_lem c.before) (call_false refl c.if-not-take_column.true-raw),
+)
 
 pub loop-j-preserved : goal.loop-j-preserved
 loop-j-preserved c =

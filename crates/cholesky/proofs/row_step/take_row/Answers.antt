@@ -75,4 +75,5 @@ pub returns : goal.returns
 unfolding upper
 returns c =
     let p = c.requires in
-    row-taken p.0 p.1 (root_is c.before.before) c.take_columns-stop.ensures
+    let t = c.take_columns-stop.ensures in
+    (t.0, row-taken p.0 p.1 (root_is c.before.before) t.1)
