@@ -10,6 +10,7 @@ use lib.IntN.{ℤ, pos, ◌+ℤ◌, ◌-ℤ◌, ◌*ℤ◌}
 use lib.Signed.{le_z}
 use lib.ListN.{set, length-set}
 use lib.Seq.{get_or-set_same, get_or-set_other}
+use Rattle.std.specs.Prelude.{Some, None}
 use mir.Syntax.{w64}
 use mir.Val.{SFits}
 use Rattle.integers.specs.Numbers.{Within, min_ℤ}
@@ -85,11 +86,13 @@ module _ (y t b : ℤ) where
 
   pub smaller_within : Within half_range y → Within bound_range b → Within half_range (smaller_half y t b)
   unfolding smaller_half
-  smaller_within v w = choice_by (Within half_range) (le_z t (pos 0)) (λ p. v) (λ p. within_min v (within_more (omega arith) (within_root t b w)))
+  smaller_within v w =
+      choice_by (Within half_range) (le_z t (pos 0)) (λ p. v) (λ p. within_min v (within_more (omega arith) (within_root t b w)))
 
 -- ---- the sides as they are written
 module _ {c h : ℕ → ℤ} {x : List ℤ} where
-  pub sides_more : {m : ℕ} → m < greatest_order → SidesIn m c h x → SidesIn (suc m) c h (set (set x (2 * m) (c m -ℤ h m)) (2 * m + 1) (c m +ℤ h m))
+  pub sides_more : {m : ℕ} → m < greatest_order → SidesIn m c h x →
+      SidesIn (suc m) c h (set (set x (2 * m) (c m -ℤ h m)) (2 * m + 1) (c m +ℤ h m))
   sides_more {m} l w = record {
     size = length-set (set x (2 * m) (c m -ℤ h m)) (2 * m + 1) (c m +ℤ h m) ∙ length-set x (2 * m) (c m -ℤ h m) ∙ w.size;
     low = λ k p.
@@ -98,7 +101,8 @@ module _ {c h : ℕ → ℤ} {x : List ℤ} where
         (λ d. get_or-set_other x (2 * m) (2 * k) (c m -ℤ h m) (pos 0) (omega arith) ∙ w.low k (omega arith));
     high = λ k p.
         by_cases (ℕ_discrete k m)
-        (λ e. rw e (get_or-set_same (set x (2 * m) (c m -ℤ h m)) (2 * m + 1) (c m +ℤ h m) (pos 0) (omega (arith, w.size, length-set x (2 * m) (c m -ℤ h m)))))
+        (λ e. rw e (get_or-set_same (set x (2 * m) (c m -ℤ h m)) (2 * m + 1) (c m +ℤ h m) (pos 0)
+        (omega (arith, w.size, length-set x (2 * m) (c m -ℤ h m)))))
         (λ d. get_or-set_other (set x (2 * m) (c m -ℤ h m)) (2 * m + 1) (2 * k + 1) (c m +ℤ h m) (pos 0) (omega arith)
         ∙ get_or-set_other x (2 * m) (2 * k + 1) (c m -ℤ h m) (pos 0) (omega arith) ∙ w.high k (omega arith));
   }
@@ -113,7 +117,8 @@ module _ {c h : ℕ → ℤ} {x : List ℤ} where
       let e : suc n + suc n ≡ suc (suc (n + n)) = omega arith in
       let low : c n -ℤ h n ≡ nth x (n + n) = sym (w.low n (omega arith)) ∙ ap (nth x) (omega arith) in
       let high : c n +ℤ h n ≡ nth x (suc (n + n)) = sym (w.high n (omega arith)) ∙ ap (nth x) (omega arith) in
-      rw (e, low, high, sides_are n (sides_fewer w)) (sym (append_assoc (tabulate (n + n) (nth x)) (nth x (n + n) ∷ []) (nth x (suc (n + n)) ∷ [])))
+      rw (e, low, high, sides_are n (sides_fewer w))
+      (sym (append_assoc (tabulate (n + n) (nth x)) (nth x (n + n) ∷ []) (nth x (suc (n + n)) ∷ [])))
 
   sides_same : {n : ℕ} {i : ℕ → ℤ} → ((k : ℕ) → k < n → h k ≡ i k) → SidesIn n c h x → SidesIn n c i x
   sides_same e w = record {
@@ -131,11 +136,12 @@ module _ (n : ℕ) (c : ℕ → ℤ) (d t : ℤ) (tk : ℕ → ℤ) (g : ℕ →
   abbrev first : Bool → Box
   first r = elim r [ true ↦ second (le_z (pos 0) (second_bound n d t g)) | false ↦ empty ]
 
-  pub box_none : (x : List ℤ) → le_z (pos 0) (bound n d t g) ≡ false → box_of n c d t tk g ≡ box_in n false x
+  pub box_none : le_z (pos 0) (bound n d t g) ≡ false → box_in n None ≡ box_of n c d t tk g
   unfolding box_of box_in
-  box_none x e = ap first e
+  box_none e = sym (ap first e)
 
-  second_decides : le_z (pos 0) (bound n d t g) ≡ true → (r : Bool) → le_z (pos 0) (second_bound n d t g) ≡ r → box_of n c d t tk g ≡ second r
+  second_decides : le_z (pos 0) (bound n d t g) ≡ true → (r : Bool) → le_z (pos 0) (second_bound n d t g) ≡ r →
+      box_of n c d t tk g ≡ second r
   unfolding box_of
   second_decides e r f = ap first e ∙ ap second f
 
@@ -149,11 +155,11 @@ module _ (n : ℕ) (c : ℕ → ℤ) (d t : ℤ) (tk : ℕ → ℤ) (g : ℕ →
     half_is k h = ap (λ (z : ℤ). smaller_half z (tk k) (second_bound n d t g)) (f.entries k h)
 
     module _ (e : le_z (pos 0) (bound n d t g) ≡ true) where
-      pub box_empty : (x : List ℤ) → le_z (pos 0) (second_bound n d t g) ≡ false → box_of n c d t tk g ≡ box_in n false x
+      pub box_empty : le_z (pos 0) (second_bound n d t g) ≡ false → box_in n None ≡ box_of n c d t tk g
       unfolding box_in
-      box_empty x p = second_decides e false p
+      box_empty p = sym (second_decides e false p)
 
       pub box_sides : {x : List ℤ} → le_z (pos 0) (second_bound n d t g) ≡ true →
-          SidesIn n c (λ k. smaller_half (nth y k) (tk k) (second_bound n d t g)) x → box_of n c d t tk g ≡ box_in n true x
+          SidesIn n c (λ k. smaller_half (nth y k) (tk k) (second_bound n d t g)) x → box_in n (Some x) ≡ box_of n c d t tk g
       unfolding box_in
-      box_sides p w = second_decides e true p ∙ ap sides (sides_are n (sides_same half_is w))
+      box_sides p w = sym (second_decides e true p ∙ ap sides (sides_are n (sides_same half_is w)))

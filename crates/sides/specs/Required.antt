@@ -1,5 +1,5 @@
 -- What the code of the box asks, and what it leaves in a buffer.
-use Rattle.std.specs.Prelude.{◌≡◌, Bool, true, false, List, ℕ, ◌+◌, ◌-◌, ◌*◌, ◌≤◌, ◌<◌, ℤ, pos, ◌+ℤ◌, ◌-ℤ◌, ◌≤ℤ◌, length}
+use Rattle.std.specs.Prelude.{◌≡◌, List, ℕ, ◌+◌, ◌-◌, ◌*◌, ◌≤◌, ◌<◌, ℤ, pos, ◌+ℤ◌, ◌-ℤ◌, ◌≤ℤ◌, length, Option, Some, None}
 use Rattle.integers.specs.Numbers.{Within}
 use Rattle.tables.specs.Ranges.{greatest_order, sides_room, centre_range, gradient_range}
 use Rattle.tables.specs.Matrix.{nth, tabulate}
@@ -45,10 +45,6 @@ pub record SidesIn (n : ℕ) (c h : ℕ → ℤ) (x : List ℤ) : Type 0 where
   pub high : (k : ℕ) → k < n → nth x (2 * k + 1) ≡ c k +ℤ h k
 
 -- the box whose sides stand in x, or the empty one
-unfoldable pub box_in : ℕ → Bool → List ℤ → Box
-box_in n r x = elim r [ true ↦ sides (tabulate (n + n) (nth x)) | false ↦ empty ]
-
--- the code's answer r and the sides in x are what o has
-pub record SidesAnswered (o : Box) (n : ℕ) (r : Bool) (x : List ℤ) : Type 0 where
-  pub answer : o ≡ box_in n r x
-  pub size : length x ≡ sides_room
+unfoldable pub box_in : ℕ → Option (List ℤ) → Box
+box_in n (Some x) = sides (tabulate (n + n) (nth x))
+box_in n None = empty

@@ -2,7 +2,7 @@
 use Rattle.tables.specs.Matrix.{nth}
 use Rattle.sides.specs.Sides.{smaller_half}
 use Rattle.sides.specs.Required.{SidesIn}
-use Rattle.sides.proofs.write_sides.Given as goal
+use Rattle.sides.proofs.sides_from.Given as goal
 
 abbrev pub invariant-loop-k : goal.invariant-loop-k
-invariant-loop-k live = SidesIn live.k (nth live.c) (λ i. smaller_half (nth live.y i) (nth live.tk i) live.b) live.out
+invariant-loop-k live = SidesIn live.k (nth live.c) (λ i. smaller_half (nth live.y i) (nth live.tk i) live.b) live.sides
