@@ -21,7 +21,8 @@ use Rattle.tables.specs.Bounds.{Bounds, CheckedTables}
 use Rattle.tables.proofs.Forms.{form_suc}
 use Rattle.tables.proofs.CheckedTables.{low-within, high-within}
 use Rattle.vectors.specs.Least.{least_member, least_value}
-use Rattle.vectors.specs.LeastShares.{least_term, least_pair, least_row, least_share, vector_pair_range, least_term_range, least_share_range, VectorEntries}
+use Rattle.vectors.specs.LeastShares.{least_term, least_pair, least_row, least_share, VectorEntries}
+use Rattle.vectors.specs.LeastShares.{vector_pair_range, least_term_range, least_share_range}
 use Rattle.vectors.proofs.Showing.{least_by, least_symmetric}
 
 -- ---- a pair's cases

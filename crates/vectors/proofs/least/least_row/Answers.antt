@@ -10,7 +10,8 @@ use Rattle.vectors.proofs.least.least_row.Goals as goal
 pub overflow_add-s : goal.overflow_add-s
 overflow_add-s c =
     let p = c.requires in
-    rw (clean_element c.least_pair-s.result c.least_pair-s.type_inv, c.least_pair-s.ensures, c.loop-k.invariant) (row_fits c.args.bounds.checked p.0 p.1 (omega arith))
+    rw (clean_element c.least_pair-s.result c.least_pair-s.type_inv, c.least_pair-s.ensures, c.loop-k.invariant)
+    (row_fits c.args.bounds.checked p.0 p.1 (omega arith))
 
 pub loop-k-init : goal.loop-k-init
 unfolding least_row

@@ -8,7 +8,8 @@ use Rattle.vectors.proofs.least.least_value.Goals as goal
 
 pub overflow_add-s : goal.overflow_add-s
 overflow_add-s c =
-    rw (clean_element c.least_share-s.result c.least_share-s.type_inv, c.least_share-s.ensures, c.loop-i.invariant) (sum_fits c.args.bounds.checked c.requires c.loop-i-test.true)
+    rw (clean_element c.least_share-s.result c.least_share-s.type_inv, c.least_share-s.ensures, c.loop-i.invariant)
+    (sum_fits c.args.bounds.checked c.requires c.loop-i-test.true)
 
 pub loop-i-init : goal.loop-i-init
 loop-i-init c = sym (sum_zero _)
@@ -17,7 +18,8 @@ pub loop-i-preserved : goal.loop-i-preserved
 loop-i-preserved c =
     let l = c.loop-i in
     clean (overflow_add-s c)
-    ∙ rw (clean_element c.least_share-s.result c.least_share-s.type_inv, c.least_share-s.ensures, l.invariant, add-one) (sym (sum_suc l.i _))
+    ∙ rw (clean_element c.least_share-s.result c.least_share-s.type_inv, c.least_share-s.ensures, l.invariant, add-one)
+    (sym (sum_suc l.i _))
 
 pub returns : goal.returns
 returns c =

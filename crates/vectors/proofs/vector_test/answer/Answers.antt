@@ -26,4 +26,6 @@ unfolding vector_answer
 least_value-requires c = shaped-entries _ _ (shaped c) c.requires
 
 pub returns : goal.returns
-returns c = rw (clean_element c.least_value.result c.least_value.type_inv, c.least_value.ensures) (answer_shows _ _ _ _ (shaped (goal.at.returns c).Else-not-vector_shape) _ refl)
+returns c =
+    rw (clean_element c.least_value.result c.least_value.type_inv, c.least_value.ensures)
+    (answer_shows _ _ _ _ (shaped (goal.at.returns c).Else-not-vector_shape) _ refl)
