@@ -21,7 +21,8 @@ use Rattle.fields.specs.Layouts.{part_of, seen, unseen, placed, Walked, walk, wa
 use Rattle.fields.specs.Entries.{Entry, head_bytes, entry_bytes, bytes_of_entries, entry_of, Writable, content_seen, Written}
 use Rattle.fields.proofs.Finding.{Stands, kind_place, same_kind, tag_known, field_end, field-whole, found_inside, found_end}
 use Rattle.fields.proofs.Walking.{seen_is, walk_end, walk_more, walk_ind}
-use Rattle.fields.proofs.Parts.{kind_discrete, HasPlaces, unseen-part, unseen_places, part-placed, part-kept, placed_places, layout_is, content_there, content_missing}
+use Rattle.fields.proofs.Parts.{kind_discrete, HasPlaces, unseen-part, unseen_places, part-placed, part-kept, placed_places, layout_is}
+use Rattle.fields.proofs.Parts.{content_there, content_missing}
 
 -- ---- the content of a kind among the entries
 module _ (e : Entry) (es : List Entry) (k : Kind) where
@@ -69,7 +70,9 @@ module _ (s : List ℕ) (at : ℕ) (e : Entry) (rest : List ℕ) (h : drop at s 
       ∙ from_le_bytes-to_le_bytes 2 (length e.bytes) b
 
   behind-head : drop (at + head) s ≡ e.bytes ++ rest
-  behind-head = sym (drop-drop head at s) ∙ ap (drop head) split ∙ drop_at (head_bytes e) (e.bytes ++ rest) head (ap suc (length-to_le_bytes 2 (length e.bytes)))
+  behind-head =
+      sym (drop-drop head at s) ∙ ap (drop head) split
+      ∙ drop_at (head_bytes e) (e.bytes ++ rest) head (ap suc (length-to_le_bytes 2 (length e.bytes)))
 
   entry-content : take (length e.bytes) (drop (at + head) s) ≡ e.bytes
   entry-content = rw behind-head (take_at e.bytes rest _ refl)
@@ -79,7 +82,9 @@ module _ (s : List ℕ) (at : ℕ) (e : Entry) (rest : List ℕ) (h : drop at s 
 
   entry_found : length e.bytes < 256 ^ 2 → field_at s at ≡ Ok (Some (field_of at e))
   unfolding tagged
-  entry_found b = sym (field-whole s at {t = Ok e.kind} (sym (entry_length b)) (omega (arith, entry-size)) (sym (ap kind_of entry_tag ∙ (kind_place e.kind).0)))
+  entry_found b =
+      sym (field-whole s at {t = Ok e.kind} (sym (entry_length b)) (omega (arith, entry-size))
+      (sym (ap kind_of entry_tag ∙ (kind_place e.kind).0)))
 
 -- ---- the walk over entries
 module _ (s : List ℕ) where
@@ -94,10 +99,16 @@ module _ (s : List ℕ) where
   unfolding entry_of
   reads_none l = record { layout = l; passed = refl; found = λ k b q. cc q; kept = λ k q. refl }
 
-  module _ (e : Entry) (es : List Entry) (at : ℕ) (l : Layout) (h : drop at s ≡ entry_bytes e ++ bytes_of_entries es) (d : entry_of es e.kind ≡ None) (z : HasPlaces l) where
+  module _ (e : Entry) (es : List Entry) (at : ℕ) (l : Layout) (h : drop at s ≡ entry_bytes e ++ bytes_of_entries es)
+      (d : entry_of es e.kind ≡ None) (z : HasPlaces l) where
     reads_more : (w : Walked) → Reads es (placed l (field_of at e)) w → Reads (e ∷ es) l w
     reads_more w r =
-        record { layout = r.layout; passed = r.passed; found = λ k. found k (kind_discrete k e.kind); kept = λ k. kept k (kind_discrete k e.kind) }
+        record {
+          layout = r.layout;
+          passed = r.passed;
+          found = λ k. found k (kind_discrete k e.kind);
+          kept = λ k. kept k (kind_discrete k e.kind);
+        }
       where
         found : (k : Kind) → Dec (k ≡ e.kind) → (b : List ℕ) → entry_of (e ∷ es) k ≡ Some b → content_seen s r.layout k ≡ Some b
         found k (yes p) b q =
@@ -114,7 +125,8 @@ module _ (s : List ℕ) where
   abbrev Above : ℕ → Layout → Type 0
   Above t l = (k : Kind) → t < tag_of k → part_of l k ≡ None
 
-  reads : (es : List Entry) (at t : ℕ) (l : Layout) → drop at s ≡ bytes_of_entries es → Writable t es → HasPlaces l → Above t l → Reads es l (walk s at t l)
+  reads : (es : List Entry) (at t : ℕ) (l : Layout) → drop at s ≡ bytes_of_entries es → Writable t es → HasPlaces l → Above t l →
+      Reads es l (walk s at t l)
   unfolding bytes_of_entries Writable
   reads [] at t l h w z u =
       let end : length s ≤ at = let q = sym (length-drop at s) ∙ ap length h in omega arith in
@@ -176,7 +188,8 @@ module _ (s : List ℕ) (v : AllBytes s) where
         let number : unsigned_at 2 s (at + 1) ≡ length (entry_at f).bytes = sym (content-size ∙ w.size) in
         drop-cons s at 0 (omega arith)
         ∙ rw (tag, ← add-one at, number_bytes 2 (at + 1) (omega arith), number, content-behind)
-        (ap (λ (t : List ℕ). tag_of f.kind ∷ t) (sym (append_assoc (to_le_bytes 2 (length (entry_at f).bytes)) (entry_at f).bytes (drop f.next s))))
+        (ap (λ (t : List ℕ). tag_of f.kind ∷ t)
+        (sym (append_assoc (to_le_bytes 2 (length (entry_at f).bytes)) (entry_at f).bytes (drop f.next s))))
 
   -- the entries from a place on, behind the tag t
   record Behind (at t : ℕ) : Type 0 where

@@ -10,7 +10,8 @@ use Rattle.fields.specs.declared.field.Kind.{Kind}
 use Rattle.fields.specs.declared.field.Part.{Part}
 use Rattle.fields.specs.declared.layout.Layout.{Layout}
 use Rattle.fields.specs.Fields.{kind_count, kind_in, kind_of, tagged, field_at}
-use Rattle.fields.specs.Layouts.{part_of, start_of, length_of, seen, unseen, placed, Walked, walk_on, walk_fields, walk, walked, layout_of, content}
+use Rattle.fields.specs.Layouts.{part_of, start_of, length_of, seen, unseen, placed, Walked, walk_on, walk_fields, walk, walked, layout_of}
+use Rattle.fields.specs.Layouts.{content}
 
 record Line : Type 0 where
   file : List ℕ
@@ -68,5 +69,6 @@ unfolding walked walk walk_fields walk_on seen part_of unseen placed field_at ta
 as_worked_out = refl
 
 high-ends-content : content case_p (layout_of case_p) Kind.LinearHigh ≡ 0xf8 ∷ 0xff ∷ 0xff ∷ 0xff ∷ 0xff ∷ 0xff ∷ 0xff ∷ 0xff ∷ []
-unfolding content start_of length_of walked walk walk_fields walk_on seen part_of unseen placed field_at tagged kind_of kind_in unsigned_at from_le_bytes
+unfolding content start_of length_of walked walk walk_fields walk_on seen part_of unseen placed field_at tagged kind_of kind_in unsigned_at
+    from_le_bytes
 high-ends-content = refl

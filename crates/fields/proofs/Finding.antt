@@ -9,22 +9,12 @@ use lib.ListN.{length, get_or}
 use borrow.Author.Tests.{le-leb, lt-leb, eq-eqb, ne_eqb}
 use Rattle.std.specs.Prelude.{Some, None, Ok, Err}
 use Rattle.words.specs.Numbers.{unsigned_at}
-use Rattle.tables.specs.declared.Refusal.TheVariants.{Cut, Tag}
+use Rattle.tables.specs.declared.Refusal.TheVariants.{Cut}
 use Rattle.fields.specs.declared.field.Kind.{Kind}
 use Rattle.fields.specs.declared.field.Field.{Field}
 use Rattle.fields.specs.Fields.{kinds, kind_count, place_of, tag_of, Tagged, kind_in, kind_of, head, tagged, field_at}
 
 -- ---- tags
--- the number t is none of the tags
-abbrev pub Unlisted : List Kind → ℕ → Type 0
-Unlisted [] t = Unit
-Unlisted (k ∷ ks) t = (t ≡ tag_of k → ⊥) × Unlisted ks t
-
-pub kind_unlisted : (ks : List Kind) (t : ℕ) → Unlisted ks t → kind_in ks t ≡ Err Tag
-unfolding kind_in
-kind_unlisted [] t u = refl
-kind_unlisted (k ∷ ks) t u = rw (ne_eqb t (tag_of k) u.0, kind_in) (kind_unlisted ks t u.1)
-
 -- each kind is listed, below their number
 pub kind_place : (k : Kind) → (kind_of (tag_of k) ≡ Ok k) × (place_of k < kind_count)
 unfolding kind_of kind_in
@@ -92,7 +82,8 @@ module _ (s : List ℕ) (at : ℕ) where
   unfolding field_at
   field_cut h k = let l : at < length s = omega arith in rw (lt-leb _ _ l, le-leb _ _ h, lt-leb _ _ k, field_at)
 
-  pub field-whole : {n : ℕ} {t : Tagged} → n ≡ unsigned_at 2 s (at + 1) → at + head + n ≤ length s → t ≡ kind_of (get_or s at 0) → tagged at n t ≡ field_at s at
+  pub field-whole : {n : ℕ} {t : Tagged} → n ≡ unsigned_at 2 s (at + 1) → at + head + n ≤ length s → t ≡ kind_of (get_or s at 0) →
+      tagged at n t ≡ field_at s at
   unfolding field_at
   field-whole {n} e k t =
       let l : at < length s = omega arith in
@@ -105,9 +96,14 @@ module _ (s : List ℕ) (at : ℕ) where
   unfolding tagged
   found_inside f e = go (dec_le (at + head + unsigned_at 2 s (at + 1)) (length s)) (dec_le (at + head) (length s)) (dec_le (length s) at)
     where
-      known : (t : Tagged) → kind_of (get_or s at 0) ≡ t → at + head + unsigned_at 2 s (at + 1) ≤ length s → tagged at (unsigned_at 2 s (at + 1)) t ≡ Ok (Some f) → Stands s at f
+      known : (t : Tagged) → kind_of (get_or s at 0) ≡ t → at + head + unsigned_at 2 s (at + 1) ≤ length s →
+          tagged at (unsigned_at 2 s (at + 1)) t ≡ Ok (Some f) → Stands s at f
       known (Ok k) q h e =
-          let r : record { kind = k; part = record { start = at + head; length = unsigned_at 2 s (at + 1) }; next = at + head + unsigned_at 2 s (at + 1) } ≡ f = cc in
+          let r : record {
+            kind = k;
+            part = record { start = at + head; length = unsigned_at 2 s (at + 1) };
+            next = at + head + unsigned_at 2 s (at + 1);
+          } ≡ f = cc in
           rw (← r) (record { tag = q; size = refl; begins = refl; ends = refl; inside = h })
       known (Err r) q h e = absurd (false≢true (cc))
 

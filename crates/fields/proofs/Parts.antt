@@ -13,7 +13,8 @@ use Rattle.fields.specs.declared.field.Part.{Part}
 use Rattle.fields.specs.declared.field.Field.{Field}
 use Rattle.fields.specs.declared.layout.Layout.{Layout}
 use Rattle.fields.specs.Fields.{kind_count, place_of, bytes_in}
-use Rattle.fields.specs.Layouts.{part_of, seen, start_in, length_in, start_of, length_of, unseen, placed, Walked, walked, layout_of, content, Inside}
+use Rattle.fields.specs.Layouts.{part_of, seen, start_in, length_in, start_of, length_of, unseen, placed, Walked, walked, layout_of}
+use Rattle.fields.specs.Layouts.{content, Inside}
 use Rattle.fields.specs.Entries.{content_seen}
 use Rattle.fields.proofs.Finding.{Stands, place-below, same_kind, found_inside}
 use Rattle.fields.proofs.Walking.{walk_ind}

@@ -37,16 +37,19 @@ module _ (t : ℕ) (l : Layout) (next : ℕ → ℕ → Layout → Walked) (f : 
   unfolding walk_on
   on_falling e h = rw (e, h, walk_on)
 
-  on_more : seen l f.kind ≡ false → ltb (tag_of f.kind) t ≡ false → walk_on (Ok (Some f)) t l next ≡ next f.next (tag_of f.kind) (placed l f)
+  on_more : seen l f.kind ≡ false → ltb (tag_of f.kind) t ≡ false →
+      walk_on (Ok (Some f)) t l next ≡ next f.next (tag_of f.kind) (placed l f)
   unfolding walk_on
   on_more e h = rw (e, h, walk_on)
 
 -- the rest of the walk counts only where the field at hand ends
 on_ext : (r : Found) (t : ℕ) (l : Layout) (g h : ℕ → ℕ → Layout → Walked) →
-    ((f : Field) → r ≡ Ok (Some f) → g f.next (tag_of f.kind) (placed l f) ≡ h f.next (tag_of f.kind) (placed l f)) → walk_on r t l g ≡ walk_on r t l h
+    ((f : Field) → r ≡ Ok (Some f) → g f.next (tag_of f.kind) (placed l f) ≡ h f.next (tag_of f.kind) (placed l f)) →
+    walk_on r t l g ≡ walk_on r t l h
 unfolding walk_on
 on_ext (Ok (Some f)) t l g h e =
-    ap (λ (w : Walked). elim (seen l f.kind) [ true ↦ Err Again | false ↦ elim (ltb (tag_of f.kind) t) [ true ↦ Err Falling | false ↦ w ] ]) (e f refl)
+    ap (λ (w : Walked). elim (seen l f.kind) [ true ↦ Err Again | false ↦ elim (ltb (tag_of f.kind) t) [ true ↦ Err Falling | false ↦ w ] ])
+    (e f refl)
 on_ext (Ok None) t l g h e = refl
 on_ext (Err r) t l g h e = refl
 
@@ -77,7 +80,8 @@ module _ (s : List ℕ) where
   walk_unfolds at t l =
       ap (λ (n : ℕ). walk_fields n s at t l) (add-one (length s))
       ∙ on_ext (field_at s at) t l (walk_fields (length s) s) (walk s)
-      (λ f e. turns_enough (length s) (length s + 1) f.next (tag_of f.kind) (placed l f) (omega (arith, next-behind at f e)) (omega (arith, next-behind at f e)))
+      (λ f e. turns_enough (length s) (length s + 1) f.next (tag_of f.kind) (placed l f) (omega (arith, next-behind at f e))
+      (omega (arith, next-behind at f e)))
 
   module _ (at t : ℕ) (l : Layout) where
     pub walk_end : field_at s at ≡ Ok None → walk s at t l ≡ Ok l
@@ -105,8 +109,10 @@ module _ (s : List ℕ) (R : ℕ → ℕ → Layout → Walked → Type 0)
     (end : (at t : ℕ) (l : Layout) → field_at s at ≡ Ok None → R at t l (Ok l))
     (stop : (at t : ℕ) (l : Layout) (r : Refusal) → R at t l (Err r)) where
   module _ (at t : ℕ) (l : Layout)
-      (rest : (f : Field) → field_at s at ≡ Ok (Some f) → R f.next (tag_of f.kind) (placed l f) (walk s f.next (tag_of f.kind) (placed l f))) where
-    field-turn : (f : Field) → field_at s at ≡ Ok (Some f) → (b c : Bool) → seen l f.kind ≡ b → ltb (tag_of f.kind) t ≡ c → R at t l (walk s at t l)
+      (rest : (f : Field) → field_at s at ≡ Ok (Some f) →
+      R f.next (tag_of f.kind) (placed l f) (walk s f.next (tag_of f.kind) (placed l f))) where
+    field-turn : (f : Field) → field_at s at ≡ Ok (Some f) → (b c : Bool) → seen l f.kind ≡ b → ltb (tag_of f.kind) t ≡ c →
+        R at t l (walk s at t l)
     field-turn f e true c q h = rw (walk_again s at t l f e q) (stop at t l Again)
     field-turn f e false true q h = rw (walk_falling s at t l f e q h) (stop at t l Falling)
     field-turn f e false false q h = rw (walk_more s at t l f e q h) (more at t l f _ e q (ltb-false (tag_of f.kind) t h) (rest f e))
@@ -118,7 +124,8 @@ module _ (s : List ℕ) (R : ℕ → ℕ → Layout → Walked → Type 0)
 
   turns : (n at t : ℕ) (l : Layout) → length s < at + n → R at t l (walk s at t l)
   turns zero at t l h = turn at t l (λ f e. absurd (omega (arith, found_inside s at f e))) (field_at s at) refl
-  turns (suc n) at t l h = turn at t l (λ f e. turns n f.next (tag_of f.kind) (placed l f) (omega (arith, next-behind s at f e))) (field_at s at) refl
+  turns (suc n) at t l h =
+      turn at t l (λ f e. turns n f.next (tag_of f.kind) (placed l f) (omega (arith, next-behind s at f e))) (field_at s at) refl
 
   pub walk_ind : (at t : ℕ) (l : Layout) → R at t l (walk s at t l)
   walk_ind at t l = turns (length s + 1) at t l (omega arith)

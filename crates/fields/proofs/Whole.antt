@@ -1,5 +1,5 @@
--- R16.3 of docs/RULES.md: a file with all kinds that the walk passes is their fields in the order of the tags, one after the other and nothing
--- else; and such a file passes, with its contents.
+-- R16.3 of docs/RULES.md: a file with all kinds that the walk passes is their fields in the order of the tags, one after the other
+-- and nothing else; and such a file passes, with its contents.
 use mathlib.Core.Path.{◌≡◌, refl, sym, ap, ◌∙◌}
 use mathlib.Core.Bool.{Bool, true, false, false≢true}
 use mathlib.Core.List.{List, [], ◌∷◌, map}
@@ -13,7 +13,8 @@ use Rattle.fields.specs.declared.field.Kind.{Kind}
 use Rattle.fields.specs.declared.layout.Layout.{Layout}
 use Rattle.fields.specs.Fields.{kinds, kind_count, place_of, tag_of, head}
 use Rattle.fields.specs.Layouts.{seen, walked, layout_of, content}
-use Rattle.fields.specs.Entries.{Entry, entry_bytes, bytes_of_entries, entry_of, Writable, content_seen, Written, entry_with, all_entries, whole_file}
+use Rattle.fields.specs.Entries.{Entry, entry_bytes, bytes_of_entries, entry_of, Writable, content_seen, Written, entry_with, all_entries}
+use Rattle.fields.specs.Entries.{whole_file}
 use Rattle.fields.proofs.Finding.{place-below, same_kind}
 use Rattle.fields.proofs.Parts.{kind_discrete, layout_is}
 use Rattle.fields.proofs.Entries.{entry_here, entry_next, none_below, written-passes, written_contents, passed-written}
@@ -66,8 +67,10 @@ module _ (c : Kind → List ℕ) where
       let p = first_kind t k e es h.0 w a in
       let q : tag_of e.kind ≡ t + 1 = ap tag_of p ∙ h.0 in
       let here : e.bytes ≡ c k = cc (entry_here e es k (sym p), a k (let b = h.0 in omega arith)) in
-      let same : e ≡ entry_with c k = ap (λ (x : Kind). record { kind = x; bytes = e.bytes }) p ∙ ap (λ (b : List ℕ). record { kind = k; bytes = b }) here in
-      let more : Has (t + 1) es = λ x b. let n : x ≡ e.kind → ⊥ = λ o. let r = ap place_of o in omega arith in sym (entry_next e es x n) ∙ a x (omega arith) in
+      let same : e ≡ entry_with c k =
+      ap (λ (x : Kind). record { kind = x; bytes = e.bytes }) p ∙ ap (λ (b : List ℕ). record { kind = k; bytes = b }) here in
+      let more : Has (t + 1) es =
+      λ x b. let n : x ≡ e.kind → ⊥ = λ o. let r = ap place_of o in omega arith in sym (entry_next e es x n) ∙ a x (omega arith) in
       let rest = in_order ks es (t + 1) h.1 (rw (← q) w.2) more in
       cc
 
@@ -75,8 +78,7 @@ module _ (c : Kind → List ℕ) where
 module _ (c : Kind → List ℕ) (b : (k : Kind) → length (c k) < 256 ^ 2) where
   all-writable : Writable 0 (all_entries c)
   unfolding Writable
-  all-writable =
-      (b Kind.Order, omega arith, (b Kind.Low, omega arith, (b Kind.High, omega arith, (b Kind.LinearLow, omega arith, (b Kind.Limit, omega arith, (b Kind.Centre, omega arith, (b Kind.LinearHigh, omega arith, tt)))))))
+  all-writable = search (arith, b)
 
   all_have : (k : Kind) → entry_of (all_entries c) k ≡ Some (c k)
   unfolding entry_of
@@ -115,7 +117,8 @@ pub passed-whole : (s : List ℕ) {l : Layout} → AllBytes s → walked s ≡ O
 unfolding whole_file
 passed-whole s {l} v p a =
     let w = passed-written s v p in
-    let has : Has (content s l) 0 w.entries = λ k h. sym (written_contents s w k) ∙ ap (λ (m : Layout). content_seen s m k) (layout_is s p) ∙ seen-content s l k (a k) in
+    let has : Has (content s l) 0 w.entries =
+    λ k h. sym (written_contents s w k) ∙ ap (λ (m : Layout). content_seen s m k) (layout_is s p) ∙ seen-content s l k (a k) in
     let first : From 0 kinds = (refl, (refl, (refl, (refl, (refl, (refl, (refl, omega arith))))))) in
     w.file ∙ ap bytes_of_entries (in_order (content s l) kinds w.entries 0 first w.writable has)
 
@@ -128,12 +131,16 @@ abbrev contents_length : (Kind → List ℕ) → List Kind → ℕ
 contents_length c [] = 0
 contents_length c (k ∷ ks) = length (c k) + contents_length c ks
 
-length-entries : (c : Kind → List ℕ) (ks : List Kind) → length (bytes_of_entries (map (entry_with c) ks)) ≡ length ks * head + contents_length c ks
+length-entries : (c : Kind → List ℕ) (ks : List Kind) →
+    length (bytes_of_entries (map (entry_with c) ks)) ≡ length ks * head + contents_length c ks
 unfolding bytes_of_entries
 length-entries c [] = refl
-length-entries c (k ∷ ks) = length-append (entry_bytes (entry_with c k)) _ ∙ omega (arith, entry_length (entry_with c k), length-entries c ks)
+length-entries c (k ∷ ks) =
+    length-append (entry_bytes (entry_with c k)) _ ∙ omega (arith, entry_length (entry_with c k), length-entries c ks)
 
 pub length_whole : (c : Kind → List ℕ) →
-    length (whole_file c) ≡ kind_count * head + (length (c Kind.Order) + length (c Kind.Low) + length (c Kind.High) + length (c Kind.LinearLow) + length (c Kind.Limit) + length (c Kind.Centre) + length (c Kind.LinearHigh))
+    length (whole_file c) ≡
+    kind_count * head + (length (c Kind.Order) + length (c Kind.Low) + length (c Kind.High) + length (c Kind.LinearLow) + length
+    (c Kind.Limit) + length (c Kind.Centre) + length (c Kind.LinearHigh))
 unfolding whole_file
 length_whole c = omega (arith, length-entries c kinds)

@@ -60,6 +60,7 @@ impl TryFrom<u8> for Kind {
 
     ghost try_from_gives = { λ tag kind. kind ≡ kind_of tag };
 
+    #[tactic(auto, unfolding(crate::specs::Fields::kind_of, crate::specs::Fields::kind_in))]
     fn try_from(tag: u8) -> Result<Self, Refusal> {
         match tag {
             1 => Ok(Kind::Order),
@@ -85,6 +86,7 @@ impl Part {
 }
 
 // The length in a field's head: two bytes, low byte first.
+#[tactic(auto, unfolding(words::specs::Numbers::unsigned_at, words::specs::Numbers::from_le_bytes))]
 fn length_at(file: &[u8], at: usize) -> usize
     requires { at + head ≤ length file.now }
     ensures { result ≡ unsigned_at 2 file.now (at + 1) }
@@ -95,6 +97,7 @@ fn length_at(file: &[u8], at: usize) -> usize
 }
 
 // What stands at a place of the file (R16.4): a field, or nothing at the file's end; or what is refused, 10, then 11.
+#[tactic(auto, unfolding(crate::specs::Fields::field_at, crate::specs::Fields::tagged))]
 pub fn field_at(file: &[u8], at: usize) -> Result<Option<Field>, Refusal>
     ensures { result ≡ field_at file.now at }
 {

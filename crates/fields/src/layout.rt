@@ -11,6 +11,7 @@ pub struct Layout {
     pub parts: [Option<Part>; KINDS],
 }
 
+#[tactic(auto, unfolding(crate::specs::Layouts::unseen, crate::specs::Layouts::part_of, crate::specs::Layouts::placed))]
 impl Layout {
     // No field.
     fn unseen() -> Self
@@ -44,6 +45,7 @@ impl Layout {
 }
 
 // The layout of the file's fields, one after the other, or the first refusal of 10, 11, 12 and 19.
+#[tactic(auto, unfolding(crate::specs::Layouts::walked))]
 pub fn walk(file: &[u8]) -> Result<Layout, Refusal>
     ensures { result ≡ walked file.now }
 {
@@ -68,6 +70,7 @@ pub fn walk(file: &[u8]) -> Result<Layout, Refusal>
 }
 
 // The length of the content of a kind, 0 where there is no such field.
+#[tactic(auto, unfolding(crate::specs::Layouts::length_of))]
 pub fn length_of(layout: Layout, kind: Kind) -> usize
     ensures { result ≡ length_of layout kind }
 {
@@ -75,6 +78,7 @@ pub fn length_of(layout: Layout, kind: Kind) -> usize
 }
 
 // The content of a kind: a part of the file, the empty one where there is no such field.
+#[tactic(auto, unfolding(crate::specs::Layouts::start_of, crate::specs::Layouts::length_of, crate::specs::Layouts::content))]
 pub fn content<'a>(file: &'a [u8], layout: Layout, kind: Kind) -> &'a [u8]
     requires { start_of layout kind + length_of layout kind ≤ length file.now }
     ensures { result.now ≡ content file.now layout kind }

@@ -36,6 +36,7 @@ impl<'a> Reader<'a> {
     }
 
     // What stands at the reader's place, with its content.
+    #[tactic(auto, unfolding(crate::specs::Pieces::content_at, crate::specs::Pieces::content_of))]
     pub fn next_field(self) -> Piece<'a>
         ensures { (result.content.now ≡ content_at self.entry.file.now self.entry.at)
             × (result.found ≡ field_at self.entry.file.now self.entry.at) }
