@@ -7,11 +7,12 @@ use Prim.Native.Nat.{ℕ, zero, suc, ◌+◌, ◌<◌}
 use native.Mathlib.Omega.{arith}
 use lib.IntN.{ℤ, pos}
 use lib.Signed.{le_z}
-use lib.ListN.{length, set, length-set}
+use lib.ListN.{length, set}
 use lib.Seq.{get_or-set_same, get_or-set_other}
-use Rattle.tables.specs.Ranges.{greatest_order}
 use Rattle.tables.specs.Matrix.{nth, tabulate}
 use Rattle.tables.proofs.Matrix.{tabulate_ext}
+use Rattle.std.specs.Prelude.{Option as CodeOption, Some, None}
+use Rattle.tried.specs.Tried.{listed}
 use Rattle.tried.specs.Search.{front, or_else, reached, found, Searched}
 
 -- ---- what was found
@@ -30,32 +31,47 @@ module _ (x : List ℤ) (d k : ℕ) (a : ℤ) (h : d < length x) where
       e0 : d + 0 ≡ d
       e0 = omega arith
 
-  front-found : (r : Bool) → front a (found r (suc d) k x) ≡ found r d (suc k) (set x d a)
+-- an entry is put in front of what was found after it
+module _ {d k : ℕ} (a : ℤ) {s : Option (List ℤ)} where
+  pub chosen : {x : List ℤ} → d < length x → Searched s (suc d) k (Some x) → Searched (front a s) d (suc k) (Some (set x d a))
   unfolding front found
-  front-found true = ap some put_front
-  front-found false = refl
+  chosen {x} h f = record { answer = sym (ap some (put_front x d k a h)) ∙ ap (front a) f.answer }
 
--- the entry is put in front, whatever was found after it
-pub chosen : {x : List ℤ} {d k : ℕ} (a : ℤ) → d < greatest_order → {s : Option (List ℤ)} {r : Bool} → Searched s r (suc d) k x → Searched (front a s) r d (suc k) (set x d a)
-chosen {x} {d} {k} a h {r = r} f =
-    record { answer = ap (front a) f.answer ∙ front-found x d k a (omega (arith, f.size)) r; size = length-set x d a ∙ f.size }
+  pub chosen-none : Searched s (suc d) k None → Searched (front a s) d (suc k) None
+  unfolding front found
+  chosen-none f = record { answer = ap (front a) f.answer }
 
 -- one choice, or else another
 module _ {s : Option (List ℤ)} (t : Option (List ℤ)) {d k : ℕ} where
-  pub found_first : {x : List ℤ} → Searched s true d k x → Searched (or_else s t) true d k x
+  pub found_first : {x : List ℤ} → Searched s d k (Some x) → Searched (or_else s t) d k (Some x)
   unfolding or_else found
-  found_first f = record { answer = ap (λ (z : Option (List ℤ)). or_else z t) f.answer; size = f.size }
+  found_first f = record { answer = ap (λ (z : Option (List ℤ)). or_else z t) f.answer }
 
-  pub found-next : {x₀ x : List ℤ} {r : Bool} → Searched s false d k x₀ → Searched t r d k x → Searched (or_else s t) r d k x
+  pub found-next : {r : CodeOption (List ℤ)} → Searched s d k None → Searched t d k r → Searched (or_else s t) d k r
   unfolding or_else found
-  found-next f g = record { answer = ap (λ (z : Option (List ℤ)). or_else z t) f.answer ∙ g.answer; size = g.size }
+  found-next f g = record { answer = g.answer ∙ ap (λ (z : Option (List ℤ)). or_else z t) f.answer }
 
--- nothing is left to choose
-pub reached_is : (x : List ℤ) (d : ℕ) (s : ℤ) {r : Bool} → length x ≡ greatest_order → le_z s (pos 0) ≡ r → Searched (reached s) r d 0 x
-unfolding reached found tabulate
-reached_is x d s h e = record { answer = ap (λ (b : Bool). elim b as (λ z. Option (List ℤ)) [ true ↦ some [] | false ↦ none ]) e; size = h }
+-- no entry is left to choose
+module _ (d : ℕ) (s : ℤ) where
+  reached_by : (b : Bool) → le_z s (pos 0) ≡ b → reached s ≡ elim b as (λ z. Option (List ℤ)) [ true ↦ some [] | false ↦ none ]
+  unfolding reached
+  reached_by b e = ap (λ (b : Bool). elim b as (λ z. Option (List ℤ)) [ true ↦ some [] | false ↦ none ]) e
+
+  pub reached_yes : (x : List ℤ) → le_z s (pos 0) ≡ true → Searched (reached s) d 0 (Some x)
+  unfolding found tabulate
+  reached_yes x e = record { answer = sym (reached_by true e) }
+
+  pub reached_no : le_z s (pos 0) ≡ false → Searched (reached s) d 0 None
+  unfolding found
+  reached_no e = record { answer = sym (reached_by false e) }
 
 -- nothing is found
-pub nothing_found : {o : Option (List ℤ)} {x : List ℤ} {d k : ℕ} → length x ≡ greatest_order → o ≡ none → Searched o false d k x
+pub nothing_found : {o : Option (List ℤ)} {d k : ℕ} → o ≡ none → Searched o d k None
 unfolding found
-nothing_found h e = record { answer = e; size = h }
+nothing_found e = record { answer = sym e }
+
+-- all entries of the vector
+pub found_all : (n : ℕ) (r : CodeOption (List ℤ)) → listed n r ≡ found 0 n r
+unfolding found listed
+found_all n None = refl
+found_all n (Some x) = ap some (tabulate_ext n _ _ (λ i h. let e : 0 + i ≡ i = omega arith in rw e refl))

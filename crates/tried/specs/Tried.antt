@@ -1,6 +1,7 @@
 -- R9 of docs/RULES.md: the tried vectors, in their order, and the first vector of a list that passes a test.
-use Rattle.std.specs.Prelude.{Bool, true, false, List, [], ◌∷◌, ◌++◌, map, ℕ, zero, suc, ℤ, pos, negsuc}
+use Rattle.std.specs.Prelude.{Bool, true, false, List, [], ◌∷◌, ◌++◌, map, ℕ, zero, suc, ℤ, pos, negsuc, Option as CodeOption, Some, None}
 use Rattle.std.proofs.Math.Option.{Option, none, some}
+use Rattle.tables.specs.Matrix.{nth, tabulate}
 
 -- R9.2: three copies of the list for one entry less, with 0, with 1 and with -1 prefixed to each vector; for no entries, one vector.
 -- R9.3: the zero vector is in the list and is passed over, since it shows nothing, and is under no number.
@@ -14,3 +15,8 @@ tried (suc n) =
 unfoldable pub first : (List ℤ → Bool) → List (List ℤ) → Option (List ℤ)
 first p [] = none
 first p (x ∷ l) = elim (p x) [ true ↦ some x | false ↦ first p l ]
+
+-- what the code answers of a list: the first n entries of the vector that it found
+unfoldable pub listed : ℕ → CodeOption (List ℤ) → Option (List ℤ)
+listed n None = none
+listed n (Some x) = some (tabulate n (nth x))

@@ -5,18 +5,19 @@
 // entry OTHER_SIGN_START on -2 U, for two of different signs.
 #![tactic(auto)]
 
-ghost use Rattle.std.specs.Prelude.{◌≡◌, ℕ, suc, ◌-◌, ◌*◌, ◌≤◌, ◌<◌, pos, nat_abs, ◌+ℤ◌, length};
+ghost use Rattle.std.specs.Prelude.{◌≡◌, suc, ◌-◌, ◌*◌, ◌≤◌, ◌<◌, pos, ◌+ℤ◌, length};
 ghost use Rattle.integers.specs.Numbers.{Within};
 ghost use Rattle.tables.specs.Ranges.{greatest_order, table_room, entry_range};
-ghost use Rattle.tables.specs.Bounds.{CheckedTables};
-ghost use Rattle.tables.specs.Matrix.{at, nth};
+ghost use Rattle.tables.specs.Bounded.{low_of, high_of};
+ghost use Rattle.tables.specs.Matrix.{nth};
 ghost use Rattle.vectors.specs.Least.{shows, under};
 ghost use Rattle.lookahead.specs.Pairs.{same_sign, other_sign, under_range, share_range, sum_range};
 ghost use Rattle.lookahead.specs.Pairs.{PairTables, Open, OpenShares, Searching};
-ghost use Rattle.tried.specs.Tried.{tried, first};
+ghost use Rattle.tried.specs.Tried.{tried, first, listed};
 ghost use Rattle.tried.specs.Search.{seek, by_sign, seek_after, in_front, seek_half, Searched, FilledPairs, Added, Chosen, Diagonal};
 
 use lookahead::ahead::{OTHER_SIGN_START, PAIRS_ROOM, Pairs, passed_over, row_entry};
+use tables::bounded::Bounded;
 use tables::{GREATEST_ORDER, Vector};
 
 // Adds row d of the table from `start` on to what the entries would add. All of its room is added, which takes fewer steps than a count
@@ -80,25 +81,26 @@ fn search_after(
     sum: i64,
     plus: &Vector,
     minus: &Vector,
-    x: &mut Vector,
-) -> bool
-    requires { OpenShares n pairs.now (n - suc left) plus.now minus.now × (left < n) × Within ((n - left) * share_range) sum
-        × (length x.old ≡ greatest_order) }
+) -> Option<Vector>
+    requires { OpenShares n pairs.now (n - suc left) plus.now minus.now × (left < n) × Within ((n - left) * share_range) sum }
     ensures { Searched
         (seek_after (same_sign n pairs.now) (other_sign n pairs.now) (n - suc left) left entry
         (nth plus.now) (nth minus.now) sum)
-        result (n - left) left x.new }
+        (n - left) left result }
 {
     if left == 0 {
-        return sum <= 0;
+        if sum <= 0 {
+            return Some([0; GREATEST_ORDER]);
+        }
+        return None;
     }
     if entry == 0 {
-        return search(n, pairs, left, sum, plus, minus, x);
+        return search(n, pairs, left, sum, plus, minus);
     }
     let mut p = [0i64; GREATEST_ORDER];
     let mut q = [0i64; GREATEST_ORDER];
     choose(n, pairs, n - (left + 1), entry, plus, minus, &mut p, &mut q);
-    search(n, pairs, left, sum, &p, &q, x)
+    search(n, pairs, left, sum, &p, &q)
 }
 
 // Chooses the entries that are left, with a given one in front.
@@ -111,19 +113,18 @@ fn search_with(
     sum: i64,
     plus: &Vector,
     minus: &Vector,
-    x: &mut Vector,
-) -> bool
-    requires { Searching n pairs.now left sum plus.now minus.now × (0 < left) × (length x.old ≡ greatest_order) }
+) -> Option<Vector>
+    requires { Searching n pairs.now left sum plus.now minus.now × (0 < left) }
     ensures { Searched
         (in_front (same_sign n pairs.now) (other_sign n pairs.now) (n - left) (left - 1) entry
         (nth plus.now) (nth minus.now) sum)
-        result (n - left) left x.new }
+        (n - left) left result }
 {
     let d = n - left;
     let with = sum_with(entry, sum, plus[d], minus[d]);
-    let hit = search_after(n, pairs, left - 1, entry, with, plus, minus, x);
+    let mut x = search_after(n, pairs, left - 1, entry, with, plus, minus)?;
     x[d] = entry;
-    hit
+    Some(x)
 }
 
 // Chooses the entries that are left: tries 0, 1 and -1 in front, each with all choices of the entries after it. Where at most four are
@@ -136,86 +137,84 @@ fn search(
     sum: i64,
     plus: &Vector,
     minus: &Vector,
-    x: &mut Vector,
-) -> bool
-    requires { Searching n pairs.now left sum plus.now minus.now × (0 < left) × (length x.old ≡ greatest_order) }
+) -> Option<Vector>
+    requires { Searching n pairs.now left sum plus.now minus.now × (0 < left) }
     ensures { Searched
         (seek (same_sign n pairs.now) (other_sign n pairs.now) (n - left) left
         (nth plus.now) (nth minus.now) sum)
-        result (n - left) left x.new }
+        (n - left) left result }
 {
     if passed_over(n, pairs, left, sum, plus, minus) {
-        return false;
+        return None;
     }
-    if search_with(n, pairs, left, 0, sum, plus, minus, x) {
-        return true;
+    if let Some(x) = search_with(n, pairs, left, 0, sum, plus, minus) {
+        return Some(x);
     }
-    if search_with(n, pairs, left, 1, sum, plus, minus, x) {
-        return true;
+    if let Some(x) = search_with(n, pairs, left, 1, sum, plus, minus) {
+        return Some(x);
     }
-    search_with(n, pairs, left, -1, sum, plus, minus, x)
+    search_with(n, pairs, left, -1, sum, plus, minus)
 }
 
-// The same where all entries before them are 0: not all are, and the first that is not is 1.
-fn search_half(n: usize, pairs: &Pairs, left: usize, plus: &Vector, x: &mut Vector) -> bool
-    requires { Searching n pairs.now left (pos 0) plus.now plus.now × (length x.old ≡ greatest_order) }
+// The same where all entries before them are 0: not all are, and the first that is not is 1. The vector that is found starts as zeros.
+fn search_half(n: usize, pairs: &Pairs, left: usize, plus: &Vector) -> Option<Vector>
+    requires { Searching n pairs.now left (pos 0) plus.now plus.now }
     ensures { Searched
         (seek_half (same_sign n pairs.now) (other_sign n pairs.now) (n - left) left (nth plus.now))
-        result (n - left) left x.new }
+        (n - left) left result }
 {
     if left == 0 {
-        return false;
+        return None;
     }
-    if search_half(n, pairs, left - 1, plus, x) {
-        let d = n - left;
-        x[d] = 0;
-        return true;
+    if let Some(mut x) = search_half(n, pairs, left - 1, plus) {
+        x[n - left] = 0;
+        return Some(x);
     }
-    search_with(n, pairs, left, 1, 0, plus, plus, x)
+    search_with(n, pairs, left, 1, 0, plus, plus)
 }
 
-// What two entries add, from the tables of order n: 2 L and -2 U.
-fn fill_pairs(n: usize, low: &[i64], high: &[i64], pairs: &mut Pairs)
-    requires { CheckedTables n low.now high.now × PairTables n pairs.old }
-    ensures { FilledPairs n low.now high.now pairs.new (n * n) }
+// What two entries add, from the tables of the bounds: 2 L and -2 U.
+fn fill_pairs(bounds: Bounded, pairs: &mut Pairs)
+    requires { PairTables bounds.order pairs.old }
+    ensures { FilledPairs bounds.entry.order bounds.entry.low.now bounds.entry.high.now pairs.new
+        (bounds.entry.order * bounds.entry.order) }
 {
-    let count = n * n;
+    let count = bounds.order * bounds.order;
     for k in 0..count {
-        pairs[k] = 2 * low[k];
-        pairs[OTHER_SIGN_START + k] = -2 * high[k];
+        pairs[k] = 2 * bounds.low[k];
+        pairs[OTHER_SIGN_START + k] = -2 * bounds.high[k];
     }
 }
 
 // What each entry adds by itself, with w taken off.
-fn diagonal(n: usize, low: &[i64], w: i64, p: &mut Vector)
-    requires { (n ≤ greatest_order) × (n * n ≤ length low.now) × ((i j : ℕ) → i < n → j < n → nat_abs (at n low.now i
-        j) ≤ entry_range)
-        × Open 0 p.old × Within under_range w }
-    ensures { Diagonal n low.now w p.new n }
+fn diagonal(bounds: Bounded, w: i64, p: &mut Vector)
+    requires { Open 0 p.old × Within under_range w }
+    ensures { Diagonal bounds.entry.order bounds.entry.low.now w p.new bounds.entry.order }
 {
-    for k in 0..n {
-        p[k] = tables::entry(n, low, k, k) - w;
+    for k in 0..bounds.order {
+        p[k] = bounds.low_at(k, k) - w;
     }
 }
 
-// The first tried vector of order n that is under w, into the first n entries of x.
-pub fn first_under(n: usize, low: &[i64], high: &[i64], w: i64, x: &mut Vector) -> bool
-    requires { CheckedTables n low.now high.now × Within under_range w × (length x.old ≡ greatest_order) }
-    ensures { Searched (first (λ v. under n (at n low.now) (at n high.now) w (nth v)) (tried n))
-        result 0 n x.new }
+// The first tried vector that is under w.
+pub fn first_under(bounds: Bounded, w: i64) -> Option<Vector>
+    requires { Within under_range w }
+    ensures { listed bounds.entry.order result
+        ≡ first (λ v. under bounds.entry.order (low_of bounds.entry) (high_of bounds.entry) w (nth v))
+        (tried bounds.entry.order) }
 {
     let mut pairs = [0i64; PAIRS_ROOM];
     let mut p = [0i64; GREATEST_ORDER];
-    fill_pairs(n, low, high, &mut pairs);
-    diagonal(n, low, w, &mut p);
-    search_half(n, &pairs, n, &p, x)
+    fill_pairs(bounds, &mut pairs);
+    diagonal(bounds, w, &mut p);
+    search_half(bounds.order, &pairs, bounds.order, &p)
 }
 
-// The first tried vector of order n that shows 'not definite', into the first n entries of x.
-pub fn first_tried(n: usize, low: &[i64], high: &[i64], x: &mut Vector) -> bool
-    requires { CheckedTables n low.now high.now × (length x.old ≡ greatest_order) }
-    ensures { Searched (first (λ v. shows n (at n low.now) (at n high.now) (nth v)) (tried n))
-        result 0 n x.new }
+// The first tried vector that shows 'not definite'.
+pub fn first_tried(bounds: Bounded) -> Option<Vector>
+    ensures { listed bounds.entry.order result
+        ≡ first (λ v. shows bounds.entry.order (low_of bounds.entry) (high_of bounds.entry) (nth v))
+        (tried bounds.entry.order) }
 {
-    first_under(n, low, high, 0, x)
+    first_under(bounds, 0)
 }

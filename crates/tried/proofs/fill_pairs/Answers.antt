@@ -8,13 +8,13 @@ use Rattle.tried.proofs.fill_pairs.Goals as goal
 
 pub overflow_mul-pairs : goal.overflow_mul-pairs
 overflow_mul-pairs c =
-    rw (clean_element _ c.pairs-1.given) (twice_fits _ c.requires.0.bounds.low_range {c = pos 2} (record { size = omega arith }) c.loop-k-test.true)
+    rw (clean_element _ c.pairs-1.given) (twice_fits _ c.args.bounds.checked.bounds.low_range {c = pos 2} (record { size = omega arith }) c.loop-k-test.true)
 
 pub overflow_mul-pairs-in-loop-k : goal.overflow_mul-pairs-in-loop-k
 overflow_mul-pairs-in-loop-k c =
-    rw (clean_element _ c.pairs-in-loop-k-1.given) (twice_fits _ c.requires.0.bounds.high_range {c = negsuc 1} (record { size = omega arith }) c.loop-k-test.true)
+    rw (clean_element _ c.pairs-in-loop-k-1.given) (twice_fits _ c.args.bounds.checked.bounds.high_range {c = negsuc 1} (record { size = omega arith }) c.loop-k-test.true)
 
 pub loop-k-preserved : goal.loop-k-preserved
 loop-k-preserved c =
-    rw (clean (overflow_mul-pairs c.before), clean_element (nth c.args.low.now c.loop-k.k) c.pairs-1.given, clean (overflow_mul-pairs-in-loop-k c), clean_element _ c.pairs-in-loop-k-1.given, add-one)
-    (filled_more c.requires.0 c.loop-k-test.true c.loop-k.invariant)
+    rw (clean (overflow_mul-pairs c.before), clean_element (nth c.args.bounds.low.now c.loop-k.k) c.pairs-1.given, clean (overflow_mul-pairs-in-loop-k c), clean_element _ c.pairs-in-loop-k-1.given, add-one)
+    (filled_more c.args.bounds.checked c.loop-k-test.true c.loop-k.invariant)
