@@ -1,14 +1,14 @@
 -- The steps of single entries as they are stored: first 0 for each, then one after the other.
 use mathlib.Core.Path.{◌≡◌, ◌∙◌}
 use mathlib.Core.Logic.{by_cases}
-use mathlib.Core.List.{List, ◌++◌}
+use mathlib.Core.List.{List}
 use Prim.Native.Nat.{ℕ, suc, ◌≤◌, ◌<◌}
 use native.Mathlib.Omega.{arith}
 use native.Mathlib.Decide.{dec_lt}
 use lib.IntN.{ℤ, pos}
-use lib.ListN.{length, drop, replicate, set, length-append, length-drop, length-replicate}
+use lib.ListN.{replicate, set, length-replicate}
 use lib.Seq.{get_or-set_other}
-use Rattle.std.proofs.lemmas.List.{get_or_append_left, get_or-replicate}
+use Rattle.std.proofs.lemmas.List.{get_or-replicate}
 use Rattle.tables.specs.Ranges.{greatest_order}
 use Rattle.tables.specs.Matrix.{nth}
 use Rattle.tables.specs.Buffers.{Filled}
@@ -20,12 +20,11 @@ pub record Stored (n : ℕ) (f : ℕ → ℤ) (k : ℕ) (t : List ℤ) : Type 0 
   pub others : (j : ℕ) → k ≤ j → j < n → nth t j ≡ pos 0
 
 module _ {n : ℕ} (o : n ≤ greatest_order) {f : ℕ → ℤ} where
-  pub stored_none : (t : List ℤ) → length t ≡ greatest_order → Stored n f 0 (replicate n (pos 0) ++ drop n t)
-  stored_none t e =
+  pub stored_none : Stored n f 0 (replicate greatest_order (pos 0))
+  stored_none =
       record {
-        steps = filled_none (rw (length-append, length-replicate, length-drop) (omega (arith, e)));
-        others = λ j q l.
-            get_or_append_left (replicate n (pos 0)) (drop n t) (pos 0) j (rw length-replicate l) ∙ get_or-replicate n j (pos 0) (pos 0) l;
+        steps = filled_none (length-replicate greatest_order (pos 0));
+        others = λ j q l. get_or-replicate greatest_order j (pos 0) (pos 0) (omega arith);
       }
 
   pub stored_more : {k : ℕ} {v : ℤ} {t : List ℤ} → k < n → v ≡ f k → Stored n f k t → Stored n f (suc k) (set t k v)

@@ -2,13 +2,12 @@
 // A step t of the tables is 2^32 t of their matrix H: trials are made on a copy of it, of which only diagonal entries are lowered.
 #![tactic(auto)]
 
-ghost use Rattle.std.specs.Prelude.{◌≡◌, suc, ◌-◌, ◌≤◌, ◌<◌, pos, ◌≤ℤ◌, length};
+ghost use Rattle.std.specs.Prelude.{◌≡◌, suc, ◌-◌, ◌≤◌, ◌<◌, pos, ◌≤ℤ◌};
 ghost use Rattle.integers.specs.Numbers.{Within};
 ghost use Rattle.tables.specs.Ranges.{greatest_order};
-ghost use Rattle.tables.specs.Matrix.{at};
 ghost use Rattle.tables.specs.Checks.{all};
 ghost use Rattle.tables.specs.Buffers.{Filled};
-ghost use Rattle.tables.specs.Bounds.{CheckedTables};
+ghost use Rattle.tables.specs.Bounded.{low_of, high_of};
 ghost use Rattle.cholesky.specs.Factoring.{factored};
 ghost use Rattle.cholesky.specs.Store.{upper};
 ghost use Rattle.cholesky.specs.Reduced.{ends_from};
@@ -19,7 +18,8 @@ ghost use Rattle.steps.specs.Tables.{step_range, taken, stays, Lowered, Triable,
 use cholesky::STRIDE;
 use cholesky::row_step::{ends_from, take_row};
 use cholesky::scaling::{SCALE, scale};
-use tables::{TABLE_ROOM, Table, Vector};
+use tables::bounded::Bounded;
+use tables::{GREATEST_ORDER, TABLE_ROOM, Table, Vector};
 
 // A step has 20 bits: 2^19 is tried first.
 const STEP_BITS: usize = 20;
@@ -98,22 +98,23 @@ fn search(n: usize, first: usize, last: usize, h: &Table) -> i64
 }
 
 // t: the step of every diagonal entry.
-pub fn step(n: usize, low: &[i64], high: &[i64]) -> i64
-    requires { CheckedTables n low.now high.now }
-    ensures { result ≡ step n (at n low.now) (at n high.now) }
+pub fn step(bounds: Bounded) -> i64
+    ensures { result ≡ step bounds.entry.order (low_of bounds.entry) (high_of bounds.entry) }
 {
+    let n = bounds.order;
     let mut h = [0i64; TABLE_ROOM];
-    scale(n, low, high, &mut h);
+    scale(n, bounds.low, bounds.high, &mut h);
     search(n, 0, n, &h)
 }
 
 // Whether factoring ends with nothing taken off.
-pub fn ends(n: usize, low: &[i64], high: &[i64]) -> bool
-    requires { CheckedTables n low.now high.now × (0 < n) }
-    ensures { result ≡ (factored n (at n low.now) (at n high.now)).ends }
+pub fn ends(bounds: Bounded) -> bool
+    requires { 0 < bounds.order }
+    ensures { result ≡ (factored bounds.entry.order (low_of bounds.entry) (high_of bounds.entry)).ends }
 {
+    let n = bounds.order;
     let mut h = [0i64; TABLE_ROOM];
-    scale(n, low, high, &mut h);
+    scale(n, bounds.low, bounds.high, &mut h);
     if h[0] < 1 {
         return false;
     }
@@ -122,20 +123,21 @@ pub fn ends(n: usize, low: &[i64], high: &[i64]) -> bool
 
 // t(k), of diagonal entry k only, for each k: on what is left after the rows before k. Where factoring stops in one of these, or less
 // than 1 is left of the first diagonal entry, t(k) is 0.
-pub fn steps_at(n: usize, low: &[i64], high: &[i64], t: &mut Vector)
-    requires { CheckedTables n low.now high.now × (length t.old ≡ greatest_order) }
-    ensures { Filled greatest_order n (step_at n (at n low.now) (at n high.now)) t.new }
+pub fn steps_at(bounds: Bounded) -> Vector
+    ensures { Filled greatest_order bounds.entry.order (step_at bounds.entry.order (low_of bounds.entry) (high_of bounds.entry)) result }
 {
+    let n = bounds.order;
+    let mut t = [0i64; GREATEST_ORDER];
     let mut h = [0i64; TABLE_ROOM];
-    scale(n, low, high, &mut h);
-    t[..n].fill(0);
+    scale(n, bounds.low, bounds.high, &mut h);
     if h[0] < 1 {
-        return;
+        return t;
     }
     for k in 0..n {
         t[k] = search(n, k, k + 1, &h);
-        if take_row(&mut h, k, n) < n {
-            return;
+        if take_row(&mut h, k, n).is_some() {
+            return t;
         }
     }
+    t
 }

@@ -12,6 +12,6 @@ use Rattle.steps.proofs.steps_at.Given as goal
 
 abbrev pub invariant-loop-k : goal.invariant-loop-k
 invariant-loop-k l =
-    Stored l.n (step_at l.n (at l.n l.low) (at l.n l.high)) l.k l.t
-    × Walked (scaled l.n (at l.n l.low) (at l.n l.high)) l.h l.k l.n
-    × (l.k < l.n → pos 1 ≤ℤ upper l.h l.k l.k)
+    Stored l.bounds.order (step_at l.bounds.order (at l.bounds.order l.bounds.low.now) (at l.bounds.order l.bounds.high.now)) l.k l.t
+    × Walked (scaled l.bounds.order (at l.bounds.order l.bounds.low.now) (at l.bounds.order l.bounds.high.now)) l.h l.k l.bounds.order
+    × (l.k < l.bounds.order → pos 1 ≤ℤ upper l.h l.k l.k)
