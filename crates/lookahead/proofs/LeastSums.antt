@@ -20,7 +20,7 @@ use Rattle.tables.specs.Matrix.{Matrix, at, nth}
 use Rattle.tables.proofs.Checks.{and_right}
 use Rattle.lookahead.specs.declared.least.Share.{Share}
 use Rattle.lookahead.specs.Pairs.{same_sign, other_sign, more, open_range, sum_range, raised_range, least_range, PairTables, OpenShares}
-use Rattle.lookahead.specs.LeastSums.{least_of, least, look_ahead, passed_over, least_choice, raised, least_one, share_after, shares_after, least_shares, share_at, ShareWithin, AllWithin, LastShares}
+use Rattle.lookahead.specs.LeastSums.{least_of, least, look_ahead, passed_over, least_choice, raised, least_one, share_after, shares_after, least_shares, share_at, shares_from, ShareWithin, AllWithin, LastShares}
 use Rattle.lookahead.proofs.Sizes.{row_small}
 
 -- ---- sums of numbers as the machine reads them
@@ -38,10 +38,6 @@ pub share_is : {a b c d : ℤ} → a ≡ b → c ≡ d → ◌≡◌ {A = Share}
 share_is e f = ap₂ (λ (x y : ℤ). record { plus = x; minus = y }) e f
 
 -- ---- one law over the count: the shares of entry d and of the k after it give the least sum
-abbrev shares_from : (ℕ → ℤ) → (ℕ → ℤ) → ℤ → ℕ → ℕ → List Share
-shares_from p q s d zero = raised s (share_at p q d) ∷ []
-shares_from p q s d (suc k) = share_at p q d ∷ shares_from p q s (suc d) k
-
 swapped : (x s y : ℤ) → x +ℤ s +ℤ y ≡ x +ℤ y +ℤ s
 swapped x s y = ring (x ∷ s ∷ y ∷ []) (search solver depth 40 fits 20000) refl
 
@@ -70,21 +66,21 @@ within-least : {m : ℕ} {x y z : ℤ} → Within m x → Within m y → Within 
 unfolding least_of
 within-least {m} {x} {y} {z} f g h = min_by (min_ℤ x y) z (Within m) (λ l. min_by x y (Within m) (λ i. f) (λ i. g)) (λ l. h)
 
+pub all_more : {m k : ℕ} → m ≤ k → (l : List Share) → AllWithin m l → AllWithin k l
+all_more h [] s = tt
+all_more h (x ∷ l) s = (share_more h s.0, all_more h l s.1)
+
 abbrev Small : ℕ → List Share → Type 0
 Small d l = AllWithin (sum_range + open_range d) l
 
-small-more : (d : ℕ) (l : List Share) → Small d l → Small (suc d) l
-small-more d [] s = tt
-small-more d (x ∷ l) s = (share_more (omega arith) s.0, small-more d l s.1)
+after_length : (S O : Matrix) (d i : ℕ) (l : List Share) → length (shares_after S O d i l) ≡ length l
+unfolding shares_after
+after_length S O d i [] = refl
+after_length S O d i (a ∷ l) = ap suc (after_length S O d (suc i) l)
 
 module _ {n : ℕ} {t : List ℤ} (g : PairTables n t) {f o d : ℕ} (a : f ≤ table_room) (b : o ≤ table_room) (h : d < n) where
   abbrev After : ℕ → List Share → List Share
   After i l = shares_after (at n (drop f t)) (at n (drop o t)) d i l
-
-  after-length : (i : ℕ) (l : List Share) → length (After i l) ≡ length l
-  unfolding shares_after
-  after-length i [] = refl
-  after-length i (x ∷ l) = ap suc (after-length (suc i) l)
 
   after_small : (i : ℕ) (l : List Share) → i + length l ≤ greatest_order → Small d l → Small (suc d) (After i l)
   unfolding shares_after share_after
@@ -100,14 +96,14 @@ module _ {n : ℕ} {t : List ℤ} (g : PairTables n t) {f o d : ℕ} (a : f ≤ 
 -- the entries after the first one, which is chosen
 module _ {n : ℕ} {t : List ℤ} {s : ℤ} {d : ℕ} {a : Share} {l : List Share} (g : LastShares n t s d (a ∷ l)) where
   pub last_zero : LastShares n t s (suc d) l
-  last_zero = record { pairs = g.pairs; inside = omega (arith, g.inside); sum = g.sum; small = small-more d l g.small.1 }
+  last_zero = record { pairs = g.pairs; inside = omega (arith, g.inside); sum = g.sum; small = all_more (omega arith) l g.small.1 }
 
   pub last-after : {f o : ℕ} → f ≤ table_room → o ≤ table_room → LastShares n t s (suc d) (shares_after (at n (drop f t)) (at n (drop o t)) d (suc d) l)
   last-after p q =
       let h : d < n = omega (arith, g.inside) in
       record {
         pairs = g.pairs;
-        inside = rw (after-length g.pairs p q h (suc d) l) (omega (arith, g.inside));
+        inside = rw after_length (omega (arith, g.inside));
         sum = g.sum;
         small = after_small g.pairs p q h (suc d) l (omega (arith, g.inside, g.pairs.order)) g.small.1;
       }
@@ -126,16 +122,16 @@ module _ {n : ℕ} {t : List ℤ} {s : ℤ} {d : ℕ} {a : Share} {l : List Shar
 
 -- each entry brings the sum no further than its share
 last_within : (k : ℕ) {n : ℕ} {t : List ℤ} {s : ℤ} {d : ℕ} (l : List Share) → LastShares n t s d l →
-    Within ((k + 2) * raised_range) (least_shares (same_sign n t) (other_sign n t) s d k l)
+    Within ((length l + 1) * raised_range) (least_shares (same_sign n t) (other_sign n t) s d k l)
 unfolding least_shares least_choice least_one
 last_within zero [] g = within_more (omega arith) g.sum
 last_within zero (a ∷ l) g =
     within-least (within_more (omega arith) g.sum) (within_more (omega arith) (first-within g).plus) (within_more (omega arith) (first-within g).minus)
 last_within (suc k) [] g = within_more (omega arith) g.sum
-last_within (suc k) (a ∷ l) g =
+last_within (suc k) {n} {t} {d = d} (a ∷ l) g =
     within-least (within_more (omega arith) (last_within k l (last_zero g)))
-    (within_more (omega arith) (within-+ (first-within g).plus (last_within k _ (last_one g))))
-    (within_more (omega arith) (within-+ (first-within g).minus (last_within k _ (last-minus-one g))))
+    (within_more (omega (arith, after_length (same_sign n t) (other_sign n t) d (suc d) l)) (within-+ (first-within g).plus (last_within k _ (last_one g))))
+    (within_more (omega (arith, after_length (other_sign n t) (same_sign n t) d (suc d) l)) (within-+ (first-within g).minus (last_within k _ (last-minus-one g))))
 
 -- the search has such shares, of all entries that are left
 module _ {n : ℕ} {t : List ℤ} {d : ℕ} {p q : List ℤ} (g : OpenShares n t d p q) {s : ℤ} (w : Within sum_range s) where
@@ -161,19 +157,15 @@ module _ {n : ℕ} {t : List ℤ} {d : ℕ} {p q : List ℤ} (g : OpenShares n t
     small = from-small d k (omega (arith, g.pairs.order));
   }
 
-  -- the last one is raised
-  pub raise_small : (i : ℕ) → d ≤ i → i < n → Within least_range s × ShareWithin least_range (share_at (nth p) (nth q) i)
-  raise_small i h k = let order = g.pairs.order in (within_more (omega arith) w, share_more (omega arith) (open_small i (omega arith)))
-
 -- ---- one step of the code: y and z are the least sums with the entries after the first, a, where it is 1 and -1
 module _ (k : ℕ) {n : ℕ} {t : List ℤ} {s : ℤ} {d : ℕ} {a : Share} {l : List Share} (g : LastShares n t s d (a ∷ l)) {y z : ℤ}
     (e : y ≡ least_shares (same_sign n t) (other_sign n t) s (suc d) k (shares_after (same_sign n t) (other_sign n t) d (suc d) l))
     (f : z ≡ least_shares (same_sign n t) (other_sign n t) s (suc d) k (shares_after (other_sign n t) (same_sign n t) d (suc d) l)) where
-  pub choice_small : k < greatest_order → ShareWithin least_range a × Within least_range y × Within least_range z
-  choice_small h = (
+  pub choice_small : ShareWithin least_range a × Within least_range y × Within least_range z
+  choice_small = let order = g.pairs.order in let inside = g.inside in (
     first_small g,
-    rw e (within_more (omega arith) (last_within k _ (last_one g))),
-    rw f (within_more (omega arith) (last_within k _ (last-minus-one g))),
+    rw e (within_more (omega (arith, after_length (same_sign n t) (other_sign n t) d (suc d) l)) (last_within k _ (last_one g))),
+    rw f (within_more (omega (arith, after_length (other_sign n t) (same_sign n t) d (suc d) l)) (last_within k _ (last-minus-one g))),
   )
 
   pub choice_is : {x : ℤ} → x ≡ least_shares (same_sign n t) (other_sign n t) s (suc d) k l →

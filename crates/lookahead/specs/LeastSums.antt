@@ -32,9 +32,18 @@ passed_over S O d k p q s = leb k look_ahead && lt_z (pos 0) (least S O d k p q 
 unfoldable pub least_choice : Share → ℤ → ℤ → ℤ → ℤ
 least_choice a x y z = least_of x (a.plus +ℤ y) (a.minus +ℤ z)
 
+-- what entry k would add
+abbrev pub share_at : (ℕ → ℤ) → (ℕ → ℤ) → ℕ → Share
+share_at p q k = record { plus = p k; minus = q k }
+
 -- the last entry's share has the sum in it
 unfoldable pub raised : ℤ → Share → Share
 raised s a = record { plus = a.plus +ℤ s; minus = a.minus +ℤ s }
+
+-- what entry d and the k entries after it would add
+abbrev pub shares_from : (ℕ → ℤ) → (ℕ → ℤ) → ℤ → ℕ → ℕ → List Share
+shares_from p q s d zero = raised s (share_at p q d) ∷ []
+shares_from p q s d (suc k) = share_at p q d ∷ shares_from p q s (suc d) k
 
 unfoldable pub least_one : ℤ → Share → ℤ
 least_one s a = least_of s a.plus a.minus
@@ -57,10 +66,6 @@ least_shares S O s d (suc k) (a ∷ l) =
     least_choice a (least_shares S O s (suc d) k l)
     (least_shares S O s (suc d) k (shares_after S O d (suc d) l))
     (least_shares S O s (suc d) k (shares_after O S d (suc d) l))
-
--- what entry k would add
-abbrev pub share_at : (ℕ → ℤ) → (ℕ → ℤ) → ℕ → Share
-share_at p q k = record { plus = p k; minus = q k }
 
 -- both numbers of a share are within ±m
 pub record ShareWithin (m : ℕ) (a : Share) : Type 0 where
