@@ -1,7 +1,7 @@
 // Bounded symmetric matrices, R2, R4 and R5 of docs/RULES.md: refusals, and the checks 1 to 5 and 16 of a problem.
 #![tactic(auto)]
 
-ghost use Rattle.std.specs.Prelude.{◌≡◌, true, false, ◌&&◌, ◌++◌, ◌*◌, ◌≤◌, ◌<◌, ℤ, pos, nat_abs, ◌≤ℤ◌, length, take, drop};
+ghost use Rattle.std.specs.Prelude.{◌≡◌, Bool, true, false, ◌&&◌, ◌++◌, ◌*◌, ◌≤◌, ◌<◌, ℤ, pos, nat_abs, ◌≤ℤ◌, length, take, drop};
 ghost use Rattle.tables.specs.Matrix.{at};
 ghost use Rattle.tables.specs.Ranges.{greatest_order};
 ghost use Rattle.tables.specs.Refusals.{refusal_number};
@@ -272,28 +272,52 @@ fn pair_meets(l: i64, lt: i64, u: i64, ut: i64) -> bool
     lt <= u
 }
 
-// Whether the pair passes checks 3, 4 and 5; with `even`, also whether the halves agree.
-fn pair_bounded(even: bool, l: i64, lt: i64, u: i64, ut: i64) -> bool
-    ensures { result ≡ pair_bounded even l lt u ut }
-{
-    if pair_even(l, lt, u, ut) {
-        return entry_bounded(l, u);
+// What is asked of a pair: of bounds l and u at (i, j), and lt and ut at (j, i).
+trait PairTest {
+    // whether the halves have to agree
+    ghost even: { Bool };
+
+    fn passes(l: i64, lt: i64, u: i64, ut: i64) -> bool
+        ensures { result ≡ pair_bounded even l lt u ut };
+}
+
+// Checks 3, 4 and 5, and that the halves agree.
+struct Even;
+
+impl PairTest for Even {
+    ghost even = { true };
+
+    fn passes(l: i64, lt: i64, u: i64, ut: i64) -> bool {
+        if pair_even(l, lt, u, ut) {
+            return entry_bounded(l, u);
+        }
+        false
     }
-    if even {
-        return false;
+}
+
+// Checks 3, 4 and 5: the halves may differ.
+struct Apart;
+
+impl PairTest for Apart {
+    ghost even = { false };
+
+    fn passes(l: i64, lt: i64, u: i64, ut: i64) -> bool {
+        if pair_even(l, lt, u, ut) {
+            return entry_bounded(l, u);
+        }
+        pair_meets(l, lt, u, ut)
     }
-    pair_meets(l, lt, u, ut)
 }
 
 // Whether row i, up to the diagonal, and column i pass them.
-fn row_bounded(n: usize, even: bool, low: &[i64], high: &[i64], i: usize) -> bool
+fn row_bounded<P: PairTest>(n: usize, low: &[i64], high: &[i64], i: usize) -> bool
     requires { (n ≤ greatest_order) × (i < n) × (n * n ≤ length low.now) × (n * n ≤ length high.now) }
-    ensures { result ≡ row_bounded n even low.now high.now i }
+    ensures { result ≡ row_bounded n P.even low.now high.now i }
 {
     for j in 0..i + 1 {
         let l = entry(n, low, i, j);
         let u = entry(n, high, i, j);
-        if !pair_bounded(even, l, entry(n, low, j, i), u, entry(n, high, j, i)) {
+        if !P::passes(l, entry(n, low, j, i), u, entry(n, high, j, i)) {
             return false;
         }
     }
@@ -301,12 +325,12 @@ fn row_bounded(n: usize, even: bool, low: &[i64], high: &[i64], i: usize) -> boo
 }
 
 // Whether tables of order n pass them: each pair (i, j) and (j, i) is looked at once.
-fn tables_bounded(n: usize, even: bool, low: &[i64], high: &[i64]) -> bool
+fn tables_bounded<P: PairTest>(n: usize, low: &[i64], high: &[i64]) -> bool
     requires { (n ≤ greatest_order) × (n * n ≤ length low.now) × (n * n ≤ length high.now) }
-    ensures { result ≡ tables_bounded n even low.now high.now }
+    ensures { result ≡ tables_bounded n P.even low.now high.now }
 {
     for i in 0..n {
-        if !row_bounded(n, even, low, high, i) {
+        if !row_bounded::<P>(n, low, high, i) {
             return false;
         }
     }
@@ -318,7 +342,7 @@ fn check_apart(n: usize, low: &[i64], high: &[i64]) -> Result<(), Refusal>
     requires { (n ≤ greatest_order) × (n * n ≤ length low.now) × (n * n ≤ length high.now) }
     ensures { result ≡ first_refusal (bounds_checks true n low.now high.now) }
 {
-    if tables_bounded(n, false, low, high) {
+    if tables_bounded::<Apart>(n, low, high) {
         return Ok(());
     }
     find_refusal(n, low, high)
@@ -331,7 +355,7 @@ pub fn check_bounds(n: usize, within: bool, low: &[i64], high: &[i64]) -> Result
     ensures { result ≡ first_refusal (bounds_checks within n low.now high.now) }
 {
     if within {
-        if tables_bounded(n, true, low, high) {
+        if tables_bounded::<Even>(n, low, high) {
             return Ok(());
         }
         return check_apart(n, low, high);

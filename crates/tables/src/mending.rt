@@ -7,7 +7,7 @@ ghost use Rattle.tables.specs.Pairs.{joined_row};
 ghost use Rattle.tables.specs.Checks.{bounds_checks};
 ghost use Rattle.tables.specs.Entering.{Mended};
 
-use crate::{Refusal, check_apart, tables_bounded};
+use crate::{Even, Refusal, check_apart, tables_bounded};
 use integers::{greater, smaller};
 
 // One number into both places of a pair.
@@ -67,7 +67,7 @@ pub fn mend_bounds(n: usize, within: bool, low: &mut [i64], high: &mut [i64]) ->
         low.new high.new }
 {
     if within {
-        if tables_bounded(n, true, low, high) {
+        if tables_bounded::<Even>(n, low, high) {
             return Ok(());
         }
     }
