@@ -45,11 +45,13 @@ fail() {
     exit 1
 }
 
-# prove CRATE: prove a crate and those that it stands on, lowest first, and build them: a static library as target/staticlib/libCRATE.a, a
-# program as target/bin/CRATE. Each crate gets a line on standard error as it is done. What rt says of one is target/log/CRATE.say, which stays
-# as it was where rt has nothing to check, or target/log/CRATE.failed where it fails.
+# prove CRATE [anew]: prove a crate and those that it stands on, lowest first, and build them: a static library as
+# target/staticlib/libCRATE.a, a program as target/bin/CRATE. Each crate gets a line on standard error as it is done. What rt says of one is
+# target/log/CRATE.say, which stays as it was where rt has nothing to check, or target/log/CRATE.failed where it fails. Where rt cannot use
+# what earlier runs on this machine kept, all is proved once more from nothing; after that, which the second argument says, such a failure
+# is one.
 prove() {
-    local crate verb log failed start made
+    local anew=${2:-} crate verb log failed start made
     command -v rt >/dev/null || fail "rt of the Rattle kit is not on the path, and it has to prove $1"
     mkdir -p target/log target/bin target/staticlib
     echo "$self: a line for each crate as it is proved; what rt says of it is target/log/CRATE.say" >&2
@@ -60,6 +62,11 @@ prove() {
         failed=target/log/$crate.failed
         start=$SECONDS
         if ! (cd "crates/$crate" && rt "$verb" </dev/null) >"$failed" 2>&1; then
+            if [ -z "$anew" ] && grep -q 'cannot be used' "$failed"; then
+                prove_from_nothing "$1"
+                prove "$1" anew
+                return
+            fi
             grep -A 3 ': error: ' "$failed" | head -n 20 >&2
             fail "'rt $verb' in crates/$crate failed, and $failed says why"
         fi
@@ -74,6 +81,17 @@ prove() {
     for made in "bin/$1" "staticlib/lib$1.a"; do
         [ ! -f "crates/$1/out/${made#*/}" ] || cp "crates/$1/out/${made#*/}" "target/$made"
     done
+}
+
+# prove_from_nothing CRATE: prove a crate and those that it stands on with nothing that earlier runs kept, here or in another checkout
+prove_from_nothing() {
+    local crate
+    echo "$self: rt cannot use what earlier runs kept, so $1 is proved from nothing, which takes half an hour or more" >&2
+    for crate in $(crates_of "$1"); do
+        rm -rf "crates/$crate/out" "target/log/$crate.say"
+    done
+    (cd "crates/$1" && rt verdict </dev/null) >"target/log/$1.verdict" 2>&1 ||
+        fail "'rt verdict' in crates/$1 failed, and target/log/$1.verdict says why"
 }
 
 # crates_of CRATE: print the crates of this repository that a crate depends on, and itself, a line each, in the order of crates.txt
