@@ -6,6 +6,7 @@ ghost use Rattle.tables.specs.Entering.{Mended};
 ghost use Rattle.tables.specs.Problem.{constraint_of};
 ghost use Rattle.sums.specs.Sums.{sums_checks};
 
+use tables::bounded::Handed;
 use tables::mending::mend_bounds;
 use tables::{Refusal, check_bounds, check_ends, linear_within};
 
@@ -31,7 +32,12 @@ pub fn check_sums(
     ensures { result ≡ first_refusal (sums_checks limits (constraint_of n low.now high.now from.now
         to.now (pos 0))) }
 {
-    check_bounds(n, terms_in(n, limits, from, to), low, high)?;
+    let bounds = Handed {
+        order: n,
+        low,
+        high,
+    };
+    check_bounds(terms_in(n, limits, from, to), bounds)?;
     check_ends(n, from, to)
 }
 

@@ -10,6 +10,12 @@ pub record Bounds (n : ℕ) (L U : Matrix) : Type 0 where
   pub low_symmetric : (i j : ℕ) → i < n → j < n → L i j ≡ L j i
   pub high_symmetric : (i j : ℕ) → i < n → j < n → U i j ≡ U j i
 
+-- tables of order n, in the first n² numbers of each
+pub record HandedTables (n : ℕ) (l u : List ℤ) : Type 0 where
+  pub order : n ≤ greatest_order
+  pub low-length : n * n ≤ length l
+  pub high-length : n * n ≤ length u
+
 -- tables of order n that passed the checks 3 to 5 and are mended: the first n² numbers of each
 pub record CheckedTables (n : ℕ) (l u : List ℤ) : Type 0 where
   pub order : n ≤ greatest_order

@@ -1,10 +1,20 @@
-// A bounded matrix, as everything behind the door reads it: bounds that passed the checks 3 to 5 of docs/RULES.md and are mended (R2.10).
+// A bounded matrix: as it is handed in, and as everything behind the door reads it, which is once it passed the checks 3 to 5 of docs/RULES.md
+// and is mended (R2.10). Bounds L and U stand row by row in the first numbers of two slices, as many as the order's square.
 ghost use Rattle.std.specs.Prelude.{◌≡◌, ◌<◌};
-ghost use Rattle.tables.specs.Bounds.{CheckedTables};
+ghost use Rattle.tables.specs.Bounds.{HandedTables, CheckedTables};
 
 use crate::entry;
 
-// Bounds L and U of an order, where they stand: row by row in the first numbers of low and of high, as many as the order's square.
+// Bounds as they are handed in.
+#[derive(Clone, Copy, Debug, PartialEq, Eq)]
+pub struct Handed<'a> {
+    pub order: usize,
+    pub low: &'a [i64],
+    pub high: &'a [i64],
+    pub ghost handed: { HandedTables order low.now high.now },
+}
+
+// Bounds that passed, and are mended.
 #[derive(Clone, Copy, Debug, PartialEq, Eq)]
 pub struct Bounded<'a> {
     pub order: usize,

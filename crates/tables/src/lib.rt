@@ -16,6 +16,8 @@ pub mod entering;
 pub mod mending;
 pub mod problem;
 
+use crate::bounded::Handed;
+
 // Orders are from 1 to this (R2.1).
 pub const GREATEST_ORDER: usize = 8;
 
@@ -218,15 +220,14 @@ pub fn entries_within(low: &[i64], high: &[i64], count: usize) -> bool
     all_within(high, count, ENTRY_RANGE)
 }
 
-// The first of the checks 3, 4 and 5 that fails (R5.6), of tables of which one does.
-fn find_refusal(n: usize, low: &[i64], high: &[i64]) -> Result<(), Refusal>
-    requires { (n ≤ greatest_order) × (n * n ≤ length low.now) × (n * n ≤ length high.now)
-        × (tables_bounded n false low.now high.now ≡ false) }
-    ensures { result ≡ first_refusal (bounds_checks true n low.now high.now) }
+// The first of the checks 3, 4 and 5 that fails (R5.6), of bounds of which one does.
+fn find_refusal(bounds: Handed) -> Result<(), Refusal>
+    requires { tables_bounded bounds.order false bounds.low.now bounds.high.now ≡ false }
+    ensures { result ≡ first_refusal (bounds_checks true bounds.entry.order bounds.entry.low.now bounds.entry.high.now) }
 {
-    let count = n * n;
-    let entries = entries_within(low, high, count);
-    let ordered = nowhere_crossed(low, high, count);
+    let count = bounds.order * bounds.order;
+    let entries = entries_within(bounds.low, bounds.high, count);
+    let ordered = nowhere_crossed(bounds.low, bounds.high, count);
     if !entries {
         return Err(Refusal::Range);
     }
@@ -310,55 +311,57 @@ impl PairTest for Apart {
 }
 
 // Whether row i, up to the diagonal, and column i pass them.
-fn row_bounded<P: PairTest>(n: usize, low: &[i64], high: &[i64], i: usize) -> bool
-    requires { (n ≤ greatest_order) × (i < n) × (n * n ≤ length low.now) × (n * n ≤ length high.now) }
-    ensures { result ≡ row_bounded n P.even low.now high.now i }
+fn row_bounded<P: PairTest>(bounds: Handed, i: usize) -> bool
+    requires { i < bounds.order }
+    ensures { result ≡ row_bounded bounds.entry.order P.even bounds.entry.low.now bounds.entry.high.now i }
 {
+    let n = bounds.order;
     for j in 0..i + 1 {
-        let l = entry(n, low, i, j);
-        let u = entry(n, high, i, j);
-        if !P::passes(l, entry(n, low, j, i), u, entry(n, high, j, i)) {
+        let l = entry(n, bounds.low, i, j);
+        let u = entry(n, bounds.high, i, j);
+        if !P::passes(
+            l,
+            entry(n, bounds.low, j, i),
+            u,
+            entry(n, bounds.high, j, i),
+        ) {
             return false;
         }
     }
     true
 }
 
-// Whether tables of order n pass them: each pair (i, j) and (j, i) is looked at once.
-fn tables_bounded<P: PairTest>(n: usize, low: &[i64], high: &[i64]) -> bool
-    requires { (n ≤ greatest_order) × (n * n ≤ length low.now) × (n * n ≤ length high.now) }
-    ensures { result ≡ tables_bounded n P.even low.now high.now }
+// Whether bounds pass them: each pair (i, j) and (j, i) is looked at once.
+fn tables_bounded<P: PairTest>(bounds: Handed) -> bool
+    ensures { result ≡ tables_bounded bounds.entry.order P.even bounds.entry.low.now bounds.entry.high.now }
 {
-    for i in 0..n {
-        if !row_bounded::<P>(n, low, high, i) {
+    for i in 0..bounds.order {
+        if !row_bounded::<P>(bounds, i) {
             return false;
         }
     }
     true
 }
 
-// Checks 3, 4 and 5 of tables of order n whose halves may differ. Which check fails is looked for only where one does.
-fn check_apart(n: usize, low: &[i64], high: &[i64]) -> Result<(), Refusal>
-    requires { (n ≤ greatest_order) × (n * n ≤ length low.now) × (n * n ≤ length high.now) }
-    ensures { result ≡ first_refusal (bounds_checks true n low.now high.now) }
+// Checks 3, 4 and 5 of bounds whose halves may differ. Which check fails is looked for only where one does.
+fn check_apart(bounds: Handed) -> Result<(), Refusal>
+    ensures { result ≡ first_refusal (bounds_checks true bounds.entry.order bounds.entry.low.now bounds.entry.high.now) }
 {
-    if tables_bounded::<Apart>(n, low, high) {
+    if tables_bounded::<Apart>(bounds) {
         return Ok(());
     }
-    find_refusal(n, low, high)
+    find_refusal(bounds)
 }
 
-// Checks 3, 4 and 5 of bounds of order n, and of an act whose other numbers are in their ranges or not. Halves that agree are looked at
-// first.
-pub fn check_bounds(n: usize, within: bool, low: &[i64], high: &[i64]) -> Result<(), Refusal>
-    requires { (n ≤ greatest_order) × (n * n ≤ length low.now) × (n * n ≤ length high.now) }
-    ensures { result ≡ first_refusal (bounds_checks within n low.now high.now) }
+// Checks 3, 4 and 5 of bounds, and of an act whose other numbers are in their ranges or not. Halves that agree are looked at first.
+pub fn check_bounds(within: bool, bounds: Handed) -> Result<(), Refusal>
+    ensures { result ≡ first_refusal (bounds_checks within bounds.entry.order bounds.entry.low.now bounds.entry.high.now) }
 {
     if within {
-        if tables_bounded::<Even>(n, low, high) {
+        if tables_bounded::<Even>(bounds) {
             return Ok(());
         }
-        return check_apart(n, low, high);
+        return check_apart(bounds);
     }
     Err(Refusal::Range)
 }

@@ -7,6 +7,7 @@ ghost use Rattle.tables.specs.Pairs.{joined_row};
 ghost use Rattle.tables.specs.Checks.{bounds_checks};
 ghost use Rattle.tables.specs.Entering.{Mended};
 
+use crate::bounded::Handed;
 use crate::{Even, Refusal, check_apart, tables_bounded};
 use integers::{greater, smaller};
 
@@ -55,7 +56,11 @@ fn mend_apart(n: usize, within: bool, low: &mut [i64], high: &mut [i64]) -> Resu
     if !within {
         return Err(Refusal::Range);
     }
-    check_apart(n, low, high)?;
+    check_apart(Handed {
+        order: n,
+        low,
+        high,
+    })?;
     mend(n, low, high);
     Ok(())
 }
@@ -67,7 +72,12 @@ pub fn mend_bounds(n: usize, within: bool, low: &mut [i64], high: &mut [i64]) ->
         low.new high.new }
 {
     if within {
-        if tables_bounded::<Even>(n, low, high) {
+        let handed = Handed {
+            order: n,
+            low,
+            high,
+        };
+        if tables_bounded::<Even>(handed) {
             return Ok(());
         }
     }

@@ -17,9 +17,9 @@ returns-then-not-ordered c =
 pub returns : goal.returns
 unfolding bounds_checks
 returns c =
-    let a = c.args in
+    let b = c.args.bounds in
     let range = first_passes _ _ (call_true c.entries_within-entries.ensures c.if-not-entries.false-raw) in
     let crossed = first_passes _ _ (call_true c.nowhere_crossed-ordered.ensures c.if-not-ordered.false-raw) in
-    let last = check_lopsided a.n a.low.now a.high.now in
+    let last = check_lopsided b.order b.low.now b.high.now in
     sym (range ∙ crossed ∙ first-refuses last _ (false_of last.passes (λ e.
-    false≢true (sym c.requires.3 ∙ passed-bounded _ _ _ (range ∙ crossed ∙ first_passes last _ e ∙ first-none)))))
+    false≢true (sym c.requires ∙ passed-bounded _ _ _ (range ∙ crossed ∙ first_passes last _ e ∙ first-none)))))

@@ -10,9 +10,11 @@ use Rattle.tables.proofs.row_bounded.Goals as goal
 use Rattle.tables.proofs.row_bounded.Goals.{After-passes}
 
 -- what the test found of the pair
-found : (g : Over) (c : After-passes g) → let a = c.args in
+found : (g : Over) (c : After-passes g) → let i = c.args.i in
     let j = c.loop-j.j in
-    c.passes.result ≡ pair_bounded g.P.PairTest.even (at a.n a.low.now a.i j) (at a.n a.low.now j a.i) (at a.n a.high.now a.i j) (at a.n a.high.now j a.i)
+    let L = at c.args.bounds.order c.args.bounds.low.now in
+    let U = at c.args.bounds.order c.args.bounds.high.now in
+    c.passes.result ≡ pair_bounded g.P.PairTest.even (L i j) (L j i) (U i j) (U j i)
 found g c =
     rw (
       clean_result c.entry-l ∙ c.entry-l.ensures,

@@ -8,4 +8,7 @@ use Rattle.tables.specs.Pairs.{pair_bounded}
 use Rattle.tables.proofs.row_bounded.Given as goal
 
 abbrev pub invariant-loop-j : goal.invariant-loop-j
-invariant-loop-j g l = (l.j ≤ suc l.i) × (all l.j (λ j. pair_bounded g.P.PairTest.even (at l.n l.low l.i j) (at l.n l.low j l.i) (at l.n l.high l.i j) (at l.n l.high j l.i)) ≡ true)
+invariant-loop-j g l =
+    let L = at l.bounds.order l.bounds.low.now in
+    let U = at l.bounds.order l.bounds.high.now in
+    (l.j ≤ suc l.i) × (all l.j (λ j. pair_bounded g.P.PairTest.even (L l.i j) (L j l.i) (U l.i j) (U j l.i)) ≡ true)

@@ -9,7 +9,7 @@ use Rattle.tables.proofs.tables_bounded.Goals.{At-loop-i}
 
 -- what row i gives
 abbrev row : (g : Over) → At-loop-i g → Bool
-row g c = let a = c.args in row_bounded a.n g.P.PairTest.even a.low.now a.high.now c.loop-i.i
+row g c = let a = c.args in row_bounded a.bounds.order g.P.PairTest.even a.bounds.low.now a.bounds.high.now c.loop-i.i
 
 pub loop-i-init : goal.loop-i-init
 unfolding tables_bounded
@@ -30,5 +30,5 @@ loop-i-preserved g c =
 pub returns : goal.returns
 unfolding tables_bounded
 returns g c =
-    let e : c.loop-i.i ≡ c.args.n = omega arith in
+    let e : c.loop-i.i ≡ c.args.bounds.order = omega arith in
     sym (rw e at c.loop-i.invariant.1)

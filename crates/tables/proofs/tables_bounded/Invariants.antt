@@ -7,4 +7,4 @@ use Rattle.tables.specs.Pairs.{row_bounded}
 use Rattle.tables.proofs.tables_bounded.Given as goal
 
 abbrev pub invariant-loop-i : goal.invariant-loop-i
-invariant-loop-i g l = (l.i ≤ l.n) × (all l.i (row_bounded l.n g.P.PairTest.even l.low l.high) ≡ true)
+invariant-loop-i g l = (l.i ≤ l.bounds.order) × (all l.i (row_bounded l.bounds.order g.P.PairTest.even l.bounds.low.now l.bounds.high.now) ≡ true)
