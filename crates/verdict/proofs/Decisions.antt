@@ -2,7 +2,7 @@
 use mathlib.Core.Path.{◌≡◌, sym, ap, ap₂, ◌∙◌, refl}
 use mathlib.Core.Bool.{Bool, true, false}
 use mathlib.Core.List.{List, ◌++◌}
-use Prim.Native.Nat.{ℕ, ◌+◌, ◌*◌, ◌/◌, ◌%◌, ◌≤◌, ◌<◌}
+use Prim.Native.Nat.{ℕ, ◌*◌, ◌/◌, ◌%◌, ◌≤◌, ◌<◌}
 use native.Mathlib.Omega.{arith}
 use borrow.Author.Tests.{eqb-true}
 use lib.Dec.{eqb}
@@ -17,7 +17,7 @@ use Rattle.tables.proofs.Checks.{true_of, of_true, and_left, and_right, sizes-of
 use Rattle.tables.proofs.Matrix.{tabulate_ext, length-tabulate, nth-tabulate, inside, row_inside, column_inside, nth-at}
 use Rattle.cholesky.specs.Scale.{scaled}
 use Rattle.cholesky.specs.Factoring.{Factoring, entries, factored}
-use Rattle.std.specs.Prelude.{Ok, is_ok}
+use Rattle.std.specs.Prelude.{Ok, is_ok, Option as CodeOption, Some, None}
 use Rattle.cholesky.specs.Store.{Stored, triangle, Ends, Stops}
 use Rattle.cholesky.proofs.Columns.{all-columns}
 use Rattle.cholesky.proofs.Store.{outcome_ends}
@@ -26,14 +26,14 @@ use Rattle.residual.specs.FactorTest.{factor_shape}
 use Rattle.residual.proofs.Offers.{shape_ext, over_ext}
 use Rattle.theorems.proofs.Theorems.{ends_shape_take_off}
 use Rattle.vectors.specs.Least.{shows}
-use Rattle.tried.specs.Tried.{tried, first}
-use Rattle.tried.specs.Search.{found, Searched}
+use Rattle.tried.specs.Tried.{tried, first, listed as answered}
 use Rattle.solved.specs.Solved.{solved}
 use Rattle.solved.specs.Stopped.{stopped_at}
 use Rattle.solved.proofs.Stops.{stopped-at}
 use Rattle.verdict.specs.FactorTable.{Written}
-use Rattle.verdict.specs.Judge.{Judged, written, Judgement, definite, not_definite, listed, shown_by, definite_by, judged, judge_sizes}
-use Rattle.verdict.specs.Deciding.{stated, shown_verdict, left_by, Decided}
+use Rattle.verdict.specs.Judge.{Judged, written, Judgement, definite, listed, shown_by, definite_by, judged, judge_sizes}
+use Rattle.verdict.specs.Deciding.{stated, shown_decision, left_by, Decided}
+use Rattle.verdict.specs.declared.judge.Decision.{Decision}
 use Rattle.verdict.specs.declared.judge.Verdict.{Verdict}
 use Rattle.verdict.proofs.Writing.{triangle-entries}
 
@@ -82,64 +82,62 @@ module _ (n : ℕ) (L U : Matrix) (t f : List ℤ) (s : Stored (factored n L U) 
   pub certified : judged n L U ≡ definite (tabulate (n * n) (nth f)) (over n (at n f) L U)
   certified = judged-ends n L U ended ∙ sym (ap₂ definite factor-whole (over_ext n (at n f) R L U factor-entries))
 
--- ---- what the code states, where factoring stopped
-module _ (n : ℕ) (L U : Matrix) (t f x : List ℤ) where
+-- ---- a factoring that stopped, and what was found in the listed vectors
+module _ (n : ℕ) (L U : Matrix) (t f : List ℤ) where
   abbrev passes : List ℤ → Bool
   passes v = shows n L U (nth v)
 
-  -- a factoring that stopped, and what was found in the listed vectors
-  module _ {j m : ℕ} (s : Stored (factored n L U) (Stops j m) t) (r : Bool)
-      (a : Searched (first passes (tried n ++ (solved n (stopped_at t j m) (pos 1) ++ solved n (stopped_at t j m) (pos 64)))) r 0 n x) where
-    found-is : judged n L U ≡ shown_by (found r 0 n x)
+  module _ {j m : ℕ} (s : Stored (factored n L U) (Stops j m) t) (r : CodeOption (List ℤ))
+      (a : answered n r ≡ first passes (tried n ++ (solved n (stopped_at t j m) (pos 1) ++ solved n (stopped_at t j m) (pos 64)))) where
+    found-is : judged n L U ≡ shown_by (answered n r)
     unfolding listed
     found-is =
-        let e = stopped-at s in
         judged_stops n L U (sym (outcome_ends _) ∙ ap is_ok (sym s.outcome))
-        ∙ ap (λ (g : Factoring). shown_by (first passes (tried n ++ (solved n g (pos 1) ++ solved n g (pos 64))))) e ∙ ap shown_by a.answer
+        ∙ ap (λ (g : Factoring). shown_by (first passes (tried n ++ (solved n g (pos 1) ++ solved n g (pos 64))))) (stopped-at s)
+        ∙ ap shown_by (sym a)
 
-  found-stated : {j m : ℕ} → Stored (factored n L U) (Stops j m) t → (r : Bool) →
-      Searched (first passes (tried n ++ (solved n (stopped_at t j m) (pos 1) ++ solved n (stopped_at t j m) (pos 64)))) r 0 n x → judged n L U ≡ stated n (shown_verdict r) f x
-  unfolding found stated shown_verdict
-  found-stated s true a = found-is s true a ∙ ap not_definite (tabulate_ext n _ _ (λ i h. let e : 0 + i ≡ i = omega arith in rw e))
-  found-stated s false a = found-is s false a
+  shown-stated : (r : CodeOption (List ℤ)) → shown_by (answered n r) ≡ stated n (shown_decision r) f
+  unfolding answered stated shown_decision
+  shown-stated (Some x) = refl
+  shown-stated None = refl
 
-  pub decided_shown : {j m : ℕ} → Stored (factored n L U) (Stops j m) t → {r : Bool} →
-      Searched (first passes (tried n ++ (solved n (stopped_at t j m) (pos 1) ++ solved n (stopped_at t j m) (pos 64)))) r 0 n x →
-      {w : Verdict} → w ≡ shown_verdict r → judged n L U ≡ stated n w f x
-  decided_shown s {r} a e = found-stated s r a ∙ ap (λ (w : Verdict). stated n w f x) (sym e)
+  pub decided_shown : {j m : ℕ} → Stored (factored n L U) (Stops j m) t → (r : CodeOption (List ℤ)) →
+      answered n r ≡ first passes (tried n ++ (solved n (stopped_at t j m) (pos 1) ++ solved n (stopped_at t j m) (pos 64))) →
+      {w : Decision} → w ≡ shown_decision r → judged n L U ≡ stated n w f
+  decided_shown s r a e = found-is s r a ∙ shown-stated r ∙ ap (λ (w : Decision). stated n w f) (sym e)
 
 -- ---- what the act leaves of the lent factor f₀ and vector v, by what the code states
 pub whole : {m : ℕ} {f : List ℤ} → length f ≡ m → f ≡ tabulate m (nth f)
-whole {m} {f} e = ext_get_or (pos 0) f (tabulate m (nth f)) (e ∙ sym (length-tabulate m (nth f))) (λ i h. sym (nth-tabulate m (nth f) i (omega arith)))
+whole {m} {f} e =
+    ext_get_or (pos 0) f (tabulate m (nth f)) (e ∙ sym (length-tabulate m (nth f)))
+    (λ i h. sym (nth-tabulate m (nth f) i (omega arith)))
 
-module _ {g : Judgement} {n : ℕ} {f₀ f x : List ℤ} (v : List ℤ) where
-  -- 'not definite': the vector is written
-  pub decided_shows : {r : Verdict} → Decided g n r f₀ f x → r ≡ Verdict.NotDefinite →
-      ◌≡◌ {A = Judged} (record { verdict = Ok r; factor = f; vector = tabulate n (nth x) }) (written g f₀ v)
-  unfolding stated left_by
-  decided_shows d q =
-      let h = d.verdict ∙ ap (λ (r : Verdict). stated n r f x) q in
-      rw (h, q, d.left ∙ ap (λ (r : Verdict). left_by r f₀ f) q)
+module _ {g : Judgement} {n : ℕ} {f₀ f : List ℤ} (v : List ℤ) where
+  pub decided_definite : {w : ℤ} → length f₀ ≡ n * n → Decided g n (Decision.Definite w) f₀ f →
+      ◌≡◌ {A = Judged} (record { verdict = Ok (Verdict.Definite w); factor = f; vector = v }) (written g f₀ v)
+  unfolding stated
+  decided_definite {w} e d =
+      rw d.verdict
+      (ap (λ (t : List ℤ). record { verdict = Ok (Verdict.Definite w); factor = t; vector = v }) (whole (d.room ∙ e)))
 
-  -- else it is kept
-  pub decided_keeps : {r : Verdict} → length f₀ ≡ n * n → Decided g n r f₀ f x → (r ≡ Verdict.NotDefinite → ⊥) →
-      ◌≡◌ {A = Judged} (record { verdict = Ok r; factor = f; vector = v }) (written g f₀ v)
+  pub decided_not : {x : List ℤ} → Decided g n (Decision.NotDefinite x) f₀ f →
+      ◌≡◌ {A = Judged} (record { verdict = Ok Verdict.NotDefinite; factor = f; vector = tabulate n (nth x) }) (written g f₀ v)
   unfolding stated left_by
-  decided_keeps {r} e d h = go r h d.verdict d.left
-    where
-      go : (r : Verdict) → (r ≡ Verdict.NotDefinite → ⊥) → g ≡ stated n r f x → f ≡ left_by r f₀ f →
-          ◌≡◌ {A = Judged} (record { verdict = Ok r; factor = f; vector = v }) (written g f₀ v)
-      go (Verdict.Definite w) h q l = rw q (ap (λ (t : List ℤ). record { verdict = Ok (Verdict.Definite w); factor = t; vector = v }) (whole (d.room ∙ e)))
-      go Verdict.NotDefinite h q l = absurd (h refl)
-      go Verdict.Undecided h q l = rw (q, l)
+  decided_not d = rw (d.verdict, d.left) refl
+
+  pub decided_undecided : Decided g n Decision.Undecided f₀ f →
+      ◌≡◌ {A = Judged} (record { verdict = Ok Verdict.Undecided; factor = f; vector = v }) (written g f₀ v)
+  unfolding stated left_by
+  decided_undecided d = rw (d.verdict, d.left) refl
 
 -- ---- what is made of a judgement is made of what the code states
-pub made_of : {A : Type 0} (P : Judgement → A) {g : Judgement} {n : ℕ} {r : Verdict} {f₀ f x : List ℤ} → Decided g n r f₀ f x → (s : Verdict) → r ≡ s →
-    P (stated n s f x) ≡ P g
-made_of P {n = n} {f = f} {x = x} d s q = sym (ap P (d.verdict ∙ ap (λ (r : Verdict). stated n r f x) q))
+pub made_of : {A : Type 0} (P : Judgement → A) {g : Judgement} {n : ℕ} {r : Decision} {f₀ f : List ℤ} →
+    Decided g n r f₀ f → (s : Decision) → r ≡ s → P (stated n s f) ≡ P g
+made_of P {n = n} {f = f} d s q = sym (ap P (d.verdict ∙ ap (λ (r : Decision). stated n r f) q))
 
 -- ---- checks 1 and 2 passed
-pub judge-sizes-of : (size entries l u f v : ℕ) → judge_sizes size entries l u f v ≡ true → (l ≡ size) × (u ≡ size) × (f ≡ size) × (v ≡ entries)
+pub judge-sizes-of : (size entries l u f v : ℕ) → judge_sizes size entries l u f v ≡ true →
+    (l ≡ size) × (u ≡ size) × (f ≡ size) × (v ≡ entries)
 unfolding judge_sizes
 judge-sizes-of size entries l u f v e =
     let z = sizes-of size size l u f (and_left (sizes_ok size size l u f) (eqb v entries) e) in

@@ -1,20 +1,20 @@
 // The judge, R11 of docs/RULES.md.
 ghost use Rattle.std.specs.Prelude.{◌≡◌, ◌*◌, ◌≤◌, ◌<◌, length, Ok};
-ghost use Rattle.tables.specs.Ranges.{greatest_order};
 ghost use Rattle.tables.specs.Matrix.{at, nth, tabulate};
 ghost use Rattle.tables.specs.Bounds.{CheckedTables};
 ghost use Rattle.tables.specs.Entering.{Rooms};
 ghost use Rattle.cholesky.specs.Factoring.{factored};
 ghost use Rattle.cholesky.specs.Store.{Ends, Stored};
 ghost use Rattle.verdict.specs.Judge.{definite, Judged, judged, judge_sizes, written, judge, verdict_number, Meaning};
-ghost use Rattle.verdict.specs.Deciding.{shown_verdict, Decided};
+ghost use Rattle.verdict.specs.Deciding.{shown_decision, Decided};
 
 use crate::factor_table::write_factor;
 use crate::listed::first_listed;
 use cholesky::problem::factor_tables;
 use residual::factor_test::over;
+use tables::bounded::Bounded;
 use tables::entering::{enter, order};
-use tables::{Answer, GREATEST_ORDER, Refusal, TABLE_ROOM, Table, Vector};
+use tables::{Answer, Refusal, TABLE_ROOM, Table, Vector};
 
 // What the judge answers. With 'definite' goes what the rows of the residual have over, of the factor that is written: 0 or more.
 #[derive(Clone, Copy, Debug, PartialEq, Eq)]
@@ -37,14 +37,23 @@ impl Answer for Verdict {
     }
 }
 
-// The verdict after a factoring that stopped: whether a listed vector was found that shows 'not definite'.
-fn shown(found: bool) -> Verdict
-    ensures { result ≡ shown_verdict found }
+// What is decided of bounds, with what goes with it: what the rows of the residual have over, of the factor that is written, or the vector
+// that shows 'not definite', in its first entries.
+#[derive(Clone, Copy, Debug, PartialEq, Eq)]
+pub enum Decision {
+    Definite(i64),
+    NotDefinite(Vector),
+    Undecided,
+}
+
+// The decision after a factoring that stopped, by the listed vector that shows 'not definite', if one was found.
+fn shown(found: Option<Vector>) -> Decision
+    ensures { result ≡ shown_decision found }
 {
-    if !found {
-        return Verdict::Undecided;
+    match found {
+        Some(x) => Decision::NotDefinite(x),
+        None => Decision::Undecided,
     }
-    return Verdict::NotDefinite;
 }
 
 // After a factoring that ended: the factor, whose columns stand in t, to the first n² numbers of factor, and what the rows of its residual
@@ -58,24 +67,21 @@ fn certify(n: usize, low: &mut Table, high: &mut Table, t: &Table, factor: &mut 
     over(n, low, high, factor)
 }
 
-// The verdict on bounds of order n: the first n² numbers of each scratch table, which 'definite' leaves with the residual.
-// Where it is 'definite' the factor is written to the first n² numbers of factor, row by row, and else factor is kept; where it is 'not
-// definite' the vector stands in the first n entries of x.
-pub fn decide(
-    n: usize,
-    low: &mut Table,
-    high: &mut Table,
-    factor: &mut [i64],
-    x: &mut Vector,
-) -> Verdict
-    requires { CheckedTables n low.old high.old × Rooms low.old high.old × (0 < n) × (n * n ≤ length factor.old)
-        × (length x.old ≡ greatest_order) }
-    ensures { Decided (judged n (at n low.old) (at n high.old)) n result factor.old factor.new x.new }
+// The decision on bounds of order n: the first n² numbers of each scratch table, which 'definite' leaves with the residual.
+// Where it is 'definite' the factor is written to the first n² numbers of factor, row by row, and else factor is kept.
+pub fn decide(n: usize, low: &mut Table, high: &mut Table, factor: &mut [i64]) -> Decision
+    requires { CheckedTables n low.old high.old × Rooms low.old high.old × (0 < n) × (n * n ≤ length factor.old) }
+    ensures { Decided (judged n (at n low.old) (at n high.old)) n result factor.old factor.new }
 {
     let mut t = [0i64; TABLE_ROOM];
-    match factor_tables(n, low, high, &mut t) {
-        Ok(()) => Verdict::Definite(certify(n, low, high, &t, factor)),
-        Err(stop) => shown(first_listed(n, low, high, &t, stop, x)),
+    let bounds = Bounded {
+        order: n,
+        low: &*low,
+        high: &*high,
+    };
+    match factor_tables(bounds, &mut t) {
+        Ok(()) => Decision::Definite(certify(n, low, high, &t, factor)),
+        Err(stop) => shown(first_listed(bounds, &t, stop)),
     }
 }
 
@@ -92,12 +98,14 @@ fn judge_bounds(
     ensures { ◌≡◌ {A = Judged} (record { verdict = Ok result; factor = factor.new; vector = vector.new })
         (written (judged n (at n low.old) (at n high.old)) factor.old vector.old) }
 {
-    let mut x = [0i64; GREATEST_ORDER];
-    let verdict = decide(n, low, high, factor, &mut x);
-    if verdict == Verdict::NotDefinite {
-        tables::copy_numbers(n, &x, vector);
+    match decide(n, low, high, factor) {
+        Decision::Definite(over) => Verdict::Definite(over),
+        Decision::NotDefinite(x) => {
+            tables::copy_numbers(n, &x, vector);
+            Verdict::NotDefinite
+        }
+        Decision::Undecided => Verdict::Undecided,
     }
-    verdict
 }
 
 // Whether the buffers of a call have their sizes: that of a table, or that of a vector.
