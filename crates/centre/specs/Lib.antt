@@ -1,2 +1,3 @@
 pub mod Centre
+pub mod Centred
 pub mod Required

@@ -2,8 +2,7 @@
 use Rattle.std.specs.Prelude.{List, ℕ, ◌*◌, ◌≤◌, ◌<◌, ℤ, length}
 use Rattle.integers.specs.Numbers.{Within}
 use Rattle.tables.specs.Ranges.{greatest_order, entry_range, linear_range, centre_range}
-use Rattle.tables.specs.Matrix.{at, nth}
-use Rattle.tables.specs.Bounds.{CheckedTables}
+use Rattle.tables.specs.Matrix.{nth}
 
 -- ---- sizes of products: M(k,j) c(j), a(k) c(k), and c(i) M(i,j) c(j)
 abbrev pub row_term_range : ℕ
@@ -24,26 +23,3 @@ pub record LinearTerms (n : ℕ) (a b c : List ℤ) : Type 0 where
   pub low : (k : ℕ) → k < n → Within linear_range (nth a k)
   pub high : (k : ℕ) → k < n → Within linear_range (nth b k)
   pub centre : (k : ℕ) → k < n → Within centre_range (nth c k)
-
--- and tables that passed the checks 3 to 5 with them
-pub record Centred (n : ℕ) (l u a b c : List ℤ) : Type 0 where
-  pub tables : CheckedTables n l u
-  pub terms : LinearTerms n a b c
-
--- entry k of linear terms and of the centre
-pub record TermFactors (x c : List ℤ) (k : ℕ) : Type 0 where
-  pub row : k < greatest_order
-  pub linear_length : k < length x
-  pub centre-length : k < length c
-  pub linear : Within linear_range (nth x k)
-  pub centre : Within centre_range (nth c k)
-
--- entry (k, j) of a table and entry j of the centre
-pub record Factors (n : ℕ) (t c : List ℤ) (k j : ℕ) : Type 0 where
-  pub order : n ≤ greatest_order
-  pub row : k < n
-  pub column : j < n
-  pub table-length : n * n ≤ length t
-  pub centre-length : n ≤ length c
-  pub entry : Within entry_range (at n t k j)
-  pub centre : Within centre_range (nth c j)

@@ -7,4 +7,6 @@ use Rattle.centre.proofs.gradient.Given as goal
 
 abbrev pub invariant-loop-j : goal.invariant-loop-j
 invariant-loop-j l =
-    (l.least ≡ sum l.j (picked min_ℤ l.n l.low l.high l.c l.k)) × (l.greatest ≡ sum l.j (picked max_ℤ l.n l.low l.high l.c l.k))
+    let p = l.problem in
+    (l.least ≡ sum l.j (picked min_ℤ p.bounds.order p.bounds.low.now p.bounds.high.now p.centre.now l.k))
+    × (l.greatest ≡ sum l.j (picked max_ℤ p.bounds.order p.bounds.low.now p.bounds.high.now p.centre.now l.k))
