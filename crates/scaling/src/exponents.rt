@@ -1,13 +1,13 @@
 // R29.1 of docs/RULES.md: the scale, a number k for each row and column.
-ghost use Rattle.std.specs.Prelude.{◌≡◌, ◌*◌, ◌^◌, ◌≤◌, pos, length};
+ghost use Rattle.std.specs.Prelude.{◌≡◌, ◌*◌, ◌^◌, ◌≤◌, pos};
 ghost use Rattle.integers.specs.Numbers.{Within};
-ghost use Rattle.tables.specs.Ranges.{greatest_order, entry_range};
-ghost use Rattle.tables.specs.Matrix.{at};
-ghost use Rattle.tables.specs.Bounds.{CheckedTables};
+ghost use Rattle.tables.specs.Ranges.{entry_range};
+ghost use Rattle.tables.specs.Bounded.{high_of};
 ghost use Rattle.scaling.specs.Scaling.{greatest_exponent, stays_within, exponent, exponents};
 ghost use Rattle.scaling.specs.Scratch.{Scale};
 
-use tables::{ENTRY_RANGE, Vector};
+use tables::bounded::Bounded;
+use tables::{ENTRY_RANGE, GREATEST_ORDER, Vector};
 
 // The greatest number of a scale.
 const GREATEST_EXPONENT: usize = 10;
@@ -41,12 +41,13 @@ fn exponent(u: i64) -> usize
     0
 }
 
-// The scale of the bounds of order n whose high table is given, into the first n numbers of x.
-pub fn find_scale(n: usize, low: &[i64], high: &[i64], x: &mut Vector)
-    requires { CheckedTables n low.now high.now × (length x.old ≡ greatest_order) }
-    ensures { Scale (exponents (at n high.now)) n x.new }
+// The scale of bounds: a number for each row and column.
+pub fn find_scale(bounds: Bounded) -> Vector
+    ensures { Scale (exponents (high_of bounds.entry)) bounds.entry.order result }
 {
-    for i in 0..n {
-        x[i] = exponent(high[i * n + i]) as i64;
+    let mut scale = [0i64; GREATEST_ORDER];
+    for i in 0..bounds.order {
+        scale[i] = exponent(bounds.high_at(i, i)) as i64;
     }
+    scale
 }

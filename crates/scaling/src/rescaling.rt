@@ -1,5 +1,5 @@
 // R29.2 and R29.3 of docs/RULES.md: the tables with rows and columns scaled, and whether their entries stay inside of ±2^20.
-ghost use Rattle.std.specs.Prelude.{◌≡◌, suc, ◌+◌, ◌*◌, ◌^◌, ◌≤◌, ◌<◌, pos, nat_abs, ◌*ℤ◌, length};
+ghost use Rattle.std.specs.Prelude.{◌≡◌, suc, ◌+◌, ◌*◌, ◌^◌, ◌≤◌, ◌<◌, pos, nat_abs, ◌*ℤ◌, length, is_some};
 ghost use Rattle.integers.specs.Numbers.{Within};
 ghost use Rattle.tables.specs.Ranges.{greatest_order, table_room, entry_range};
 ghost use Rattle.tables.specs.Matrix.{at};
@@ -7,9 +7,10 @@ ghost use Rattle.tables.specs.Checks.{all, within};
 ghost use Rattle.tables.specs.Bounds.{CheckedTables};
 ghost use Rattle.tables.specs.Entering.{Rooms};
 ghost use Rattle.scaling.specs.Scaling.{rescaled, entries_within};
-ghost use Rattle.scaling.specs.Scratch.{Exponent, scale_in, Scale, InRange, Rescaling, ScaledTables};
+ghost use Rattle.scaling.specs.Scratch.{Exponent, scale_in, Scale, InRange, Rescaling, Scaling};
 
 use crate::exponents::{find_scale, power};
+use tables::bounded::Bounded;
 use tables::{ENTRY_RANGE, Table, Vector, within};
 
 // The entry v of a row and a column with the numbers a and b of the scale, scaled.
@@ -20,48 +21,49 @@ fn scaled_entry(a: i64, b: i64, v: i64) -> i64
     power((a + b) as usize) * v
 }
 
-// Row i of t, a table of order n, scaled by the numbers in x. The answer is whether its entries stay inside of ±2^20.
-fn scale_row(n: usize, x: &Vector, i: usize, t: &mut Table) -> bool
+// Row i of t, a table of order n, scaled by the numbers in x; nothing where an entry leaves ±2^20.
+fn scale_row(n: usize, x: &Vector, i: usize, t: &mut Table) -> Option<()>
     requires { (n ≤ greatest_order) × (i < n) × Scale (scale_in x.now) n x.now × InRange n t.old × (length t.old ≡ table_room) }
     ensures { Rescaling n (scale_in x.now) (at n t.old) (i * n) (suc i * n) (all n (λ j. within entry_range
-        (rescaled (scale_in x.now) (at n t.old) i j))) result t.new }
+        (rescaled (scale_in x.now) (at n t.old) i j))) (is_some result) t.new }
 {
     let start = i * n;
     let k = x[i];
     for j in 0..n {
         let scaled = scaled_entry(k, x[j], t[start + j]);
         if !within(scaled, ENTRY_RANGE) {
-            return false;
+            return None;
         }
         t[start + j] = scaled;
     }
-    true
+    Some(())
 }
 
 // The same of all rows.
-fn scale_table(n: usize, x: &Vector, t: &mut Table) -> bool
+fn scale_table(n: usize, x: &Vector, t: &mut Table) -> Option<()>
     requires { (n ≤ greatest_order) × Scale (scale_in x.now) n x.now × InRange n t.old × (length t.old ≡ table_room) }
     ensures { Rescaling n (scale_in x.now) (at n t.old) 0 (n * n)
-        (entries_within n (rescaled (scale_in x.now) (at n t.old))) result t.new }
+        (entries_within n (rescaled (scale_in x.now) (at n t.old))) (is_some result) t.new }
 {
     for i in 0..n {
-        if !scale_row(n, x, i, t) {
-            return false;
-        }
+        scale_row(n, x, i, t)?;
     }
-    true
+    Some(())
 }
 
-// The scaled tables of bounds of order n in the place of these, and the scale in the first n numbers of x. The answer is whether all entries
-// stay inside of ±2^20; where not, what is left in the tables is of no use.
-pub fn scale_tables(n: usize, low: &mut Table, high: &mut Table, x: &mut Vector) -> bool
-    requires { CheckedTables n low.old high.old × Rooms low.old high.old × (length x.old ≡ greatest_order) }
-    ensures { ScaledTables n (at n low.old) (at n high.old) result low.new high.new
-        x.new }
+// The scale of bounds of order n, and their tables scaled in their place; nothing where an entry leaves ±2^20, and what is left in the tables
+// is then of no use.
+pub fn scale_tables(n: usize, low: &mut Table, high: &mut Table) -> Option<Vector>
+    requires { CheckedTables n low.old high.old × Rooms low.old high.old }
+    ensures { Scaling n (at n low.old) (at n high.old) result low.new high.new }
 {
-    find_scale(n, low, high, x);
-    if !scale_table(n, x, low) {
-        return false;
-    }
-    scale_table(n, x, high)
+    let bounds = Bounded {
+        order: n,
+        low: &*low,
+        high: &*high,
+    };
+    let scale = find_scale(bounds);
+    scale_table(n, &scale, low)?;
+    scale_table(n, &scale, high)?;
+    Some(scale)
 }
