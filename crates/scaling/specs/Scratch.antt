@@ -48,7 +48,8 @@ pub record ScaledTables (n : ℕ) (L U : Matrix) (l u x : List ℤ) : Type 0 whe
   pub low : (i j : ℕ) → i < n → j < n → at n l i j ≡ scaled_low L U i j
   pub high : (i j : ℕ) → i < n → j < n → at n u i j ≡ scaled_high U i j
 
--- the answer r is the scale of bounds L and U where all their entries, scaled, are inside of ±2^20, and the scaled tables are then in l and u
+-- the answer r is the scale of bounds L and U where all their entries, scaled, are inside of ±2^20, and then the scaled tables are in l
+-- and u
 pub record Scaling (n : ℕ) (L U : Matrix) (r : Option (List ℤ)) (l u : List ℤ) : Type 0 where
   pub answered : is_some r ≡ scaled_within n L U
   pub rooms : Rooms l u

@@ -51,8 +51,8 @@ fn scale_table(n: usize, x: &Vector, t: &mut Table) -> Option<()>
     Some(())
 }
 
-// The scale of bounds of order n, and their tables scaled in their place; nothing where an entry leaves ±2^20, and what is left in the tables
-// is then of no use.
+// The scale of bounds of order n, and their tables scaled in their place; nothing where an entry leaves ±2^20, and what is left in the
+// tables is then of no use.
 pub fn scale_tables(n: usize, low: &mut Table, high: &mut Table) -> Option<Vector>
     requires { CheckedTables n low.old high.old × Rooms low.old high.old }
     ensures { Scaling n (at n low.old) (at n high.old) result low.new high.new }
