@@ -19,7 +19,8 @@ module _ (q l u z c : ℤ) (nonneg : pos 0 ≤ℤ q) (low : (q *ℤ l) ≤ℤ z)
           order (q ∷ u ∷ z ∷ c ∷ max_ℤ (l *ℤ c) (u *ℤ c) ∷ []) (*ℤ-nonneg (gap-nonneg high) h & *ℤ_mono nonneg (≤_maxʳ (l *ℤ c) (u *ℤ c)))
           (search solver depth 40 fits 20000) (omega arith)
       go (inr h) =
-          order (q ∷ l ∷ z ∷ c ∷ max_ℤ (l *ℤ c) (u *ℤ c) ∷ []) (*ℤ-nonneg (gap-nonneg low) (gap-nonneg h) & *ℤ_mono nonneg (≤_maxˡ (l *ℤ c) (u *ℤ c)))
+          order (q ∷ l ∷ z ∷ c ∷ max_ℤ (l *ℤ c) (u *ℤ c) ∷ [])
+          (*ℤ-nonneg (gap-nonneg low) (gap-nonneg h) & *ℤ_mono nonneg (≤_maxˡ (l *ℤ c) (u *ℤ c)))
           (search solver depth 40 fits 20000) (omega arith)
 
   pub times-low : (q *ℤ min_ℤ (l *ℤ c) (u *ℤ c)) ≤ℤ (z *ℤ c)
@@ -30,5 +31,6 @@ module _ (q l u z c : ℤ) (nonneg : pos 0 ≤ℤ q) (low : (q *ℤ l) ≤ℤ z)
           order (q ∷ l ∷ z ∷ c ∷ min_ℤ (l *ℤ c) (u *ℤ c) ∷ []) (*ℤ-nonneg (gap-nonneg low) h & *ℤ_mono nonneg (min_≤ˡ (l *ℤ c) (u *ℤ c)))
           (search solver depth 40 fits 20000) (omega arith)
       go (inr h) =
-          order (q ∷ u ∷ z ∷ c ∷ min_ℤ (l *ℤ c) (u *ℤ c) ∷ []) (*ℤ-nonneg (gap-nonneg high) (gap-nonneg h) & *ℤ_mono nonneg (min_≤ʳ (l *ℤ c) (u *ℤ c)))
+          order (q ∷ u ∷ z ∷ c ∷ min_ℤ (l *ℤ c) (u *ℤ c) ∷ [])
+          (*ℤ-nonneg (gap-nonneg high) (gap-nonneg h) & *ℤ_mono nonneg (min_≤ʳ (l *ℤ c) (u *ℤ c)))
           (search solver depth 40 fits 20000) (omega arith)

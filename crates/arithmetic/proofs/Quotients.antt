@@ -1,20 +1,18 @@
 -- Quotients and roots that are rounded up: their sizes, and the cases of the root.
 use mathlib.Core.Path.{◌≡◌, refl, ap}
 use mathlib.Core.List.{[], ◌∷◌}
-use Prim.Native.Nat.{ℕ, zero, suc, ◌^◌, ◌<◌}
+use Prim.Native.Nat.{ℕ, zero, suc}
 use native.Mathlib.Omega.{arith}
 use native.Mathlib.Numerals.{add-one}
-use lib.IntN.{ℤ, pos, negsuc, ◌+ℤ◌, ◌-ℤ◌, +ℤ_idl}
+use lib.IntN.{ℤ, pos, negsuc, ◌+ℤ◌, ◌-ℤ◌}
 use lib.Signed.{◌≤ℤ◌, ◌<ℤ◌}
-use mir.Syntax.{w64}
-use mir.Val.{SFits}
 use Rattle.integers.specs.Numbers.{Within}
 use Rattle.integers.specs.Division.{ceil_div}
 use Rattle.integers.specs.Root.{whole_root, root_within, root_above, least_root}
 use Rattle.integers.proofs.Parts.{≤_out, <_out, ≡_in, minus_diff, pos_nonneg, *ℤ-nonneg, gap-nonneg}
 use Rattle.integers.proofs.Order.{≤_unless}
 use Rattle.integers.proofs.Solver.{◌&◌, order, solver}
-use Rattle.integers.proofs.Machine.{within-neg, within_floor, within-high, fits_within}
+use Rattle.integers.proofs.Machine.{within-neg, within_floor, within-high}
 use Rattle.integers.proofs.Roots.{root_law, root_above-nonneg, root_above-least}
 use Rattle.arithmetic.specs.Required.{root_range, bound_range}
 
@@ -27,13 +25,6 @@ pub nonneg-within : {m : ℕ} {x : ℤ} → pos 0 ≤ℤ x → x ≤ℤ pos m �
 nonneg-within {x = pos a} h k = record { size = omega (arith, ≤_out k) }
 nonneg-within {x = negsuc a} h k = absurd h.le
 
--- -x fits where |x| does
-pub fits_minus : {m : ℕ} {x : ℤ} → m < 2 ^ 63 → Within m x → SFits w64 (pos 0 -ℤ x)
-fits_minus h w = rw +ℤ_idl (fits_within (within-neg w) h)
-
-pub fits_bound : {x : ℤ} → Within bound_range x → SFits w64 x
-fits_bound w = fits_within w (omega arith)
-
 -- a root is not above its number
 pub within-whole_root : {m : ℕ} {x : ℤ} → pos 0 ≤ℤ x → Within m x → Within m (whole_root x)
 within-whole_root {m} {x} h w =
@@ -41,7 +32,8 @@ within-whole_root {m} {x} h w =
     let l = root_law x h in
     nonneg-within l.nonneg (≤_unless (λ e.
     let one : pos 1 ≤ℤ r = order (r ∷ pos m ∷ []) (e & pos_nonneg m) (search solver depth 40 fits 20000) (omega arith) in
-    order (x ∷ r ∷ pos m ∷ []) (l.low & within-high w & *ℤ-nonneg l.nonneg (gap-nonneg one)) (search solver depth 40 fits 20000) (omega arith)))
+    order (x ∷ r ∷ pos m ∷ []) (l.low & within-high w & *ℤ-nonneg l.nonneg (gap-nonneg one)) (search solver depth 40 fits 20000)
+    (omega arith)))
 
 -- the least root of such a number
 pub within_root : (t b : ℤ) → Within bound_range b → Within root_range (least_root t b)

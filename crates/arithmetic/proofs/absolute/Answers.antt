@@ -1,18 +1,13 @@
 -- By the test.
-use mathlib.Core.Path.{◌∙◌}
 use native.Mathlib.Omega.{arith}
-use Rattle.integers.proofs.Machine.{clean, lt_yes, lt_no, fits_literal}
-use Rattle.arithmetic.proofs.Quotients.{fits_minus}
+use lib.IntN.{pos}
+use lib.Signed.{◌≤ℤ◌, ◌<ℤ◌}
+use Rattle.std.proofs.lemmas.Int.{ints}
 use Rattle.arithmetic.proofs.Signs.{abs-of-negative, abs-of-nonneg}
 use Rattle.arithmetic.proofs.absolute.Goals as goal
 
-pub overflow_sub-result : goal.overflow_sub-result
-overflow_sub-result c = rw (clean c.ranges.x) (fits_minus (omega arith) c.requires)
-
 pub returns-then-x-lt0 : goal.returns-then-x-lt0
-returns-then-x-lt0 c =
-    clean (overflow_sub-result c) ∙ rw (clean c.ranges.x) (abs-of-negative c.args.x (lt_yes c.ranges.x (fits_literal tt) c.if-x-lt0.true))
+returns-then-x-lt0 c = let h : c.args.x <ℤ pos 0 = grind (arith, ints) in rw (← abs-of-negative c.args.x h) (omega (arith, ints))
 
 pub returns-else-x-lt0 : goal.returns-else-x-lt0
-returns-else-x-lt0 c =
-    clean c.ranges.x ∙ abs-of-nonneg c.args.x (lt_no c.ranges.x (fits_literal tt) c.if-x-lt0.false)
+returns-else-x-lt0 c = let h : pos 0 ≤ℤ c.args.x = grind (arith, ints) in rw (← abs-of-nonneg c.args.x h) (omega (arith, ints))
