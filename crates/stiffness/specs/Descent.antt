@@ -1,11 +1,11 @@
 -- How the code finds the least bound: it narrows the numbers between one that no tried vector is under and one that some vector is under.
-use Rattle.std.specs.Prelude.{◌≡◌, List, ℕ, ◌≤◌, ◌<◌, ℤ, pos, neg_ℤ, ◌+ℤ◌, ◌≤ℤ◌, ◌<ℤ◌, length, Option, Some, None}
+use Rattle.std.specs.Prelude.{◌≡◌, List, ℕ, ◌≤◌, ◌<◌, ℤ, pos, neg_ℤ, ◌+ℤ◌, ◌≤ℤ◌, ◌<ℤ◌, length}
 use Rattle.std.proofs.Math.Option.{none, some}
 use Rattle.integers.specs.Numbers.{Within}
 use Rattle.tables.specs.Ranges.{greatest_order}
 use Rattle.tables.specs.Matrix.{Matrix, nth, tabulate}
 use Rattle.lookahead.specs.Pairs.{under_range}
-use Rattle.stiffness.specs.Bracket.{Bracketing, between, at_most, quotient, least_bound, first_under}
+use Rattle.stiffness.specs.Bracket.{Bracketing, between, at_most, least_bound, first_under}
 use Rattle.stiffness.specs.declared.bracket.Stiffness.{Stiffness}
 
 -- a vector whose entries are 0, 1 and -1
@@ -17,13 +17,6 @@ pub record TriedEntries (n : ℕ) (x : List ℤ) : Type 0 where
 pub record Inside (a b w : ℤ) : Type 0 where
   pub low : a <ℤ w
   pub high : w <ℤ b
-
--- w is asked of the tried vectors, and r is answered: where none is under w the vector in x₀ is kept, and else x holds the first one, whose
--- quotient r is
-pub record Asked (n : ℕ) (L U : Matrix) (w : ℤ) (x₀ : List ℤ) (r : Option ℤ) (x : List ℤ) : Type 0 where
-  pub missed : r ≡ None → (first_under n L U w ≡ none) × (x ≡ x₀)
-  pub hit : (v : ℤ) → r ≡ Some v → (first_under n L U w ≡ some (tabulate n (nth x))) × (v ≡ quotient n L U (nth x))
-  pub size : length x ≡ greatest_order
 
 -- so far: no tried vector is under `below`, and x holds the first that is under v, or v is one above L(1,1), where the search starts
 pub record Narrowed (n : ℕ) (L U : Matrix) (below v : ℤ) (x : List ℤ) : Type 0 where

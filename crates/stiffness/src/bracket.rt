@@ -1,12 +1,11 @@
 // The bracket of the stiffness, R26 of docs/RULES.md.
 ghost use Rattle.std.specs.Prelude.{◌≡◌, ◌<◌, length, Ok};
-ghost use Rattle.tables.specs.Ranges.{greatest_order};
-ghost use Rattle.tables.specs.Matrix.{at};
-ghost use Rattle.tables.specs.Bounds.{CheckedTables};
+ghost use Rattle.tables.specs.Bounded.{low_of, high_of};
 ghost use Rattle.stiffness.specs.Bracket.{Bracketed, bracketed, written, bracket, bracket_number, Meaning};
 ghost use Rattle.stiffness.specs.Descent.{Stated};
 
 use crate::least_bound::least_bound;
+use tables::bounded::Bounded;
 use tables::entering::{enter, order};
 use tables::{Answer, GREATEST_ORDER, Refusal, TABLE_ROOM, Vector};
 
@@ -30,27 +29,27 @@ impl Answer for Stiffness {
     }
 }
 
-// The bracket of bounds of order n, with the vector in the first n entries of x.
-pub fn find(n: usize, low: &[i64], high: &[i64], x: &mut Vector) -> Stiffness
-    requires { CheckedTables n low.now high.now × (0 < n) × (length x.old ≡ greatest_order) }
-    ensures { Stated (bracketed n (at n low.now) (at n high.now)) n result x.new }
+// The bracket of bounds, with the vector in the first entries of x.
+pub fn find(bounds: Bounded, x: &mut Vector) -> Stiffness
+    requires { 0 < bounds.order }
+    ensures { Stated (bracketed bounds.entry.order (low_of bounds.entry) (high_of bounds.entry)) bounds.entry.order result x.new }
 {
-    let v = least_bound(n, low, high, x);
-    if !steps::ends(n, low, high) {
+    let v = least_bound(bounds, x);
+    if !steps::ends(bounds) {
         return Stiffness::AtMost(v);
     }
-    Stiffness::Between(steps::step(n, low, high), v)
+    Stiffness::Between(steps::step(bounds), v)
 }
 
-// The bracket of bounds of order n, with the vector written to a buffer of n numbers.
-fn bracket_bounds(n: usize, low: &[i64], high: &[i64], vector: &mut [i64]) -> Stiffness
-    requires { CheckedTables n low.now high.now × (0 < n) × (length vector.old ≡ n) }
+// The bracket of bounds, with the vector written to a buffer of as many numbers as their order.
+fn bracket_bounds(bounds: Bounded, vector: &mut [i64]) -> Stiffness
+    requires { (0 < bounds.order) × (length vector.old ≡ bounds.order) }
     ensures { ◌≡◌ {A = Bracketed} (record { stiffness = Ok result; vector = vector.new })
-        (written (bracketed n (at n low.now) (at n high.now)) vector.old) }
+        (written (bracketed bounds.entry.order (low_of bounds.entry) (high_of bounds.entry)) vector.old) }
 {
     let mut x = [0i64; GREATEST_ORDER];
-    let found = find(n, low, high, &mut x);
-    tables::copy_numbers(n, &x, vector);
+    let found = find(bounds, &mut x);
+    tables::copy_numbers(bounds.order, &x, vector);
     found
 }
 
@@ -66,5 +65,10 @@ pub fn bracket(n: i64, low: &[i64], high: &[i64], vector: &mut [i64]) -> Result<
     let mut l = [0i64; TABLE_ROOM];
     let mut u = [0i64; TABLE_ROOM];
     enter(n, sized, true, low, high, &mut l, &mut u)?;
-    Ok(bracket_bounds(m, &l, &u, vector))
+    let bounds = Bounded {
+        order: m,
+        low: &l,
+        high: &u,
+    };
+    Ok(bracket_bounds(bounds, vector))
 }

@@ -8,7 +8,8 @@ use Rattle.tables.specs.Checks.{order_of, sizes_ok}
 use Rattle.tables.specs.Entering.{Entered}
 use Rattle.tables.proofs.Answers.{exactly, handed_on}
 use Rattle.tables.proofs.Checks.{sizes-of}
-use Rattle.tables.proofs.Admission.{order_fits, order-positive, no-order, order-passed, order-refused, came-through, entered-refused, entered-passed}
+use Rattle.tables.proofs.Admission.{order_fits, order-positive, no-order, order-passed, order-refused}
+use Rattle.tables.proofs.Admission.{came-through, entered-refused, entered-passed}
 use Rattle.stiffness.specs.Bracket.{Bracketing, refused, Bracketed, written, bracketing, bracket, Meaning}
 use Rattle.stiffness.proofs.Meanings.{bracketing-means}
 use Rattle.stiffness.proofs.bracket.bracket.Goals as goal
@@ -65,12 +66,17 @@ returns-in_err-enter-clause-exact c =
     let d = came (goal.at.returns-in_err-enter-clause-exact c).After-enter in
     rw (handed_on c.from_residual-in_err-enter.ensures.1) (ap (given s) (entered-refused _ _ _ _ _ refused _ d c.in_err-enter.was))
 
+pub invariant_of-bounds : goal.invariant_of-bounds
+invariant_of-bounds c =
+    let d = came (goal.at.invariant_of-bounds c).After-enter in
+    record { checked = rw (order-passed c.ranges.n c.in_ok-m.ensures).0 (d.held c.in_ok-enter.was).tables }
+
 pub bracket_bounds-requires : goal.bracket_bounds-requires
 bracket_bounds-requires c =
     let d = came (goal.at.bracket_bounds-requires c).After-enter in
     let q = c.in_ok-enter.was in
     let b = came-through _ _ _ _ _ d q in
-    rw (order-passed c.ranges.n c.in_ok-m.ensures).0 ((d.held q).tables, order-positive _ b.ordered, (sizes-of _ _ _ _ _ b.sizes).2)
+    rw (order-passed c.ranges.n c.in_ok-m.ensures).0 (order-positive _ b.ordered, (sizes-of _ _ _ _ _ b.sizes).2)
 
 pub returns : goal.returns
 unfolding bracket bracketing

@@ -7,4 +7,5 @@ use Rattle.stiffness.proofs.bracket.bracket_bounds.Goals as goal
 pub returns : goal.returns
 returns c =
     let g = c.find-found.ensures in
-    rw (c.copy_numbers.ensures ∙ copied-whole _ _ (omega (arith, c.requires.0.order, g.size)) c.requires.2) (stated-written _ _ _ g _)
+    rw (c.copy_numbers.ensures ∙ copied-whole _ _ (omega (arith, c.args.bounds.checked.order, g.size)) c.requires.1)
+    (stated-written _ _ _ g _)

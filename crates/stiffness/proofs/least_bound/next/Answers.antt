@@ -24,4 +24,6 @@ overflow_add-below c = rw (clean c.ranges.below, clean c.ranges.v) (fits_within 
 
 pub returns : goal.returns
 returns c =
-    rw (clean_element c.floor_div.result c.floor_div.type_inv, c.floor_div.ensures, clean (overflow_add-below c.before), clean c.ranges.below, clean c.ranges.v) (middle c.requires.2.high)
+    let q = c.floor_div in
+    rw (clean_element q.result q.type_inv, q.ensures, clean (overflow_add-below c.before), clean c.ranges.below, clean c.ranges.v)
+    (middle c.requires.2.high)

@@ -12,8 +12,8 @@ ceil_div-requires c =
     let v = c.least_value in
     let s = c.product_sum in
     let p = c.requires in (
-      rw (clean_result v, v.ensures) (least-small p.0 p.1),
-      rw (clean_result s, s.ensures) (norm_positive p.2),
+      rw (clean_element v.result v.type_inv, v.ensures) (least-small c.args.bounds.checked p.0),
+      rw (clean_result s, s.ensures) (norm_positive p.1),
     )
 
 pub returns : goal.returns
@@ -21,4 +21,5 @@ unfolding quotient norm_squared
 returns c =
     let v = c.least_value in
     let s = c.product_sum in
-    clean_element c.ceil_div.result c.ceil_div.type_inv ∙ rw (clean_result v, v.ensures, clean_result s, s.ensures) at c.ceil_div.ensures
+    clean_element c.ceil_div.result c.ceil_div.type_inv
+    ∙ rw (clean_element v.result v.type_inv, v.ensures, clean_result s, s.ensures) at c.ceil_div.ensures
