@@ -1,9 +1,9 @@
 -- R27.2 and checks 1 and 2 of R27.3 of docs/RULES.md: how many problems there are, what passing these checks says of the orders and of each size, and what
 -- the act answers where they fail.
 use mathlib.Core.Path.{◌≡◌, refl, sym, ap, ◌∙◌}
-use mathlib.Core.Bool.{Bool, true, false, ◌&&◌}
+use mathlib.Core.Bool.{Bool, true, false, false≢true, ◌&&◌}
 use mathlib.Core.List.{List, []}
-use Prim.Native.Nat.{ℕ, suc, ◌+◌, ◌*◌, ◌/◌, ◌%◌, ◌≤◌, ◌<◌}
+use Prim.Native.Nat.{ℕ, zero, suc, ◌+◌, ◌*◌, ◌/◌, ◌%◌, ◌≤◌, ◌<◌}
 use native.Mathlib.Omega.{arith}
 use native.Mathlib.Nat.{div-add-mod', mul-le-mul, mul-le-mul_right}
 use lib.Dec.{leb, eqb}
@@ -11,11 +11,16 @@ use lib.IntN.{ℤ}
 use lib.ListN.{length}
 use borrow.Author.Tests.{leb-true, eqb-true}
 use Rattle.tables.specs.Matrix.{nth}
-use Rattle.tables.specs.Checks.{Check, first_refusal, same, order_ok, check_length}
+use Rattle.tables.specs.Checks.{all, Check, first_refusal, same, order_ok, ordered, check_length}
 use Rattle.tables.specs.Problem.{constraint_sized}
 use Rattle.tables.specs.declared.Refusal.{Refusal}
 use Rattle.tables.specs.declared.Refusal.TheVariants.{Order, Length}
-use Rattle.std.specs.Prelude.{Ok, Err}
+use Rattle.std.specs.Prelude.{Ok, Err, None, Some}
+use Rattle.std.specs.Option.{ok_or}
+use Rattle.integers.proofs.Machine.{clean}
+use Rattle.tables.proofs.Admission.{ordered-yes, order-refused}
+use mir.Syntax.{w64}
+use mir.Val.{SFits, to_z, of_z}
 use Rattle.tables.specs.declared.problem.Constraint.{Constraint}
 use Rattle.tables.specs.declared.problem.Sizes.{Sizes}
 use Rattle.tables.specs.declared.problem.Lengths.{Lengths}
@@ -26,7 +31,7 @@ use Rattle.sums.specs.Sums.{Outcome}
 use Rattle.sums.specs.Lent.{Lent}
 use Rattle.pool.specs.Pool.{greatest_pool, count_of, Problems, orders_ok, orders_same, checked_pool, pool_entry_checks, pooling}
 use Rattle.pool.specs.Act.{pool_sized, sums_lengths, problems_lengths}
-use Rattle.pool.specs.Required.{Lists, LentSums}
+use Rattle.pool.specs.Required.{counted, Sized, LentSums}
 
 -- ---- how many problems there are
 module _ (unit size : ℕ) where
@@ -50,6 +55,24 @@ module _ (unit size : ℕ) where
   -- and, where there is one, no other number
   pub count_length : 1 ≤ count_of unit size → size ≡ count_of unit size * unit
   count_length = count_by (λ k. 1 ≤ k → size ≡ k * unit) (λ e h l. omega (arith, e, div-add-mod' size unit)) (λ l. absurd (omega arith))
+
+-- how the code answers it
+pub counted-none : {k : ℕ} → k < 1 → None ≡ counted k
+counted-none {k = zero} h = refl
+counted-none {k = suc k} h = absurd (omega (arith, h))
+
+pub counted-some : {k : ℕ} → 1 ≤ k → Some k ≡ counted k
+counted-some {k = zero} h = absurd (omega (arith, h))
+counted-some {k = suc k} h = refl
+
+-- and what a caller reads of that answer, who refuses where there is none
+pub none-counted : {k : ℕ} {r : Refusal} → Err r ≡ ok_or (counted k) Length → (r ≡ Length) × (k ≡ 0)
+none-counted {k = zero} e = (cc, refl)
+none-counted {k = suc k} e = absurd (false≢true cc)
+
+pub some-counted : {k m : ℕ} → Ok m ≡ ok_or (counted k) Length → m ≡ k
+some-counted {k = zero} e = absurd (false≢true cc)
+some-counted {k = suc k} e = cc
 
 -- ---- part k of m parts of s numbers each
 pub part_inside : {k m : ℕ} (s : ℕ) → k < m → k * s + s ≤ m * s
@@ -84,6 +107,21 @@ module _ (n : ℤ) (m : ℕ) (orders : List ℤ) (sized : Bool) where
       }
 
   -- what they find
+  pub entry-unordered : {k : Refusal} → SFits w64 n → Err k ≡ ordered (to_z w64 (of_z w64 n)) → first_refusal entry ≡ Err k
+  unfolding orders_ok
+  entry-unordered {k} f q = go (order_ok n) refl
+    where
+      e : Err k ≡ ordered n
+      e = rw (clean f) at q
+
+      go : (b : Bool) → order_ok n ≡ b → first_refusal entry ≡ Err k
+      go true o = cc (e, ordered-yes n o)
+      go false o = first-refuses _ _ (rw o refl) ∙ ap Err (sym (order-refused f q).0)
+
+  pub entry-none : order_ok n ≡ true → m ≡ 0 → first_refusal entry ≡ Err Length
+  unfolding orders_ok orders_same all
+  entry-none e z = rw z (first_passes _ _ (rw e refl) ∙ first-refuses (check_length (orders_same n 0 orders && sized)) [] refl)
+
   pub entry-order : orders_ok n m orders ≡ false → Err Order ≡ first_refusal entry
   entry-order o = sym (first-refuses _ _ o)
 
@@ -153,7 +191,7 @@ module _ (n m : ℕ) (b : Lent (List ℤ)) (q : Problems (List ℤ))
   sizes : PoolSizes 1 n m (sums_lengths b) (length b.limit) (problems_lengths q) (length q.limits)
   sizes = pool-sizes-of 1 n m (sums_lengths b) (length b.limit) (problems_lengths q) (length q.limits) e
 
-  pub pool-lists : Lists n m q
+  pub pool-lists : Sized n m q
   pool-lists =
       let z = sizes in
       record {

@@ -1,14 +1,13 @@
 -- What a loop through the problems keeps, and one problem more of it: of lists of numbers, and of bytes.
-use mathlib.Core.Path.{◌≡◌, refl, sym, ap, ◌∙◌}
+use mathlib.Core.Path.{◌≡◌, sym, ap, ◌∙◌}
 use mathlib.Core.List.{List}
-use Prim.Native.Nat.{ℕ, ◌+◌, ◌*◌, ◌≤◌}
+use Prim.Native.Nat.{ℕ, ◌+◌, ◌*◌}
 use native.Mathlib.Omega.{arith}
 use native.Mathlib.Numerals.{add-one}
 use lib.IntN.{ℤ}
 use lib.ListN.{length}
 use Rattle.tables.specs.Ranges.{greatest_order, table_room}
 use Rattle.tables.specs.declared.problem.Constraint.{Constraint}
-use Rattle.tables.proofs.Matrix.{table_fits}
 use Rattle.sums.specs.Required.{sums_at, Rooms, stated, Stated}
 use Rattle.std.specs.Prelude.{Result}
 use Rattle.tables.specs.declared.Refusal.{Refusal}
@@ -29,14 +28,6 @@ pub record Long (l u a b : ℕ) (x y z w : List ℤ) : Type 0 where
 abbrev pub Scratch : List ℤ → List ℤ → List ℤ → List ℤ → Type 0
 Scratch = Long table_room table_room greatest_order greatest_order
 
-pub scratch_rooms : {n : ℕ} {x y z w : List ℤ} → n ≤ greatest_order → Scratch x y z w → Rooms n x y z w
-scratch_rooms h l = record {
-  low = omega (arith, table_fits h, l.low);
-  high = omega (arith, table_fits h, l.high);
-  linear_low = omega (arith, h, l.from);
-  linear_high = omega (arith, h, l.to);
-}
-
 -- ---- the pass begins with sums at the front of x, y, z and w
 pub record Begun (n : ℕ) (p : ℕ → Constraint) (x y z w : List ℤ) (α : ℤ) (d : Result ℤ Refusal) (l u a b : List ℤ) : Type 0 where
   pub states : Stated n (passing (sums_at n x y z w α) p 0) d l u a b
@@ -47,9 +38,6 @@ pub record Going (n : ℕ) (p : ℕ → Constraint) (d₀ : Result ℤ Refusal) 
   pub passed : (c : Constraint) → Stated n (passing c p 0) d₀ l₀ u₀ a₀ b₀ → Stated n (passing c p k) d l u a b
 
 module _ {n : ℕ} {p : ℕ → Constraint} {d₀ : Result ℤ Refusal} {l₀ u₀ a₀ b₀ : List ℤ} where
-  pub going_none : Going n p d₀ l₀ u₀ a₀ b₀ 0 d₀ l₀ u₀ a₀ b₀
-  going_none = record { sizes = record { low = refl; high = refl; from = refl; to = refl }; passed = λ c st. st }
-
   module _ {k : ℕ} {d : Result ℤ Refusal} {l u a b : List ℤ} (g : Going n p d₀ l₀ u₀ a₀ b₀ k d l u a b) where
     pub going_next : {q : Constraint} {r : Result ℤ Refusal} {l' u' a' b' : List ℤ} → q ≡ p k → Long (length l) (length u) (length a) (length b) l' u' a' b' →
         Stated n (next q (stated n d l u a b)) r l' u' a' b' → Going n p d₀ l₀ u₀ a₀ b₀ (k + 1) r l' u' a' b'

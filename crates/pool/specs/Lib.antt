@@ -2,3 +2,4 @@ pub mod Pool
 pub mod Act
 pub mod Passing
 pub mod Required
+pub mod Listed

@@ -1,13 +1,18 @@
--- What the code of a pool asks of its lists and of the sums.
-use Rattle.std.specs.Prelude.{◌≡◌, List, ℕ, ◌*◌, ℤ, length, Result, Ok, Err}
+-- How the code of a pool answers the count of problems, and what it asks of its lists and of the sums.
+use Rattle.std.specs.Prelude.{◌≡◌, List, ℕ, zero, suc, ◌*◌, ℤ, length, Option, None, Some, Result, Ok, Err}
 use Rattle.tables.specs.declared.Refusal.{Refusal}
 use Rattle.sums.specs.Lent.{Lent}
 use Rattle.sums.specs.Required.{Ranged, stated}
 use Rattle.pool.specs.Pool.{Problems}
 use Rattle.pool.specs.Passing.{refused_by}
 
+-- a count of problems, and none in place of 0
+abbrev pub counted : ℕ → Option ℕ
+counted zero = None
+counted (suc m) = Some (suc m)
+
 -- lists of m problems of order n
-pub record Lists (n m : ℕ) (q : Problems (List ℤ)) : Type 0 where
+pub record Sized (n m : ℕ) (q : Problems (List ℤ)) : Type 0 where
   pub lows : length q.lows ≡ m * (n * n)
   pub highs : length q.highs ≡ m * (n * n)
   pub froms : length q.froms ≡ m * n

@@ -4,25 +4,26 @@ ghost use Rattle.tables.specs.Ranges.{greatest_order};
 ghost use Rattle.tables.specs.Checks.{first_refusal, order_of};
 ghost use Rattle.pool.specs.Pool.{greatest_pool, count_of, orders_ok, orders_same, pool_entry_checks};
 ghost use Rattle.pool.specs.Act.{pool_sized};
+ghost use Rattle.pool.specs.Required.{counted};
 
 use crate::GREATEST_POOL;
 use tables::entering::order_of;
 use tables::problem::{Lengths, Sizes, constraint_sized};
 use tables::{Refusal, order_ok};
 
-// How many problems a list of orders of this length stands for, where a number takes `unit`: 0 where it has not 1 to 64 whole numbers.
-pub fn count_of(unit: usize, length: usize) -> usize
+// How many problems a list of orders of this length stands for, where a number takes `unit`: none where it has not 1 to 64 whole numbers.
+pub fn count_of(unit: usize, length: usize) -> Option<usize>
     requires { 0 < unit }
-    ensures { result ≡ count_of unit length }
+    ensures { result ≡ counted (count_of unit length) }
 {
     if length % unit != 0 {
-        return 0;
+        return None;
     }
     let count = length / unit;
-    if GREATEST_POOL < count {
-        return 0;
+    if count < 1 || GREATEST_POOL < count {
+        return None;
     }
-    count
+    Some(count)
 }
 
 // Check 1: whether n and the first numbers of orders, count of them, are orders.

@@ -2,6 +2,8 @@
 #![tactic(auto)]
 
 pub mod entering;
+pub mod lists;
+pub mod loading;
 pub mod pool;
 pub mod problems;
 

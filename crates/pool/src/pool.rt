@@ -5,15 +5,16 @@ ghost use Rattle.tables.specs.Matrix.{nth, tabulate};
 ghost use Rattle.tables.specs.Buffers.{Filled};
 ghost use Rattle.tables.specs.Checks.{order_of};
 ghost use Rattle.sums.specs.Lent.{Left, laid_sums, sums_of};
-ghost use Rattle.sums.specs.Required.{sums_at, Rooms, Sums, Stated};
 ghost use Rattle.pool.specs.Pool.{greatest_pool, count_of, problem_at, checked_pool};
 ghost use Rattle.pool.specs.Act.{pool, Meaning};
-ghost use Rattle.pool.specs.Required.{Lists, LentSums};
+ghost use Rattle.pool.specs.Required.{Sized, LentSums};
+ghost use Rattle.pool.specs.Listed.{problems_in};
 
 use crate::entering::{check_entry, count_of};
-use crate::problems::{add_problem, begin};
+use crate::lists::Lists;
+use crate::loading::{Problems, pool_all};
 use sums::copying::copy_sums;
-use tables::entering::order_of;
+use tables::entering::order;
 use tables::problem::lengths_of;
 use tables::{GREATEST_ORDER, Refusal, TABLE_ROOM};
 
@@ -25,95 +26,43 @@ fn copy_part(count: usize, first: usize, x: &[i64], out: &mut [i64])
     out[..count].copy_from_slice(&x[first..first + count]);
 }
 
-// Problem k of the lists of count problems of order n, but for its limit, to the front of arrays.
-fn copy_problem(
-    n: usize,
-    count: usize,
-    k: usize,
-    lows: &[i64],
-    highs: &[i64],
-    froms: &[i64],
-    tos: &[i64],
-    limits: &[i64],
-    l: &mut [i64],
-    u: &mut [i64],
-    a: &mut [i64],
-    b: &mut [i64],
-) -> i64
-    requires { (n ≤ greatest_order) × (count ≤ greatest_pool) × (k < count) × Rooms n l.old u.old a.old b.old
-        × Lists n count (record { lows = lows.now; highs = highs.now; froms = froms.now; tos = tos.now; limits = limits.now }) }
-    ensures { Sums (problem_at n (record {
-      lows = lows.entry.now;
-      highs = highs.now;
-      froms = froms.now;
-      tos = tos.now;
-      limits = limits.now;
-    }) k) n l.new u.new a.new b.new result }
-{
-    copy_part(n * n, k * (n * n), lows, l);
-    copy_part(n * n, k * (n * n), highs, u);
-    copy_part(n, k * n, froms, a);
-    copy_part(n, k * n, tos, b);
-    limits[k]
-}
+impl Problems for Lists<'_, i64> {
+    ghost use Rattle.pool.specs.Listed.{problems_in};
 
-// The sums of order n in l, u, a and b, with the problems of the lists added to them in place.
-fn pool_all(
-    n: usize,
-    count: usize,
-    lows: &[i64],
-    highs: &[i64],
-    froms: &[i64],
-    tos: &[i64],
-    limits: &[i64],
-    running: i64,
-    l: &mut [i64],
-    u: &mut [i64],
-    a: &mut [i64],
-    b: &mut [i64],
-) -> Result<i64, Refusal>
-    requires { (n ≤ greatest_order) × (count ≤ greatest_pool) × Rooms n l.old u.old a.old b.old
-        × Lists n count (record { lows = lows.now; highs = highs.now; froms = froms.now; tos = tos.now; limits = limits.now }) }
-    ensures { Stated n (checked_pool (sums_at n l.old u.old a.old b.old running)
-        (problem_at n (record {
-          lows = lows.entry.now;
-          highs = highs.now;
-          froms = froms.now;
-          tos = tos.now;
-          limits = limits.now;
-        })) count) result l.new u.new a.new b.new }
-{
-    let mut pl = [0i64; TABLE_ROOM];
-    let mut pu = [0i64; TABLE_ROOM];
-    let mut pa = [0i64; GREATEST_ORDER];
-    let mut pb = [0i64; GREATEST_ORDER];
-    let mut done = begin(n, running, l, u, a, b);
-    for k in 0..count {
-        let limit = copy_problem(
-            n, count, k, lows, highs, froms, tos, limits, &mut pl, &mut pu, &mut pa, &mut pb,
-        );
-        done = add_problem(n, limit, &mut pl, &mut pu, &pa, &pb, done, l, u, a, b);
+    ghost holds = { λ q n count. Sized n count (problems_in q) };
+
+    ghost problem = { λ q n count. problem_at n (problems_in q) };
+
+    fn load(
+        &self,
+        n: usize,
+        count: usize,
+        k: usize,
+        l: &mut [i64],
+        u: &mut [i64],
+        a: &mut [i64],
+        b: &mut [i64],
+    ) -> i64 {
+        copy_part(n * n, k * (n * n), self.lows, l);
+        copy_part(n * n, k * (n * n), self.highs, u);
+        copy_part(n, k * n, self.froms, a);
+        copy_part(n, k * n, self.tos, b);
+        self.limits[k]
     }
-    done
 }
 
 // Pools the problems of the lists into lent sums of order n, all of them of their sizes.
 fn pool_lists(
     n: usize,
     count: usize,
-    lows: &[i64],
-    highs: &[i64],
-    froms: &[i64],
-    tos: &[i64],
-    limits: &[i64],
+    lists: Lists<i64>,
     low: &mut [i64],
     high: &mut [i64],
     from: &mut [i64],
     to: &mut [i64],
     limit: &mut [i64],
 ) -> Result<(), Refusal>
-    requires { (n ≤ greatest_order) × (count ≤ greatest_pool)
-        × Lists n count (record { lows = lows.now; highs = highs.now; froms = froms.now; tos = tos.now; limits = limits.now })
+    requires { (n ≤ greatest_order) × (count ≤ greatest_pool) × Sized n count (problems_in lists)
         × LentSums n (record { low = low.now; high = high.old; from = from.old; to = to.old; limit = limit.old }) }
     ensures { ◌≡◌ {A = Left (List ℤ)} (record {
       answer = result;
@@ -130,13 +79,7 @@ fn pool_lists(
       from = from.old;
       to = to.old;
       limit = limit.old;
-    })) (problem_at n (record {
-      lows = lows.entry.now;
-      highs = highs.now;
-      froms = froms.now;
-      tos = tos.now;
-      limits = limits.now;
-    })) count) (record {
+    })) (problem_at n (problems_in lists.entry)) count) (record {
       low = low.entry.now;
       high = high.old;
       from = from.old;
@@ -149,9 +92,7 @@ fn pool_lists(
     let mut a = [0i64; GREATEST_ORDER];
     let mut b = [0i64; GREATEST_ORDER];
     copy_sums(n, low, high, from, to, &mut l, &mut u, &mut a, &mut b);
-    let sum = pool_all(
-        n, count, lows, highs, froms, tos, limits, limit[0], &mut l, &mut u, &mut a, &mut b,
-    )?;
+    let sum = pool_all(n, count, &lists, limit[0], &mut l, &mut u, &mut a, &mut b)?;
     copy_sums(n, &l, &u, &a, &b, low, high, from, to);
     limit[0] = sum;
     Ok(())
@@ -217,7 +158,8 @@ pub fn pool(
       limit = limit.new;
     })) }
 {
-    let count = count_of(1, orders.len());
+    let order = order(n)?;
+    let count = count_of(1, orders.len()).ok_or(Refusal::Length)?;
     let sums = lengths_of(low.len(), high.len(), from.len(), to.len());
     let problems = lengths_of(lows.len(), highs.len(), froms.len(), tos.len());
     check_entry(
@@ -230,18 +172,12 @@ pub fn pool(
         problems,
         limits.len(),
     )?;
-    pool_lists(
-        order_of(n),
-        count,
+    let lists = Lists {
         lows,
         highs,
         froms,
         tos,
         limits,
-        low,
-        high,
-        from,
-        to,
-        limit,
-    )
+    };
+    pool_lists(order, count, lists, low, high, from, to, limit)
 }

@@ -41,8 +41,8 @@ pub fn begin(
     b: &[i64],
 ) -> Result<i64, Refusal>
     requires { (n ≤ greatest_order) × Rooms n l.old u.old a.now b.now }
-    ensures { Stated n (after Err (first_refusal (own_checks (sums_at n l.old u.old a.now b.now limit))) (Ok (mended_constraint (sums_at n l.old u.old a.now b.now
-        limit)))) result l.new u.new a.now b.now }
+    ensures { Stated n (after Err (first_refusal (own_checks (sums_at n l.old u.old a.now b.now limit)))
+        (Ok (mended_constraint (sums_at n l.old u.old a.now b.now limit)))) result l.new u.new a.now b.now }
 {
     mend_sums(n, within(limit, LIMIT_RANGE), l, u, a, b)?;
     Ok(limit)

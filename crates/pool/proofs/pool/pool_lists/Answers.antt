@@ -16,6 +16,7 @@ use Rattle.sums.specs.Required.{front, Stated}
 use Rattle.sums.proofs.Fronts.{front-whole, constraint_by}
 use Rattle.sums.proofs.Laying.{set-one, stated_by, laid-taken, laid-refused}
 use Rattle.pool.specs.Pool.{problem_at, checked_pool}
+use Rattle.pool.specs.Listed.{problems_in}
 use Rattle.pool.proofs.pool.pool_lists.Goals as goal
 use Rattle.pool.proofs.pool.pool_lists.Goals.{Start, After-pool_all}
 
@@ -33,14 +34,14 @@ states : (c : After-pool_all) → let a = c.args in
     let o = c.pool_all.new in
     Stated a.n
     (checked_pool (sums_of a.n (record { low = a.low.now; high = a.high.now; from = a.from.now; to = a.to.now; limit = a.limit.now }))
-    (problem_at a.n (record { lows = a.lows.now; highs = a.highs.now; froms = a.froms.now; tos = a.tos.now; limits = a.limits.now })) a.count)
+    (problem_at a.n (problems_in a.lists)) a.count)
     c.pool_all.result o.l o.u o.a o.b
 states c =
     let p = c.copy_sums.ensures in
     let a = c.args in
     let z = c.requires.3 in
     stated_by
-    (ap (λ (k : Constraint). checked_pool k (problem_at a.n (record { lows = a.lows.now; highs = a.highs.now; froms = a.froms.now; tos = a.tos.now; limits = a.limits.now })) a.count)
+    (ap (λ (k : Constraint). checked_pool k (problem_at a.n (problems_in a.lists)) a.count)
     (constraint_by (copied-front a.low.now _ z.low p.0) (copied-front a.high.now _ z.high p.1) (copied-front a.from.now _ z.from p.2)
     (copied-front a.to.now _ z.to p.3) (clean_element (nth a.limit.now 0) (omega arith))))
     c.pool_all.ensures

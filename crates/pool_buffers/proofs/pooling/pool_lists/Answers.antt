@@ -12,6 +12,7 @@ use Rattle.sums.specs.Required.{Stated}
 use Rattle.sums.proofs.Fronts.{constraint_by}
 use Rattle.sums.proofs.Laying.{stated_by, laid-taken, laid-refused}
 use Rattle.pool.specs.Pool.{checked_pool}
+use Rattle.pool.specs.Listed.{problems_in}
 use Rattle.buffers.specs.Buffers.{bytes_of_number}
 use Rattle.buffers.proofs.Stores.{number-stored}
 use Rattle.sums_buffers.specs.SumsBuffers.{spelled_sums}
@@ -27,13 +28,13 @@ states : (c : After-pool_all) → let a = c.args in
     let o = c.pool_all.new in
     Stated a.n
     (checked_pool (spelled_sums a.n (record { low = a.low.now; high = a.high.now; from = a.from.now; to = a.to.now; limit = a.limit.now }))
-    (spelled_problems a.n a.count (record { lows = a.lows.now; highs = a.highs.now; froms = a.froms.now; tos = a.tos.now; limits = a.limits.now })) a.count)
+    (spelled_problems a.n a.count (problems_in a.lists)) a.count)
     c.pool_all.result o.l o.u o.a o.b
 states c =
     let a = c.args in
     let p = c.load_sums.ensures in
     stated_by
-    (ap (λ (k : Constraint). checked_pool k (spelled_problems a.n a.count (record { lows = a.lows.now; highs = a.highs.now; froms = a.froms.now; tos = a.tos.now; limits = a.limits.now })) a.count)
+    (ap (λ (k : Constraint). checked_pool k (spelled_problems a.n a.count (problems_in a.lists)) a.count)
     (constraint_by p.0 p.1 p.2 p.3 (clean_element c.load_signed-running.result c.load_signed-running.type_inv ∙ c.load_signed-running.ensures)))
     c.pool_all.ensures
 
