@@ -8,8 +8,8 @@ use Rattle.verdict.proofs.judge.judge_bounds.Goals as goal
 
 pub returns-in-Definite : goal.returns-in-Definite
 returns-in-Definite c =
-    rw (clean_element c.in-Definite.over (omega arith))
-    (decided_definite _ c.requires.3 (rw c.in-Definite.is at c.decide.ensures))
+    rw (← clean_element c.in-Definite.over (omega arith)) at
+    (decided_definite c.args.vector.now c.requires.3 (rw c.in-Definite.is at c.decide.ensures))
 
 pub returns-in-NotDefinite : goal.returns-in-NotDefinite
 returns-in-NotDefinite c =
