@@ -4,15 +4,16 @@ ghost use Rattle.std.specs.Int.{w64};
 ghost use mir.Val.{bytes};
 ghost use Rattle.words.specs.Numbers.{bytes_of};
 ghost use Rattle.tables.specs.Ranges.{greatest_order};
-ghost use Rattle.tables.specs.Matrix.{at, nth, tabulate};
+ghost use Rattle.tables.specs.Bounded.{low_of, high_of};
+ghost use Rattle.tables.specs.Matrix.{nth, tabulate};
 ghost use Rattle.tables.specs.Checks.{order_of};
-ghost use Rattle.tables.specs.Bounds.{CheckedTables};
 ghost use Rattle.stiffness.specs.Bracket.{bracketed, bracketing};
 ghost use Rattle.buffers.specs.Buffers.{table_of, bytes_of_number};
 ghost use Rattle.stiffness_buffers.specs.StiffnessBuffers.{stiffness_buffers, StoredStiffness, stored_stiffness};
 
 use buffers::entering::load_bounds;
 use stiffness::bracket::{Stiffness, find};
+use tables::bounded::Bounded;
 use tables::entering::{check_laid, order};
 use tables::{GREATEST_ORDER, Refusal, TABLE_ROOM, Vector};
 use words::SIZE;
@@ -28,27 +29,27 @@ fn store_bound(n: usize, v: i64, x: &Vector, bound: &mut [u8], vector: &mut [u8]
     words::store_numbers(x, vector, n, SIZE);
 }
 
-// The bracket of bounds of order n, and what goes with it, into buffers of the sizes that n calls for.
+// The bracket of bounds, and what goes with it, into buffers of the sizes that their order calls for.
 fn bracket_bounds(
-    n: usize,
-    low: &[i64],
-    high: &[i64],
+    bounds: Bounded,
     step: &mut [u8],
     bound: &mut [u8],
     vector: &mut [u8],
 ) -> Stiffness
-    requires { CheckedTables n low.now high.now × (0 < n) × (length step.old ≡ bytes w64) × (length bound.old ≡ bytes
-        w64) × (length vector.old ≡ n * bytes w64) }
+    requires { (0 < bounds.order) × (length step.old ≡ bytes w64) × (length bound.old ≡ bytes w64)
+        × (length vector.old ≡ bounds.order * bytes w64) }
     ensures { ◌≡◌ {A = StoredStiffness} (record {
       stiffness = Ok result;
       step = step.new;
       bound = bound.new;
       vector = vector.new;
-    }) (stored_stiffness n (bracketed n (at n low.now) (at n high.now)) step.old bound.old
-        vector.old) }
+    }) (stored_stiffness bounds.entry.order
+        (bracketed bounds.entry.order (low_of bounds.entry) (high_of bounds.entry))
+        step.old bound.old vector.old) }
 {
+    let n = bounds.order;
     let mut x = [0i64; GREATEST_ORDER];
-    let found = find(n, low, high, &mut x);
+    let found = find(bounds, &mut x);
     match found {
         Stiffness::Between(t, v) => {
             words::store_signed(step, 0, SIZE, t);
@@ -105,5 +106,10 @@ pub fn bracket(
     let mut u = [0i64; TABLE_ROOM];
     load_bounds(m, sized, low, high, &mut l, &mut u);
     check_laid(m, true, &mut l, &mut u)?;
-    Ok(bracket_bounds(m, &l, &u, step, bound, vector))
+    let bounds = Bounded {
+        order: m,
+        low: &l,
+        high: &u,
+    };
+    Ok(bracket_bounds(bounds, step, bound, vector))
 }

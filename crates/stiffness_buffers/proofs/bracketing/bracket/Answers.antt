@@ -5,7 +5,8 @@ use lib.ListN.{length}
 use Rattle.tables.specs.Checks.{order_of}
 use Rattle.tables.specs.Entering.{Entered}
 use Rattle.tables.proofs.Answers.{handed_on}
-use Rattle.tables.proofs.Admission.{order_small, order_fits, order-positive, order-passed, order-refused, no-order, no-sizes, came-through, entered-refused, entered-passed}
+use Rattle.tables.proofs.Admission.{order_small, order_fits, order-positive, order-passed, order-refused}
+use Rattle.tables.proofs.Admission.{no-order, no-sizes, came-through, entered-refused, entered-passed}
 use Rattle.stiffness.specs.Bracket.{Bracketing, refused, bracketing}
 use Rattle.buffers.specs.Buffers.{table_of}
 use Rattle.buffers.proofs.Loading.{came-sized}
@@ -15,9 +16,10 @@ use Rattle.stiffness_buffers.proofs.bracketing.bracket.Goals as goal
 use Rattle.stiffness_buffers.proofs.bracketing.bracket.Goals.{Start, After-check_laid}
 
 -- the door, with what it found
-came : (c : After-check_laid) → let a = c.args in
-    Entered a.n (stiffness_buffers (order_of a.n) (length a.low.now) (length a.high.now) (length a.step.now) (length a.bound.now) (length a.vector.now)) true
-    (table_of (order_of a.n) a.low.now) (table_of (order_of a.n) a.high.now) c.check_laid.result c.check_laid.new.l c.check_laid.new.u
+came : (c : After-check_laid) → let a = c.args in let k = order_of a.n in let d = c.check_laid in
+    Entered a.n
+    (stiffness_buffers k (length a.low.now) (length a.high.now) (length a.step.now) (length a.bound.now) (length a.vector.now)) true
+    (table_of k a.low.now) (table_of k a.high.now) d.result d.new.l d.new.u
 came c =
     let o = order-passed c.ranges.n c.in_ok-m.ensures in
     came-sized _ _ o.0 o.1 (rw o.0 at c.sizes_ok-sized.ensures) c.if-not-sized.false c.load_bounds.ensures c.check_laid.ensures
@@ -40,12 +42,15 @@ unfolding bracketing
 returns-then-not-sized c =
     let o = order-passed c.ranges.n c.in_ok-m.ensures in
     let z = sym (rw o.0 at c.sizes_ok-sized.ensures) ∙ c.if-not-sized.true in
-    ap (given (goal.at.returns-then-not-sized c).Start) (no-sizes _ _ _ _ _ refused _ (λ e. absurd (omega (arith, order-positive _ o.1, e))) z)
+    ap (given (goal.at.returns-then-not-sized c).Start)
+    (no-sizes _ _ _ _ _ refused _ (λ e. absurd (omega (arith, order-positive _ o.1, e))) z)
 
 pub load_bounds-requires : goal.load_bounds-requires
 load_bounds-requires c =
     let o = order-passed c.ranges.n c.in_ok-m.ensures in
-    rw o.0 (order_small _, (λ s. let z = stiffness_buffers_of _ _ _ _ _ _ (sym (rw o.0 at c.sizes_ok-sized.ensures) ∙ s) in (omega (arith, z.0), omega (arith, z.1))), refl, refl)
+    let e = sym (rw o.0 at c.sizes_ok-sized.ensures) in
+    rw o.0
+    (order_small _, (λ s. let z = stiffness_buffers_of _ _ _ _ _ _ (e ∙ s) in (omega (arith, z.0), omega (arith, z.1))), refl, refl)
 
 pub check_laid-requires : goal.check_laid-requires
 check_laid-requires c = rw (order-passed c.ranges.n c.in_ok-m.ensures).0 (order_small _, order_fits _ refl, c.load_bounds.ensures.rooms)
@@ -53,8 +58,14 @@ check_laid-requires c = rw (order-passed c.ranges.n c.in_ok-m.ensures).0 (order_
 pub returns-in_err-check_laid : goal.returns-in_err-check_laid
 unfolding bracketing
 returns-in_err-check_laid c =
+    let at = goal.at.returns-in_err-check_laid c in
     rw (handed_on c.from_residual-in_err-check_laid.ensures.1)
-    (ap (given (goal.at.returns-in_err-check_laid c).Start) (entered-refused _ _ _ _ _ refused _ (came (goal.at.returns-in_err-check_laid c).After-check_laid) c.in_err-check_laid.was))
+    (ap (given at.Start) (entered-refused _ _ _ _ _ refused _ (came at.After-check_laid) c.in_err-check_laid.was))
+
+pub invariant_of-bounds : goal.invariant_of-bounds
+invariant_of-bounds c =
+    let d = came (goal.at.invariant_of-bounds c).After-check_laid in
+    record { checked = rw (order-passed c.ranges.n c.in_ok-m.ensures).0 (d.held c.in_ok-check_laid.was).tables }
 
 pub bracket_bounds-requires : goal.bracket_bounds-requires
 bracket_bounds-requires c =
@@ -62,7 +73,7 @@ bracket_bounds-requires c =
     let q = c.in_ok-check_laid.was in
     let b = came-through _ _ _ _ _ d q in
     let z = stiffness_buffers_of _ _ _ _ _ _ b.sizes in
-    rw (order-passed c.ranges.n c.in_ok-m.ensures).0 ((d.held q).tables, order-positive _ b.ordered, z.2, z.3, z.4)
+    rw (order-passed c.ranges.n c.in_ok-m.ensures).0 (order-positive _ b.ordered, z.2, z.3, z.4)
 
 pub returns : goal.returns
 unfolding bracketing
@@ -70,4 +81,5 @@ returns c =
     let d = came (goal.at.returns c).After-check_laid in
     let q = c.in_ok-check_laid.was in
     let h = d.held q in
-    rw (← entered-passed _ _ _ _ _ refused _ d q) (rw ((order-passed c.ranges.n c.in_ok-m.ensures).0, h.low, h.high) at c.bracket_bounds.ensures)
+    rw (← entered-passed _ _ _ _ _ refused _ d q)
+    (rw ((order-passed c.ranges.n c.in_ok-m.ensures).0, h.low, h.high) at c.bracket_bounds.ensures)
