@@ -5,6 +5,8 @@ ghost use Rattle.std.specs.Prelude.{◌≡◌};
 ghost use Rattle.tables.specs.Answers.{yes_or_no_code, answer_code};
 ghost use Rattle.hankboulder_bench.specs.Timed.{factoring};
 
+use cholesky::problem::ends;
+use tables::bounded::Bounded;
 use tables::entering::{enter, order};
 use tables::{Refusal, TABLE_ROOM, answer_code};
 
@@ -18,7 +20,12 @@ fn factor(n: i64, low: &[i64], high: &[i64]) -> Result<bool, Refusal>
     let mut l = [0i64; TABLE_ROOM];
     let mut u = [0i64; TABLE_ROOM];
     enter(n, sized, true, low, high, &mut l, &mut u)?;
-    Ok(cholesky::problem::ends(m, &l, &u))
+    let bounds = Bounded {
+        order: m,
+        low: &l,
+        high: &u,
+    };
+    Ok(ends(bounds))
 }
 
 // The answer's number: 0 where factoring ends, -1 where it stops, else the refusal's.

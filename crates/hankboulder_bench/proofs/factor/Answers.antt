@@ -39,15 +39,16 @@ unfolding factoring
 returns-in_err-enter c =
     rw (handed_on c.from_residual-in_err-enter.ensures.1) (entered-refused _ _ _ _ _ Err _ (came (goal.at.returns-in_err-enter c).After-enter) c.in_err-enter.was)
 
-pub slice_bounds-ends-end : goal.slice_bounds-ends-end
-slice_bounds-ends-end c = sym c.enter.ensures.rooms.low-size
+pub slice_bounds-bounds-end : goal.slice_bounds-bounds-end
+slice_bounds-bounds-end c = sym c.enter.ensures.rooms.low-size
 
-pub slice_bounds-ends-end-2 : goal.slice_bounds-ends-end-2
-slice_bounds-ends-end-2 c = sym c.enter.ensures.rooms.high-size
+pub slice_bounds-bounds-end-2 : goal.slice_bounds-bounds-end-2
+slice_bounds-bounds-end-2 c = sym c.enter.ensures.rooms.high-size
 
-pub ends-requires : goal.ends-requires
-ends-requires c =
-    rw (order-passed c.ranges.n c.in_ok-m.ensures).0 ((came (goal.at.ends-requires c).After-enter).held c.in_ok-enter.was).tables
+pub invariant_of-bounds : goal.invariant_of-bounds
+invariant_of-bounds c =
+    let d = came (goal.at.invariant_of-bounds c).After-enter in
+    rw (order-passed c.ranges.n c.in_ok-m.ensures).0 (record { checked = (d.held c.in_ok-enter.was).tables })
 
 pub returns : goal.returns
 unfolding factoring
