@@ -8,12 +8,11 @@ use lib.Signed.{le_z}
 use lib.ListN.{length}
 use borrow.Author.Tests.{eqb-true}
 use lib.Dec.{eqb}
-use Rattle.std.specs.Prelude.{Result, Ok, Err}
+use Rattle.std.specs.Prelude.{Result, Ok, Err, Option, Some, None}
 use Rattle.integers.specs.Numbers.{Within}
-use Rattle.tables.specs.Ranges.{sides_room, limit_range, centre_range, gradient_range}
+use Rattle.tables.specs.Ranges.{greatest_order, limit_range, centre_range, gradient_range}
 use Rattle.tables.specs.Matrix.{Matrix, nth, tabulate}
 use Rattle.tables.specs.Members.{Ends}
-use Rattle.tables.specs.Bounds.{CheckedTables}
 use Rattle.tables.specs.Checks.{all, within, all_within, linear_within, terms_within}
 use Rattle.tables.specs.Problem.{constraint_sized}
 use Rattle.tables.specs.declared.Refusal.{Refusal}
@@ -28,10 +27,10 @@ use Rattle.centre.specs.Centre.{gradient, at_centre}
 use Rattle.sides.specs.Sides.{box_of}
 use Rattle.enclosure.specs.Box.{Box, refused, boxed}
 use Rattle.sides.proofs.SameBox.{box_same}
-use Rattle.centre.specs.Required.{Centred}
-use Rattle.sides.specs.Required.{box_in, SidesAnswered}
+use Rattle.centre.specs.Required.{LinearTerms}
+use Rattle.sides.specs.Required.{box_in}
 use Rattle.enclosure.specs.Act.{Enclosed, laid_sides, box_sizes}
-use Rattle.enclosure.specs.Stating.{stated, Stated}
+use Rattle.enclosure.specs.Stating.{stated}
 use Rattle.enclosure.specs.declared.enclose.BoxAnswer.{BoxAnswer}
 
 -- ---- the cases
@@ -67,20 +66,6 @@ module _ (n : ℕ) (L U : Matrix) (a : Ends) (α : ℤ) (c : ℕ → ℤ) where
         boxed_is false true e (near-ext ∙ f)
         ∙ box_same n c _ _ _ s _ g (λ k l. nth-tabulate n (step_at n L U) k l ∙ sym (p k l)) (λ k l. nth-tabulate n (gradient n L U a c) k l ∙ sym (h k l))
 
--- ---- what the code states
-module _ {b o : Box} {n : ℕ} {x : List ℤ} (e : b ≡ o) where
-  pub stated_sides : SidesAnswered o n true x → Stated b n (Ok BoxAnswer.Sides) x
-  unfolding stated box_in
-  stated_sides a = record { box = e ∙ a.answer; size = a.size }
-
-  pub stated_empty : SidesAnswered o n false x → Stated b n (Ok BoxAnswer.Empty) x
-  unfolding stated box_in
-  stated_empty a = record { box = e ∙ a.answer; size = a.size }
-
-pub stated-refused : {b : Box} {r : Refusal} (n : ℕ) {x : List ℤ} → b ≡ refused r → length x ≡ sides_room → Stated b n (Err r) x
-unfolding stated
-stated-refused n e h = record { box = e; size = h }
-
 -- ---- what check 3 finds beside the tables
 module _ (n : ℕ) (a b : List ℤ) (α : ℤ) (c : List ℤ) (e : terms_within n a b α c ≡ true) where
   -- the linear terms, and what comes after them
@@ -95,43 +80,35 @@ module _ (n : ℕ) (a b : List ℤ) (α : ℤ) (c : List ℤ) (e : terms_within 
   pub limit-within : Within limit_range α
   limit-within = within_of limit_range α (and_left (within limit_range α) (all_within centre_range n c) rest)
 
-  pub centred : {l u : List ℤ} → CheckedTables n l u → n ≤ length a → n ≤ length b → n ≤ length c → Centred n l u a b c
+  pub centre-terms : n ≤ greatest_order → n ≤ length a → n ≤ length b → n ≤ length c → LinearTerms n a b c
   unfolding all_within
-  centred t r s v = record {
-    tables = t;
-    terms = record {
-      order = t.order;
-      low-length = r;
-      high-length = s;
-      centre-length = v;
-      low = λ k h. (linear_of n a b linear k h).0;
-      high = λ k h. (linear_of n a b linear k h).1;
-      centre = λ k h. within_of centre_range (nth c k) (all-at _ n (and_right (within limit_range α) _ rest) k h);
-    };
+  centre-terms o r s v = record {
+    order = o;
+    low-length = r;
+    high-length = s;
+    centre-length = v;
+    low = λ k h. (linear_of n a b linear k h).0;
+    high = λ k h. (linear_of n a b linear k h).1;
+    centre = λ k h. within_of centre_range (nth c k) (all-at _ n (and_right (within limit_range α) _ rest) k h);
   }
 
--- ---- what is handed out with it, in a buffer of any kind
-module _ {A : Type 0} (F : List ℤ → A) (n : ℕ) {b : Box} {r : Result BoxAnswer Refusal} {x : List ℤ} (st : Stated b n r x) (s : A) where
-  given_by : (q : Result BoxAnswer Refusal) → r ≡ q → laid_sides F (stated n q x) s ≡ laid_sides F b s
-  given_by q e = sym (ap (λ (g : Box). laid_sides F g s) (st.box ∙ ap (λ (r : Result BoxAnswer Refusal). stated n r x) e))
+-- ---- what is handed out with the box that the code states, in a buffer of any kind
+module _ {A : Type 0} (F : List ℤ → A) (n : ℕ) {b : Box} {r : Result (Option (List ℤ)) Refusal} (e : stated n r ≡ b) (s : A) where
+  given_by : (q : Result (Option (List ℤ)) Refusal) → r ≡ q → laid_sides F (stated n q) s ≡ laid_sides F b s
+  given_by q f = ap (λ (g : Box). laid_sides F g s) (ap (λ (r : Result (Option (List ℤ)) Refusal). stated n r) (sym f) ∙ e)
 
-  pub given_sides : {s' : A} → r ≡ Ok BoxAnswer.Sides → s' ≡ F (tabulate (n + n) (nth x)) → ◌≡◌ {A = Enclosed A} (record { answer = Ok BoxAnswer.Sides; sides = s' }) (laid_sides F b s)
-  unfolding stated
-  given_sides e w = rw w (given_by (Ok BoxAnswer.Sides) e)
+  pub given_sides : {x : List ℤ} {s' : A} → r ≡ Ok (Some x) → s' ≡ F (tabulate (n + n) (nth x)) →
+      ◌≡◌ {A = Enclosed A} (record { answer = Ok BoxAnswer.Sides; sides = s' }) (laid_sides F b s)
+  unfolding stated box_in
+  given_sides {x} f w = rw w (given_by (Ok (Some x)) f)
 
-  pub given_empty : r ≡ Ok BoxAnswer.Empty → ◌≡◌ {A = Enclosed A} (record { answer = Ok BoxAnswer.Empty; sides = s }) (laid_sides F b s)
-  unfolding stated
-  given_empty e = given_by (Ok BoxAnswer.Empty) e
-
-  -- s' has the sides where there are some, and else is s
-  pub given_answer : {s' : A} (a : BoxAnswer) → r ≡ Ok a → (a ≡ BoxAnswer.Sides → s' ≡ F (tabulate (n + n) (nth x))) → (a ≡ BoxAnswer.Empty → s' ≡ s) →
-      ◌≡◌ {A = Enclosed A} (record { answer = Ok a; sides = s' }) (laid_sides F b s)
-  given_answer BoxAnswer.Sides e f g = given_sides e (f refl)
-  given_answer BoxAnswer.Empty e f g = rw (g refl) (given_empty e)
+  pub given_empty : r ≡ Ok None → ◌≡◌ {A = Enclosed A} (record { answer = Ok BoxAnswer.Empty; sides = s }) (laid_sides F b s)
+  unfolding stated box_in
+  given_empty f = given_by (Ok None) f
 
   pub given-refused : (k : Refusal) → r ≡ Err k → ◌≡◌ {A = Enclosed A} (record { answer = Err k; sides = s }) (laid_sides F b s)
   unfolding stated
-  given-refused k e = given_by (Err k) e
+  given-refused k f = given_by (Err k) f
 
 -- ---- checks 1 and 2 passed
 pub record BoxSized (z : Sizes) (pairs : ℕ) (b : Lengths) (c s : ℕ) : Type 0 where

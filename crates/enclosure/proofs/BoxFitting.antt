@@ -14,6 +14,7 @@ use Rattle.integers.specs.Root.{least_root}
 use Rattle.integers.proofs.Machine.{within-+, within--}
 use Rattle.tables.specs.Ranges.{greatest_order, limit_range, centre_range, gradient_range}
 use Rattle.tables.specs.Matrix.{Matrix, at, nth, tabulate}
+use Rattle.tables.specs.Bounds.{CheckedTables}
 use Rattle.tables.specs.Checks.{all, order_of}
 use Rattle.tables.specs.Problem.{constraint_of, problem_of, ends_of}
 use Rattle.tables.proofs.Buffers.{Small}
@@ -29,13 +30,13 @@ use Rattle.sides.specs.Sides.{bound, second_bound, half_side, sides_from, box_of
 use Rattle.enclosure.specs.Box.{Box, sides, empty, refused, boxed, problem_box, boxing}
 use Rattle.tables.specs.Buffers.{Filled}
 use Rattle.arithmetic.specs.Required.{bound_range}
-use Rattle.centre.specs.Required.{Centred}
+use Rattle.centre.specs.Required.{LinearTerms}
 use Rattle.sides.specs.Required.{half_range, side_range, SidesReady}
 use Rattle.enclosure.proofs.Halves.{one_of}
 use Rattle.enclosure.proofs.Readiness.{ready_of}
 use Rattle.enclosure.proofs.Enclosing.{length_sides, sides_at}
 use Rattle.sides.proofs.HalfSides.{bound-within, halves-within, half-terms, second-within, smaller_within, second_is, half_is}
-use Rattle.enclosure.proofs.BoxCases.{box_flat, box_far, box_near, limit-within, centred}
+use Rattle.enclosure.proofs.BoxCases.{box_flat, box_far, box_near, limit-within, centre-terms}
 
 abbrev pub Fitting : ℕ → Box → Type 0
 Fitting n (sides s) = Small (n + n) side_range s
@@ -100,7 +101,7 @@ module _ {n : ℕ} {c : List ℤ} {d t : ℤ} {g : List ℤ} (q : SidesReady n c
       go false y = tt
 
 -- ---- the answer
-module _ {n : ℕ} {l u a b c : List ℤ} (q : Centred n l u a b c) {α : ℤ} (w : Within limit_range α) where
+module _ {n : ℕ} {l u a b c : List ℤ} (q : CheckedTables n l u) (r : LinearTerms n a b c) {α : ℤ} (w : Within limit_range α) where
   abbrev L : Matrix
   L = at n l
 
@@ -114,7 +115,7 @@ module _ {n : ℕ} {l u a b c : List ℤ} (q : Centred n l u a b c) {α : ℤ} (
   g = tabulate greatest_order gradients
 
   gradients-filled : Filled greatest_order n gradients g
-  gradients-filled = filled n q.tables.order gradients
+  gradients-filled = filled n q.order gradients
 
   boxed_fitting : Fitting n (boxed n L U (ends_of a b) α (nth c))
   boxed_fitting = go (le_z (step n L U) (pos 0)) refl (all n (λ k. le_z (nth g k) (pos gradient_range))) refl
@@ -124,7 +125,7 @@ module _ {n : ℕ} {l u a b c : List ℤ} (q : Centred n l u a b c) {α : ℤ} (
       go false e false f = subst (Fitting n) (sym (box_far n L U (ends_of a b) α (nth c) e (nth g) gradients-filled.entries f)) tt
       go false e true f =
           subst (Fitting n) (sym (box_near n L U (ends_of a b) α (nth c) e (nth g) gradients-filled.entries f (step_at n L U) (λ k h. refl)))
-          (box_of_fitting (ready_of q (one_of (step n L U) e) gradients-filled f w) (step_at n L U))
+          (box_of_fitting (ready_of q r (one_of (step n L U) e) gradients-filled f w) (step_at n L U))
 
 pub boxing_fitting : (n : ℤ) (sized : Bool) (l u a b : List ℤ) (α : ℤ) (c : List ℤ) →
     (let k = order_of n in k * k ≤ length l → k * k ≤ length u → k ≤ length a → k ≤ length b → k ≤ length c → Fitting k (boxing n sized (problem_of k l u a b α c)))
@@ -133,11 +134,11 @@ boxing_fitting n sized l u a b α c h i j m o =
     let k = order_of n in
     constraint_means refused n sized _ (constraint_of k l u a b α) _ (Fitting k) (λ r. tt)
     (λ d.
-    boxed_fitting
-    (centred k a b α c d.within (record {
+    boxed_fitting (record {
       order = order_small n;
       low-length = omega (arith, mended-length max_ℤ k l h);
       high-length = omega (arith, mended-length min_ℤ k u i);
       bounds = passed-bounds k l u d.tables;
-    }) j m o)
+    })
+    (centre-terms k a b α c d.within (order_small n) j m o)
     (limit-within k a b α c d.within))

@@ -1,18 +1,17 @@
--- What the code states of a box, from its scratch array.
-use Rattle.std.specs.Prelude.{◌≡◌, List, ℕ, ◌+◌, ℤ, length, Result, Ok, Err}
-use Rattle.tables.specs.Ranges.{sides_room}
-use Rattle.tables.specs.Matrix.{nth, tabulate}
+-- The box that the code states, and what it is of.
+use Rattle.std.specs.Prelude.{List, ℕ, ℤ, Option, Result, Ok, Err}
 use Rattle.tables.specs.declared.Refusal.{Refusal}
-use Rattle.enclosure.specs.Box.{Box, sides, empty, refused}
-use Rattle.enclosure.specs.declared.enclose.BoxAnswer.{BoxAnswer}
+use Rattle.sides.specs.Required.{box_in}
+use Rattle.tables.specs.Bounded.{low_of, high_of}
+use Rattle.centre.specs.Centred.{terms_of, centre_of}
+use Rattle.centre.specs.declared.centred.Centred.{Centred}
+use Rattle.enclosure.specs.Box.{Box, refused, boxed}
 
--- the sides stand in the first 2 n numbers of o
-unfoldable pub stated : ℕ → Result BoxAnswer Refusal → List ℤ → Box
-stated n (Ok BoxAnswer.Sides) o = sides (tabulate (n + n) (nth o))
-stated n (Ok BoxAnswer.Empty) o = empty
-stated n (Err r) o = refused r
+-- the sides stand in the first 2 n numbers of what is answered, where there are some
+unfoldable pub stated : ℕ → Result (Option (List ℤ)) Refusal → Box
+stated n (Ok o) = box_in n o
+stated n (Err r) = refused r
 
--- the box is the one that the code states
-pub record Stated (b : Box) (n : ℕ) (r : Result BoxAnswer Refusal) (o : List ℤ) : Type 0 where
-  pub box : b ≡ stated n r o
-  pub size : length o ≡ sides_room
+-- the box of a problem behind the door
+abbrev pub boxed_of : Centred → ℤ → Box
+boxed_of p α = boxed p.bounds.order (low_of p.bounds) (high_of p.bounds) (terms_of p) α (centre_of p)

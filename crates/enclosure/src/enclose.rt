@@ -1,20 +1,23 @@
 // The box act, R14 of docs/RULES.md.
 ghost use Rattle.std.specs.Prelude.{◌≡◌, List, ◌+◌, ℤ, length};
 ghost use Rattle.integers.specs.Numbers.{Within};
-ghost use Rattle.tables.specs.Ranges.{sides_room, limit_range};
-ghost use Rattle.tables.specs.Matrix.{at, nth};
+ghost use Rattle.tables.specs.Ranges.{limit_range};
 ghost use Rattle.tables.specs.Checks.{order_of};
 ghost use Rattle.tables.specs.Problem.{constraint_of, ends_of};
-ghost use Rattle.centre.specs.Required.{Centred};
+ghost use Rattle.tables.specs.Matrix.{nth};
+ghost use Rattle.tables.specs.Bounded.{low_of, high_of};
+ghost use Rattle.centre.specs.Required.{LinearTerms};
 ghost use Rattle.enclosure.specs.Box.{boxed};
 ghost use Rattle.enclosure.specs.Act.{Enclosed, laid_sides, box_sizes, enclose, box_number, Meaning};
-ghost use Rattle.enclosure.specs.Stating.{Stated};
+ghost use Rattle.enclosure.specs.Stating.{stated, boxed_of};
 
+use centre::centred::Centred;
 use centre::{at_centre, gradients, near};
 use sides::box_of;
+use tables::bounded::Bounded;
 use tables::entering::{enter, order};
 use tables::problem::{Lengths, Sizes, constraint_sized, lengths_of};
-use tables::{Answer, GREATEST_ORDER, Refusal, SIDES_ROOM, Sides, TABLE_ROOM, check_ends};
+use tables::{Answer, GREATEST_ORDER, Refusal, Sides, TABLE_ROOM, check_ends};
 
 // What the box act answers: sides, or that there is no point.
 #[derive(Clone, Copy, Debug, PartialEq, Eq)]
@@ -35,64 +38,58 @@ impl Answer for BoxAnswer {
     }
 }
 
-// Refusals 8 and 9, and the box, of bounds of order n with linear terms, limit and centre in their ranges. Side k stands at 2 k and 2 k +
-// 1 of out.
-pub fn box_bounds(
-    n: usize,
-    low: &[i64],
-    high: &[i64],
-    from: &[i64],
-    to: &[i64],
-    limit: i64,
-    centre: &[i64],
-    out: &mut Sides,
-) -> Result<BoxAnswer, Refusal>
-    requires { Centred n low.now high.now from.now to.now centre.now × Within limit_range limit × (length
-        out.old ≡ sides_room) }
-    ensures { Stated (boxed n (at n low.now) (at n high.now) (ends_of from.now to.now) limit (nth centre.now)) n result out.new }
+// Refusals 8 and 9, and the box: none where it is empty; else side k stands at 2 k and 2 k + 1.
+pub fn box_bounds(problem: Centred, limit: i64) -> Result<Option<Sides>, Refusal>
+    requires { Within limit_range limit }
+    ensures { stated problem.entry.bounds.order result ≡ boxed_of problem.entry limit }
 {
-    let t = steps::step(n, low, high);
+    let bounds = problem.bounds;
+    let t = steps::step(bounds);
     let mut g = [0i64; GREATEST_ORDER];
-    gradients(n, low, high, from, to, centre, &mut g);
-    let close = near(n, &g);
+    gradients(problem, &mut g);
+    let close = near(bounds.order, &g);
     if t <= 0 {
         return Err(Refusal::Flat);
     }
     if !close {
         return Err(Refusal::Far);
     }
-    let mut tk = [0i64; GREATEST_ORDER];
-    steps::steps_at(n, low, high, &mut tk);
-    let d = at_centre(n, low, high, from, to, limit, centre);
-    if box_of(n, centre, d, t, &tk, &g, out) {
-        return Ok(BoxAnswer::Sides);
-    }
-    Ok(BoxAnswer::Empty)
+    let tk = steps::steps_at(bounds);
+    let d = at_centre(problem, limit);
+    let sides = box_of(bounds.order, problem.centre, d, t, &tk, &g);
+    Ok(sides)
 }
 
-// The same with the sides in a buffer of the size that n calls for.
-fn enclose_bounds(
-    n: usize,
-    low: &[i64],
-    high: &[i64],
-    from: &[i64],
-    to: &[i64],
+// The same with the sides in a buffer of the size that the order calls for. All numbers are lent for one time, as Centred holds them.
+fn enclose_bounds<'a>(
+    bounds: Bounded<'a>,
+    from: &'a [i64],
+    to: &'a [i64],
     limit: i64,
-    centre: &[i64],
+    centre: &'a [i64],
     sides: &mut [i64],
 ) -> Result<BoxAnswer, Refusal>
-    requires { Centred n low.now high.now from.now to.now centre.now × Within limit_range limit × (length
-        sides.old ≡ n + n) }
-    ensures { ◌≡◌ {A = Enclosed (List ℤ)} (record { answer = result; sides = sides.new }) (laid_sides (λ s. s) (boxed n
-        (at n low.now) (at n high.now) (ends_of from.now to.now) limit (nth
-        centre.now)) sides.old) }
+    requires { LinearTerms bounds.order from.now to.now centre.now × Within limit_range limit
+        × (length sides.old ≡ bounds.order + bounds.order) }
+    ensures { let b = bounds.entry in
+        ◌≡◌ {A = Enclosed (List ℤ)} (record { answer = result; sides = sides.new }) (laid_sides (λ s. s)
+        (boxed b.order (low_of b) (high_of b) (ends_of from.now to.now) limit (nth centre.now)) sides.old) }
 {
-    let mut x = [0i64; SIDES_ROOM];
-    let given = box_bounds(n, low, high, from, to, limit, centre, &mut x)?;
-    if given == BoxAnswer::Sides {
-        tables::copy_numbers(n + n, &x, sides);
+    let problem = Centred {
+        bounds,
+        from,
+        to,
+        centre,
+    };
+    let n = bounds.order;
+    let given = box_bounds(problem, limit)?;
+    match given {
+        Some(x) => {
+            tables::copy_numbers(n + n, &x, sides);
+            Ok(BoxAnswer::Sides)
+        }
+        None => Ok(BoxAnswer::Empty),
     }
-    Ok(given)
 }
 
 // Whether the buffers of a call have their sizes: those of the constraint, the centre of a vector, and the sides of so many pairs.
@@ -131,5 +128,10 @@ pub fn enclose(
     let mut u = [0i64; TABLE_ROOM];
     enter(n, sized, within, low, high, &mut l, &mut u)?;
     check_ends(m, from, to)?;
-    enclose_bounds(m, &l, &u, from, to, limit, centre, sides)
+    let bounds = Bounded {
+        order: m,
+        low: &l,
+        high: &u,
+    };
+    enclose_bounds(bounds, from, to, limit, centre, sides)
 }

@@ -16,7 +16,7 @@ use Rattle.tables.proofs.Admission.{order_small, order_fits, no-order, order-pas
 use Rattle.tables.proofs.Problems.{door-refused, ends-refused, constraint_passed}
 use Rattle.enclosure.specs.Box.{Box, refused, problem_box, boxing}
 use Rattle.enclosure.specs.Act.{Enclosed, laid_sides, box_sizes, enclose, Meaning}
-use Rattle.enclosure.proofs.BoxCases.{BoxSized, box_sizes-of, centred, limit-within}
+use Rattle.enclosure.proofs.BoxCases.{BoxSized, box_sizes-of, centre-terms, limit-within}
 use Rattle.enclosure.proofs.BoxMeanings.{boxing-means}
 use Rattle.enclosure.proofs.enclose.enclose.Goals as goal
 use Rattle.enclosure.proofs.enclose.enclose.Goals.{Start, After-box_sized-sized, After-sized_within-within, After-enter, After-check_ends}
@@ -130,6 +130,11 @@ returns-in_err-check_ends-clause-exact c =
     rw (handed_on c.from_residual-in_err-check_ends.ensures.1)
     (ap (given s) (ends-refused refused _ _ _ (posed s) _ d c.in_ok-enter.was (sym e ∙ c.in_err-check_ends.was)))
 
+pub invariant_of-bounds : goal.invariant_of-bounds
+invariant_of-bounds c =
+    let d = came (goal.at.invariant_of-bounds c).After-enter in
+    rw (order-passed c.ranges.n c.in_ok-m.ensures).0 (record { checked = (d.held c.in_ok-enter.was).tables })
+
 pub enclose_bounds-requires : goal.enclose_bounds-requires
 enclose_bounds-requires c =
     let d = came (goal.at.enclose_bounds-requires c).After-enter in
@@ -137,7 +142,7 @@ enclose_bounds-requires c =
     let b = came-through _ _ _ _ _ d q in
     let z = behind-sized (goal.at.enclose_bounds-requires c).After-enter q in
     rw ((order-passed c.ranges.n c.in_ok-m.ensures).0, clean c.ranges.limit) (
-      centred _ _ _ _ _ b.within (d.held q).tables (omega (arith, z.linear_low)) (omega (arith, z.linear_high)) (omega (arith, z.centre)),
+      centre-terms _ _ _ _ _ b.within (d.held q).tables.order (omega (arith, z.linear_low)) (omega (arith, z.linear_high)) (omega (arith, z.centre)),
       limit-within _ _ _ _ _ b.within,
       z.sides,
     )
