@@ -64,7 +64,8 @@ module _ (n : ℕ) (L U : Matrix) (a : Ends) (α : ℤ) (c : ℕ → ℤ) where
         boxed n L U a α c ≡ box_of n c (at_centre n L U a c α) (step n L U) s g
     box_near f s p =
         boxed_is false true e (near-ext ∙ f)
-        ∙ box_same n c _ _ _ s _ g (λ k l. nth-tabulate n (step_at n L U) k l ∙ sym (p k l)) (λ k l. nth-tabulate n (gradient n L U a c) k l ∙ sym (h k l))
+        ∙ box_same n c _ _ _ s _ g (λ k l. nth-tabulate n (step_at n L U) k l ∙ sym (p k l))
+        (λ k l. nth-tabulate n (gradient n L U a c) k l ∙ sym (h k l))
 
 -- ---- what check 3 finds beside the tables
 module _ (n : ℕ) (a b : List ℤ) (α : ℤ) (c : List ℤ) (e : terms_within n a b α c ≡ true) where

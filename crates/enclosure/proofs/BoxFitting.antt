@@ -86,7 +86,8 @@ module _ {n : ℕ} {c : List ℤ} {d t : ℤ} {g : List ℤ} (q : SidesReady n c
   half-small : (k : ℕ) → k < n → Within half_range (half_side n d t (nth g) tk k)
   half-small k h =
       subst (Within half_range) (half_is n (nth c) d t tk (nth g) halves-filled k h)
-      (smaller_within (nth (tabulate greatest_order halves) k) (tk k) (second_bound n d t (nth g)) (halves-within q.near first-bound halves-filled k h) second-bound)
+      (smaller_within (nth (tabulate greatest_order halves) k) (tk k) (second_bound n d t (nth g))
+      (halves-within q.near first-bound halves-filled k h) second-bound)
 
   box_of_fitting : Fitting n (box_of n (nth c) d t tk (nth g))
   unfolding box_of
@@ -95,7 +96,8 @@ module _ {n : ℕ} {c : List ℤ} {d t : ℤ} {g : List ℤ} (q : SidesReady n c
       s : List ℤ
       s = sides_from n (nth c) (half_side n d t (nth g) tk)
 
-      go : (x y : Bool) → Fitting n (elim x as (λ z. Box) [ true ↦ elim y as (λ z. Box) [ true ↦ sides s | false ↦ empty ] | false ↦ empty ])
+      go : (x y : Bool) →
+          Fitting n (elim x as (λ z. Box) [ true ↦ elim y as (λ z. Box) [ true ↦ sides s | false ↦ empty ] | false ↦ empty ])
       go true true = sides_sized n (nth c) (half_side n d t (nth g) tk) q.centre half-small
       go true false = tt
       go false y = tt
@@ -120,15 +122,18 @@ module _ {n : ℕ} {l u a b c : List ℤ} (q : CheckedTables n l u) (r : LinearT
   boxed_fitting : Fitting n (boxed n L U (ends_of a b) α (nth c))
   boxed_fitting = go (le_z (step n L U) (pos 0)) refl (all n (λ k. le_z (nth g k) (pos gradient_range))) refl
     where
-      go : (x : Bool) → le_z (step n L U) (pos 0) ≡ x → (y : Bool) → all n (λ k. le_z (nth g k) (pos gradient_range)) ≡ y → Fitting n (boxed n L U (ends_of a b) α (nth c))
+      go : (x : Bool) → le_z (step n L U) (pos 0) ≡ x → (y : Bool) → all n (λ k. le_z (nth g k) (pos gradient_range)) ≡ y →
+          Fitting n (boxed n L U (ends_of a b) α (nth c))
       go true e y f = subst (Fitting n) (sym (box_flat n L U (ends_of a b) α (nth c) e)) tt
       go false e false f = subst (Fitting n) (sym (box_far n L U (ends_of a b) α (nth c) e (nth g) gradients-filled.entries f)) tt
       go false e true f =
-          subst (Fitting n) (sym (box_near n L U (ends_of a b) α (nth c) e (nth g) gradients-filled.entries f (step_at n L U) (λ k h. refl)))
+          subst (Fitting n)
+          (sym (box_near n L U (ends_of a b) α (nth c) e (nth g) gradients-filled.entries f (step_at n L U) (λ k h. refl)))
           (box_of_fitting (ready_of q r (one_of (step n L U) e) gradients-filled f w) (step_at n L U))
 
 pub boxing_fitting : (n : ℤ) (sized : Bool) (l u a b : List ℤ) (α : ℤ) (c : List ℤ) →
-    (let k = order_of n in k * k ≤ length l → k * k ≤ length u → k ≤ length a → k ≤ length b → k ≤ length c → Fitting k (boxing n sized (problem_of k l u a b α c)))
+    (let k = order_of n in k * k ≤ length l → k * k ≤ length u → k ≤ length a → k ≤ length b → k ≤ length c →
+    Fitting k (boxing n sized (problem_of k l u a b α c)))
 unfolding boxing problem_box
 boxing_fitting n sized l u a b α c h i j m o =
     let k = order_of n in

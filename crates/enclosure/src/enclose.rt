@@ -113,7 +113,8 @@ pub fn enclose(
     centre: &[i64],
     sides: &mut [i64],
 ) -> Result<BoxAnswer, Refusal>
-    ensures exact { ◌≡◌ {A = Enclosed (List ℤ)} (record { answer = result; sides = sides.new }) (enclose n low.now high.now from.now to.now limit centre.now sides.old) }
+    ensures exact { ◌≡◌ {A = Enclosed (List ℤ)} (record { answer = result; sides = sides.new })
+        (enclose n low.now high.now from.now to.now limit centre.now sides.old) }
     ensures meaning { Meaning result (constraint_of (order_of n) low.now high.now from.now to.now limit) sides.new }
 {
     let m = order(n)?;

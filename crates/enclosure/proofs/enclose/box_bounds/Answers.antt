@@ -48,4 +48,5 @@ returns c =
     let s = steep (goal.at.returns c).Else-t-le0 in
     (rw (clean_element d.result d.type_inv, d.ensures, clean_element t.result t.type_inv, t.ensures, clean c.ranges.limit)
     at c.box_of-sides.ensures)
-    ∙ sym (box_near _ _ _ (terms_of c.args.problem) _ _ s _ c.gradients.ensures.entries (sym c.if-not-close.ensures) _ c.steps_at-tk.ensures.entries)
+    ∙ sym (box_near _ _ _ (terms_of c.args.problem) _ _ s _ c.gradients.ensures.entries
+    (sym c.if-not-close.ensures) _ c.steps_at-tk.ensures.entries)

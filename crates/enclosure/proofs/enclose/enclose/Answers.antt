@@ -30,7 +30,8 @@ abbrev sizes : Start → Bool
 sizes s =
     let a = s.args in
     let k = order_of a.n in
-    box_sizes (record { table = k * k; vector = k }) (k + k) (lengths_of (length a.low.now) (length a.high.now) (length a.from.now) (length a.to.now))
+    box_sizes (record { table = k * k; vector = k }) (k + k)
+    (lengths_of (length a.low.now) (length a.high.now) (length a.from.now) (length a.to.now))
     (length a.centre.now) (length a.sides.now)
 
 -- what check 3 finds beside the tables
@@ -42,7 +43,8 @@ abbrev Lent : Start → Type 0
 Lent s =
     let a = s.args in
     let k = order_of a.n in
-    BoxSized (record { table = k * k; vector = k }) (k + k) (lengths_of (length a.low.now) (length a.high.now) (length a.from.now) (length a.to.now))
+    BoxSized (record { table = k * k; vector = k }) (k + k)
+    (lengths_of (length a.low.now) (length a.high.now) (length a.from.now) (length a.to.now))
     (length a.centre.now) (length a.sides.now)
 
 lent : (s : Start) → sizes s ≡ true → Lent s
@@ -62,7 +64,8 @@ came : (c : After-enter) → let s = (goal.at.After-enter c).Start in
     Entered s.args.n (sizes s) (others s) s.args.low.now s.args.high.now c.enter.result c.enter.new.l c.enter.new.u
 came c =
     entered-sized _ _ _ _ _
-    (entered_by (clean c.ranges.n) (sized (goal.at.After-enter c).After-box_sized-sized) (asked (goal.at.After-enter c).After-sized_within-within) c.enter.ensures)
+    (entered_by (clean c.ranges.n) (sized (goal.at.After-enter c).After-box_sized-sized)
+    (asked (goal.at.After-enter c).After-sized_within-within) c.enter.ensures)
 
 behind-sized : (c : After-enter) → c.enter.result ≡ Ok tt → Lent (goal.at.After-enter c).Start
 behind-sized c e = lent (goal.at.After-enter c).Start (came-through _ _ _ _ _ (came c) e).sizes
@@ -99,12 +102,13 @@ overflow_add-m c = record { fits = omega (arith, order_small c.args.n, (order-pa
 
 pub sized_within-within-requires : goal.sized_within-within-requires
 sized_within-within-requires c = λ s.
-    let z = lent (goal.at.sized_within-within-requires c).Start (sym (sized (goal.at.sized_within-within-requires c).After-box_sized-sized) ∙ s) in
+    let o = goal.at.sized_within-within-requires c in
+    let z = lent o.Start (sym (sized o.After-box_sized-sized) ∙ s) in
     rw (order-passed c.ranges.n c.in_ok-m.ensures).0 (omega (arith, z.linear_low), omega (arith, z.linear_high), omega (arith, z.centre))
 
 pub enter-requires : goal.enter-requires
-enter-requires c = (
-  (λ s. rw (clean c.ranges.n) (let z = lent (goal.at.enter-requires c).Start (sym (sized (goal.at.enter-requires c).After-box_sized-sized) ∙ s) in (z.low, z.high))),
+enter-requires c = let o = goal.at.enter-requires c in (
+  (λ s. rw (clean c.ranges.n) (let z = lent o.Start (sym (sized o.After-box_sized-sized) ∙ s) in (z.low, z.high))),
   refl,
   refl,
 )
@@ -142,7 +146,8 @@ enclose_bounds-requires c =
     let b = came-through _ _ _ _ _ d q in
     let z = behind-sized (goal.at.enclose_bounds-requires c).After-enter q in
     rw ((order-passed c.ranges.n c.in_ok-m.ensures).0, clean c.ranges.limit) (
-      centre-terms _ _ _ _ _ b.within (d.held q).tables.order (omega (arith, z.linear_low)) (omega (arith, z.linear_high)) (omega (arith, z.centre)),
+      centre-terms _ _ _ _ _ b.within (d.held q).tables.order (omega (arith, z.linear_low)) (omega (arith, z.linear_high))
+          (omega (arith, z.centre)),
       limit-within _ _ _ _ _ b.within,
       z.sides,
     )
