@@ -20,7 +20,8 @@ use Rattle.tables.specs.Matrix.{Matrix, at, nth}
 use Rattle.tables.proofs.Checks.{and_right}
 use Rattle.lookahead.specs.declared.least.Share.{Share}
 use Rattle.lookahead.specs.Pairs.{same_sign, other_sign, more, open_range, sum_range, raised_range, least_range, PairTables, OpenShares}
-use Rattle.lookahead.specs.LeastSums.{least_of, least, look_ahead, passed_over, least_choice, raised, least_one, share_after, shares_after, least_shares, share_at, shares_from, ShareWithin, AllWithin, LastShares}
+use Rattle.lookahead.specs.LeastSums.{least_of, least, look_ahead, passed_over, least_choice, raised, least_one, share_after, shares_after}
+use Rattle.lookahead.specs.LeastSums.{least_shares, share_at, shares_from, ShareWithin, AllWithin, LastShares}
 use Rattle.lookahead.proofs.Sizes.{row_small}
 
 -- ---- sums of numbers as the machine reads them
@@ -41,12 +42,14 @@ share_is e f = ap₂ (λ (x y : ℤ). record { plus = x; minus = y }) e f
 swapped : (x s y : ℤ) → x +ℤ s +ℤ y ≡ x +ℤ y +ℤ s
 swapped x s y = ring (x ∷ s ∷ y ∷ []) (search solver depth 40 fits 20000) refl
 
-after-from : (S O : Matrix) (d i k : ℕ) (p q : ℕ → ℤ) (s : ℤ) → shares_after S O d i (shares_from p q s i k) ≡ shares_from (more S d p) (more O d q) s i k
+after-from : (S O : Matrix) (d i k : ℕ) (p q : ℕ → ℤ) (s : ℤ) →
+    shares_after S O d i (shares_from p q s i k) ≡ shares_from (more S d p) (more O d q) s i k
 unfolding shares_after share_after raised
 after-from S O d i zero p q s = ap (λ (a : Share). a ∷ []) (share_is (swapped (p i) s (S d i)) (swapped (q i) s (O d i)))
 after-from S O d i (suc k) p q s = ap (λ (l : List Share). share_at (more S d p) (more O d q) i ∷ l) (after-from S O d (suc i) k p q s)
 
-pub shares_least : (S O : Matrix) (d k : ℕ) (p q : ℕ → ℤ) (s : ℤ) → least_shares S O s d k (shares_from p q s d k) ≡ least S O d (suc k) p q s
+pub shares_least : (S O : Matrix) (d k : ℕ) (p q : ℕ → ℤ) (s : ℤ) →
+    least_shares S O s d k (shares_from p q s d k) ≡ least S O d (suc k) p q s
 unfolding least_shares least least_choice least_one raised
 shares_least S O d zero p q s = refl
 shares_least S O d (suc k) p q s =
@@ -98,7 +101,8 @@ module _ {n : ℕ} {t : List ℤ} {s : ℤ} {d : ℕ} {a : Share} {l : List Shar
   pub last_zero : LastShares n t s (suc d) l
   last_zero = record { pairs = g.pairs; inside = omega (arith, g.inside); sum = g.sum; small = all_more (omega arith) l g.small.1 }
 
-  pub last-after : {f o : ℕ} → f ≤ table_room → o ≤ table_room → LastShares n t s (suc d) (shares_after (at n (drop f t)) (at n (drop o t)) d (suc d) l)
+  pub last-after : {f o : ℕ} → f ≤ table_room → o ≤ table_room →
+      LastShares n t s (suc d) (shares_after (at n (drop f t)) (at n (drop o t)) d (suc d) l)
   last-after p q =
       let h : d < n = omega (arith, g.inside) in
       record {
@@ -114,6 +118,14 @@ module _ {n : ℕ} {t : List ℤ} {s : ℤ} {d : ℕ} {a : Share} {l : List Shar
   pub last-minus-one : LastShares n t s (suc d) (shares_after (other_sign n t) (same_sign n t) d (suc d) l)
   last-minus-one = last-after {f = table_room} {o = 0} (omega arith) (omega arith)
 
+  -- what the shares of those entries ask, to be added to
+  pub after_asked : {f o : ℕ} → f ≤ table_room → o ≤ table_room →
+      PairTables n t × (f ≤ table_room) × (o ≤ table_room) × (d < n) × (d + 1 + length l ≤ greatest_order) × AllWithin least_range l
+  after_asked p q =
+      let order = g.pairs.order in
+      let inside = g.inside in
+      (g.pairs, p, q, omega arith, omega arith, all_more (omega arith) l g.small.1)
+
   first-within : ShareWithin raised_range a
   first-within = share_more (omega (arith, g.inside, g.pairs.order)) g.small.0
 
@@ -126,12 +138,15 @@ last_within : (k : ℕ) {n : ℕ} {t : List ℤ} {s : ℤ} {d : ℕ} (l : List S
 unfolding least_shares least_choice least_one
 last_within zero [] g = within_more (omega arith) g.sum
 last_within zero (a ∷ l) g =
-    within-least (within_more (omega arith) g.sum) (within_more (omega arith) (first-within g).plus) (within_more (omega arith) (first-within g).minus)
+    within-least (within_more (omega arith) g.sum) (within_more (omega arith) (first-within g).plus)
+    (within_more (omega arith) (first-within g).minus)
 last_within (suc k) [] g = within_more (omega arith) g.sum
 last_within (suc k) {n} {t} {d = d} (a ∷ l) g =
     within-least (within_more (omega arith) (last_within k l (last_zero g)))
-    (within_more (omega (arith, after_length (same_sign n t) (other_sign n t) d (suc d) l)) (within-+ (first-within g).plus (last_within k _ (last_one g))))
-    (within_more (omega (arith, after_length (other_sign n t) (same_sign n t) d (suc d) l)) (within-+ (first-within g).minus (last_within k _ (last-minus-one g))))
+    (within_more (omega (arith, after_length (same_sign n t) (other_sign n t) d (suc d) l))
+    (within-+ (first-within g).plus (last_within k _ (last_one g))))
+    (within_more (omega (arith, after_length (other_sign n t) (same_sign n t) d (suc d) l))
+    (within-+ (first-within g).minus (last_within k _ (last-minus-one g))))
 
 -- the search has such shares, of all entries that are left
 module _ {n : ℕ} {t : List ℤ} {d : ℕ} {p q : List ℤ} (g : OpenShares n t d p q) {s : ℤ} (w : Within sum_range s) where
@@ -177,11 +192,13 @@ module _ (k : ℕ) {n : ℕ} {t : List ℤ} {s : ℤ} {d : ℕ} {a : Share} {l :
 module _ (x y z : ℤ) where
   least_first : least_of x y z ≤ℤ x
   unfolding least_of
-  least_first = order (min_ℤ (min_ℤ x y) z ∷ min_ℤ x y ∷ x ∷ []) (min_≤ˡ (min_ℤ x y) z & min_≤ˡ x y) (search solver depth 40 fits 20000) (omega arith)
+  least_first =
+      order (min_ℤ (min_ℤ x y) z ∷ min_ℤ x y ∷ x ∷ []) (min_≤ˡ (min_ℤ x y) z & min_≤ˡ x y) (search solver depth 40 fits 20000) (omega arith)
 
   least-second : least_of x y z ≤ℤ y
   unfolding least_of
-  least-second = order (min_ℤ (min_ℤ x y) z ∷ min_ℤ x y ∷ y ∷ []) (min_≤ˡ (min_ℤ x y) z & min_≤ʳ x y) (search solver depth 40 fits 20000) (omega arith)
+  least-second =
+      order (min_ℤ (min_ℤ x y) z ∷ min_ℤ x y ∷ y ∷ []) (min_≤ˡ (min_ℤ x y) z & min_≤ʳ x y) (search solver depth 40 fits 20000) (omega arith)
 
   least-third : least_of x y z ≤ℤ z
   unfolding least_of

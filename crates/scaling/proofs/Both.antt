@@ -30,7 +30,8 @@ module _ {n : ℕ} {k m : ℕ → ℕ} (e : (i : ℕ) → i < n → k i ≡ m i)
   entries_ext = all_ext n _ _ (λ i h. all_ext n _ _ (λ j l. ap (within entry_range) (rescaled_ext i j h l)))
 
 -- bounds rest on the entries of order n
-bounds_ext : {n : ℕ} {A B L U : Matrix} → ((i j : ℕ) → i < n → j < n → A i j ≡ L i j) → ((i j : ℕ) → i < n → j < n → B i j ≡ U i j) → Bounds n L U → Bounds n A B
+bounds_ext : {n : ℕ} {A B L U : Matrix} → ((i j : ℕ) → i < n → j < n → A i j ≡ L i j) → ((i j : ℕ) → i < n → j < n → B i j ≡ U i j) →
+    Bounds n L U → Bounds n A B
 bounds_ext e f b = record {
   low_range = λ i j h l. rw (e i j h l) (b.low_range i j h l);
   high_range = λ i j h l. rw (f i j h l) (b.high_range i j h l);
@@ -54,10 +55,15 @@ module _ {n : ℕ} {l₀ u₀ : List ℤ} (c : CheckedTables n l₀ u₀) {x : L
   -- the low table does not stay inside
   pub low_leaves : p ≡ false → length u₀ ≡ table_room → Scaling n L U None l u₀
   unfolding scaled_within
-  low_leaves e z = record { answered = sym (and_first_false _ (sym low-stays ∙ e)); rooms = record { low-size = a.size; high-size = z }; scaled = tt }
+  low_leaves e z = record {
+    answered = sym (and_first_false _ (sym low-stays ∙ e));
+    rooms = record { low-size = a.size; high-size = z };
+    scaled = tt;
+  }
 
   -- it stays, and so the answer is the high table's
-  module _ (e : p ≡ true) {u : List ℤ} {r : Bool} (b : Rescaling n (scale_in x) U 0 (n * n) (entries_within n (rescaled (scale_in x) U)) r u) where
+  module _ (e : p ≡ true) {u : List ℤ} {r : Bool}
+      (b : Rescaling n (scale_in x) U 0 (n * n) (entries_within n (rescaled (scale_in x) U)) r u) where
     low-true : entries_within n (scaled_low L U) ≡ true
     low-true = sym low-stays ∙ e
 

@@ -20,7 +20,8 @@ use Rattle.scaling.specs.Scratch.{InRange, Part}
 module _ {n : ℕ} {k : ℕ → ℕ} where
   -- one number more
   pub part-more : {M : Matrix} {a : ℕ} {t : List ℤ} (i j : ℕ) → j < n → a ≤ i * n + j → i * n + j < length t →
-      within entry_range (rescaled k M i j) ≡ true → Part n k M a (i * n + j) t → Part n k M a (suc (i * n + j)) (set t (i * n + j) (rescaled k M i j))
+      within entry_range (rescaled k M i j) ≡ true → Part n k M a (i * n + j) t →
+      Part n k M a (suc (i * n + j)) (set t (i * n + j) (rescaled k M i j))
   unfolding at
   part-more {M} {a} {t} i j h l m w p =
       let other : (c d : ℕ) → (c * n + d ≡ i * n + j → ⊥) → at n (set t (i * n + j) (rescaled k M i j)) c d ≡ at n t c d =
@@ -62,11 +63,13 @@ module _ {n : ℕ} {k : ℕ → ℕ} where
   -- ---- the answer
   module _ {M : Matrix} {t : List ℤ} where
     -- row i, of a table whose rows before it are scaled, is that of M
-    row_same : (i : ℕ) → Part n k M 0 (i * n) t → (j : ℕ) → j < n → within entry_range (rescaled k (at n t) i j) ≡ within entry_range (rescaled k M i j)
+    row_same : (i : ℕ) → Part n k M 0 (i * n) t → (j : ℕ) → j < n →
+        within entry_range (rescaled k (at n t) i j) ≡ within entry_range (rescaled k M i j)
     unfolding rescaled
     row_same i p j h = rw (p.behind i j h (omega arith))
 
-    pub row_leaves : (i : ℕ) → i < n → Part n k M 0 (i * n) t → all n (λ j. within entry_range (rescaled k (at n t) i j)) ≡ false → entries_within n (rescaled k M) ≡ false
+    pub row_leaves : (i : ℕ) → i < n → Part n k M 0 (i * n) t → all n (λ j. within entry_range (rescaled k (at n t) i j)) ≡ false →
+        entries_within n (rescaled k M) ≡ false
     unfolding entries_within
     row_leaves i h p e = all_false _ n i h (sym (all_ext n _ _ (row_same i p)) ∙ e)
 

@@ -1,4 +1,5 @@
--- Laws of the scaled tables, R29.2 of docs/RULES.md: their members, their forms, and that they are positive definite only where the bounds are.
+-- Laws of the scaled tables, R29.2 of docs/RULES.md: their members, their forms, and that they are positive definite only where the bounds
+-- are.
 use mathlib.Core.Path.{◌≡◌, refl, sym, ap, ◌∙◌}
 use mathlib.Core.Bool.{true}
 use mathlib.Core.List.{[], ◌∷◌}
@@ -25,7 +26,8 @@ entries_at n M e i j h l = (within_of entry_range (M i j) (all-at _ n (all-at _ 
 
 module _ (n : ℕ) (k : ℕ → ℕ) where
   -- ---- entries
-  rescaled_symmetric : {M : Matrix} → ((i j : ℕ) → i < n → j < n → M i j ≡ M j i) → (i j : ℕ) → i < n → j < n → rescaled k M i j ≡ rescaled k M j i
+  rescaled_symmetric : {M : Matrix} → ((i j : ℕ) → i < n → j < n → M i j ≡ M j i) → (i j : ℕ) → i < n → j < n →
+      rescaled k M i j ≡ rescaled k M j i
   unfolding rescaled
   rescaled_symmetric s i j h l = rw (add_comm (k i) (k j), s i j h l)
 
@@ -99,6 +101,7 @@ module _ (n : ℕ) (k : ℕ → ℕ) (small : (i : ℕ) → i < n → k i ≤ gr
   pub rescaled-definite : {L U : Matrix} → PositiveDefinite n (rescaled k L) (rescaled k U) → PositiveDefinite n L U
   rescaled-definite d = record {
     positive = λ N q b x z.
-        let h : pos 0 <ℤ (power *ℤ form n N x) = rw (← form_twice N x) (d.positive (rescaled k N) q (rescaled_member n k b) _ (nonzero-rest z)) in
+        let h : pos 0 <ℤ (power *ℤ form n N x) =
+        rw (← form_twice N x) (d.positive (rescaled k N) q (rescaled_member n k b) _ (nonzero-rest z)) in
         order (form n N x ∷ []) h (search solver depth 40 fits 20000) (omega arith);
   }

@@ -14,4 +14,5 @@ few_left-requires c =
 
 pub returns : goal.returns
 returns c =
-    rw (clean_element c.few_left.result c.few_left.type_inv, c.few_left.ensures, clean c.ranges.sum) (few_left _ _ _ _ _ _ _ c.if-left-gt-LOOK_AHEAD.false)
+    rw (clean_element c.few_left.result c.few_left.type_inv, c.few_left.ensures, clean c.ranges.sum)
+    (few_left _ _ _ _ _ _ _ c.if-left-gt-LOOK_AHEAD.false)

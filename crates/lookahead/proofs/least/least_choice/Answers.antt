@@ -16,4 +16,10 @@ pub returns : goal.returns
 unfolding least_choice
 returns c =
     let p = c.requires in
-    rw (clean_element c.least_of.result c.least_of.type_inv, c.least_of.ensures, clean c.ranges.zero, sum_is p.0.plus p.1, sum_is p.0.minus p.2)
+    rw (
+      clean_element c.least_of.result c.least_of.type_inv,
+      c.least_of.ensures,
+      clean c.ranges.zero,
+      sum_is p.0.plus p.1,
+      sum_is p.0.minus p.2,
+    )

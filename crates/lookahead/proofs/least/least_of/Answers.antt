@@ -8,4 +8,12 @@ pub returns : goal.returns
 unfolding least_of
 returns c =
     let f = c.ranges in
-    rw (clean_element c.smaller-2.result c.smaller-2.type_inv, c.smaller-2.ensures, clean_element c.smaller.result c.smaller.type_inv, c.smaller.ensures, clean f.x, clean f.y, clean f.z) refl
+    rw (
+      clean_element c.smaller-2.result c.smaller-2.type_inv,
+      c.smaller-2.ensures,
+      clean_element c.smaller.result c.smaller.type_inv,
+      c.smaller.ensures,
+      clean f.x,
+      clean f.y,
+      clean f.z,
+    ) refl

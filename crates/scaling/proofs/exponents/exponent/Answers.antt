@@ -13,10 +13,13 @@ loop-k-init c = refl
 pub returns-then-stays_within : goal.returns-then-stays_within
 returns-then-stays_within c =
     let f = clean c.ranges.u in
-    sym ((rw f at c.loop-k.invariant) ∙ greatest-found _ (c.loop-k.k - 1) (omega arith) (sym (rw f at c.stays_within.ensures) ∙ c.if-stays_within.true))
+    sym ((rw f at c.loop-k.invariant)
+    ∙ greatest-found _ (c.loop-k.k - 1) (omega arith) (sym (rw f at c.stays_within.ensures) ∙ c.if-stays_within.true))
 
 pub loop-k-preserved : goal.loop-k-preserved
-loop-k-preserved c = c.loop-k.invariant ∙ greatest-passed _ (c.loop-k.k - 1) (omega arith) (sym c.stays_within.ensures ∙ c.if-stays_within.false)
+loop-k-preserved c =
+    c.loop-k.invariant
+    ∙ greatest-passed _ (c.loop-k.k - 1) (omega arith) (sym c.stays_within.ensures ∙ c.if-stays_within.false)
 
 pub returns : goal.returns
 returns c =

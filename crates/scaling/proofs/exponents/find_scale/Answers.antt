@@ -21,7 +21,8 @@ found c = rw (clean_element c.high_at.result c.high_at.type_inv, c.high_at.ensur
 
 pub exponent-requires : goal.exponent-requires
 exponent-requires c =
-    rw (clean_element c.high_at.result c.high_at.type_inv, c.high_at.ensures) (high-within c.args.bounds.checked c.loop-i-test.true c.loop-i-test.true)
+    rw (clean_element c.high_at.result c.high_at.type_inv, c.high_at.ensures)
+    (high-within c.args.bounds.checked c.loop-i-test.true c.loop-i-test.true)
 
 pub overflow_cast-scale : goal.overflow_cast-scale
 overflow_cast-scale c = omega (signed, found c, exponent_small (entry c))

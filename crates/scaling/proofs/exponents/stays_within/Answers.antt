@@ -7,7 +7,8 @@ use Rattle.scaling.proofs.exponents.stays_within.Goals as goal
 
 pub overflow_mul-result : goal.overflow_mul-result
 overflow_mul-result c =
-    rw (clean_result c.power, c.power.ensures, clean c.ranges.u) (fits_within (times_power (2 * c.args.k) (omega (arith, c.requires.1)) c.requires.0) (omega arith))
+    rw (clean_result c.power, c.power.ensures, clean c.ranges.u)
+    (fits_within (times_power (2 * c.args.k) (omega (arith, c.requires.1)) c.requires.0) (omega arith))
 
 pub returns : goal.returns
 unfolding stays_within

@@ -28,18 +28,33 @@ module _ (c : After-scaled_entry-scaled) where
   result : c.scaled_entry-scaled.result ≡ rescaled (scale_in c.args.x.now) (at c.args.n c.args.t.now) c.args.i c.loop-j.j
   unfolding rescaled
   result =
-      rw (clean_element (nth c.args.x.now c.args.i) c.k-1.given, clean_element (nth c.args.x.now c.loop-j.j) c.scaled_entry-arg-1.given, clean_element _ c.scaled_entry-arg-in-loop-j-1.given, entry c.before.before.before) at c.scaled_entry-scaled.ensures
+      rw (
+        clean_element (nth c.args.x.now c.args.i) c.k-1.given,
+        clean_element (nth c.args.x.now c.loop-j.j) c.scaled_entry-arg-1.given,
+        clean_element _ c.scaled_entry-arg-in-loop-j-1.given,
+        entry c.before.before.before,
+      ) at c.scaled_entry-scaled.ensures
 
 pub scaled_entry-scaled-requires : goal.scaled_entry-scaled-requires
 scaled_entry-scaled-requires c =
     let h = c.loop-j-test.true in
-    rw (clean_element _ c.k-1.given, clean_element _ c.scaled_entry-arg-1.given, clean_element _ c.scaled_entry-arg-in-loop-j-1.given, entry c.before.before)
-    (scale-exponent c.requires.2 c.args.i c.requires.1, scale-exponent c.requires.2 c.loop-j.j h, c.requires.3 c.args.i c.loop-j.j c.requires.1 h)
+    rw (
+      clean_element _ c.k-1.given,
+      clean_element _ c.scaled_entry-arg-1.given,
+      clean_element _ c.scaled_entry-arg-in-loop-j-1.given,
+      entry c.before.before,
+    ) (
+      scale-exponent c.requires.2 c.args.i c.requires.1,
+      scale-exponent c.requires.2 c.loop-j.j h,
+      c.requires.3 c.args.i c.loop-j.j c.requires.1 h,
+    )
 
 pub returns-then-not-within : goal.returns-then-not-within
 returns-then-not-within c =
     record {
-      answered = sym (all_false _ _ c.loop-j.j c.loop-j-test.true (rw (← result c.before.before) (call_false (rw (clean_result c.scaled_entry-scaled) at c.within.ensures) c.if-not-within.true-raw)));
+      answered = sym (all_false _ _ c.loop-j.j c.loop-j-test.true
+          (rw (← result c.before.before)
+          (call_false (rw (clean_result c.scaled_entry-scaled) at c.within.ensures) c.if-not-within.true-raw)));
       size = c.loop-j.invariant.0;
       part = λ e. absurd (false≢true e);
     }
@@ -51,8 +66,10 @@ loop-j-preserved c =
     let e : suc (a.i * a.n + j) ≡ a.i * a.n + (j + 1) = omega arith in (
       length-set c.loop-j.t _ _ ∙ c.loop-j.invariant.0,
       rw (clean_result c.scaled_entry-scaled, result c.before.before, ← e)
-          (part-more a.i j c.loop-j-test.true (omega arith) (omega (arith, place c.before.before.before.before.before, c.loop-j.invariant.0))
-          (rw (← result c.before.before) (call_true (rw (clean_result c.scaled_entry-scaled) at c.within.ensures) c.if-not-within.false-raw)) c.loop-j.invariant.1),
+          (part-more a.i j c.loop-j-test.true (omega arith)
+          (omega (arith, place c.before.before.before.before.before, c.loop-j.invariant.0))
+          (rw (← result c.before.before)
+          (call_true (rw (clean_result c.scaled_entry-scaled) at c.within.ensures) c.if-not-within.false-raw)) c.loop-j.invariant.1),
     )
 
 pub returns : goal.returns

@@ -16,7 +16,11 @@ returns-in_err-scale_row c =
     let r = c.in_err-scale_row.ensures in
     let l = c.loop-i in
     rw c.from_residual.ensures
-    (record { answered = sym (row_leaves l.i c.loop-i-test.true l.invariant.1 (sym r.answered)); size = r.size; part = λ e. absurd (false≢true e) })
+    (record {
+      answered = sym (row_leaves l.i c.loop-i-test.true l.invariant.1 (sym r.answered));
+      size = r.size;
+      part = λ e. absurd (false≢true e);
+    })
 
 pub loop-i-preserved : goal.loop-i-preserved
 loop-i-preserved c =

@@ -22,7 +22,8 @@ scale_table-requires-2 c =
 pub returns-in_err-scale_table-2 : goal.returns-in_err-scale_table-2
 returns-in_err-scale_table-2 c =
     let p = c.requires in
-    rw c.from_residual-in_err-scale_table-2.ensures (high_leaves p.0 c.find_scale-scale.ensures c.in_ok-scale_table.ensures refl c.in_err-scale_table-2.ensures refl)
+    rw c.from_residual-in_err-scale_table-2.ensures
+    (high_leaves p.0 c.find_scale-scale.ensures c.in_ok-scale_table.ensures refl c.in_err-scale_table-2.ensures refl)
 
 pub returns : goal.returns
 returns c =

@@ -32,7 +32,8 @@ module _ (s : Start) where
 
 pub overflow_mul-result : goal.overflow_mul-result
 overflow_mul-result c =
-    rw (clean_result c.power, c.power.ensures, added c.before, clean (fitting c.before), clean c.ranges.v) (fits_within (times_power (k c.before) (small c.before) c.requires.2) (omega arith))
+    rw (clean_result c.power, c.power.ensures, added c.before, clean (fitting c.before), clean c.ranges.v)
+    (fits_within (times_power (k c.before) (small c.before) c.requires.2) (omega arith))
 
 pub overflow_add-a : goal.overflow_add-a
 overflow_add-a c = rw (added c) (fitting c)
@@ -44,4 +45,6 @@ pub power-requires : goal.power-requires
 power-requires c = rw (added c, clean (fitting c)) (small c)
 
 pub returns : goal.returns
-returns c = clean (overflow_mul-result c) ∙ rw (clean_result c.power, c.power.ensures, added c.before, clean (fitting c.before), clean c.ranges.v)
+returns c =
+    clean (overflow_mul-result c)
+    ∙ rw (clean_result c.power, c.power.ensures, added c.before, clean (fitting c.before), clean c.ranges.v)

@@ -9,4 +9,10 @@ pub returns : goal.returns
 unfolding least_shares least_one
 returns c =
     let p = first_small c.requires in
-    rw (clean_element c.least_of.result c.least_of.type_inv, c.least_of.ensures, clean c.ranges.sum, clean (fits_within p.plus (omega arith)), clean (fits_within p.minus (omega arith)))
+    rw (
+      clean_element c.least_of.result c.least_of.type_inv,
+      c.least_of.ensures,
+      clean c.ranges.sum,
+      clean (fits_within p.plus (omega arith)),
+      clean (fits_within p.minus (omega arith)),
+    )
