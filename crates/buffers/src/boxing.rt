@@ -4,44 +4,37 @@ ghost use Rattle.std.specs.Int.{w64};
 ghost use mir.Val.{bytes};
 ghost use Rattle.integers.specs.Numbers.{Within};
 ghost use Rattle.tables.specs.Ranges.{limit_range};
-ghost use Rattle.tables.specs.Matrix.{at, nth};
 ghost use Rattle.tables.specs.Checks.{order_of};
-ghost use Rattle.tables.specs.Problem.{problem_of, ends_of, lengths_of};
-ghost use Rattle.centre.specs.Required.{Centred};
-ghost use Rattle.enclosure.specs.Box.{boxed, boxing};
+ghost use Rattle.tables.specs.Problem.{problem_of, lengths_of};
+ghost use Rattle.enclosure.specs.Box.{boxing};
 ghost use Rattle.enclosure.specs.Act.{Enclosed};
+ghost use Rattle.enclosure.specs.Stating.{boxed_of};
 ghost use Rattle.buffers.specs.Buffers.{table_of, vector_of, box_buffers, stored_sides};
 
 use crate::entering::{load_bounds, load_terms};
+use centre::centred::Centred;
 use enclosure::enclose::{BoxAnswer, box_sized};
+use tables::bounded::Bounded;
 use tables::entering::{check_laid, order};
 use tables::problem::{Sizes, lengths_of};
-use tables::{GREATEST_ORDER, Refusal, SIDES_ROOM, TABLE_ROOM, check_ends};
+use tables::{GREATEST_ORDER, Refusal, TABLE_ROOM, check_ends};
 use words::SIZE;
 
-// Refusals 8 and 9, and the box, of bounds of order n with linear terms, limit and centre in their ranges; the sides go into a buffer of
-// the size that n calls for.
-fn box_bounds(
-    n: usize,
-    low: &[i64],
-    high: &[i64],
-    from: &[i64],
-    to: &[i64],
-    limit: i64,
-    centre: &[i64],
-    sides: &mut [u8],
-) -> Result<BoxAnswer, Refusal>
-    requires { Centred n low.now high.now from.now to.now centre.now × Within limit_range limit × (length sides.old ≡
-        (n + n) * bytes w64) }
-    ensures { ◌≡◌ {A = Enclosed (List ℕ)} (record { answer = result; sides = sides.new }) (stored_sides n (boxed n
-        (at n low.now) (at n high.now) (ends_of from.now to.now) limit (nth centre.now)) sides.old) }
+// Refusals 8 and 9, and the box; the sides go into a buffer of the size that the order calls for.
+fn box_bounds(problem: Centred, limit: i64, sides: &mut [u8]) -> Result<BoxAnswer, Refusal>
+    requires { Within limit_range limit × (length sides.old ≡ (problem.bounds.order + problem.bounds.order) * bytes w64) }
+    ensures { ◌≡◌ {A = Enclosed (List ℕ)} (record { answer = result; sides = sides.new })
+        (stored_sides problem.entry.bounds.order (boxed_of problem.entry limit) sides.old) }
 {
-    let mut x = [0i64; SIDES_ROOM];
-    let given = enclosure::enclose::box_bounds(n, low, high, from, to, limit, centre, &mut x)?;
-    if given == BoxAnswer::Sides {
-        words::store_numbers(&x, sides, n + n, SIZE);
+    let n = problem.bounds.order;
+    let given = enclosure::enclose::box_bounds(problem, limit)?;
+    match given {
+        Some(x) => {
+            words::store_numbers(&x, sides, n + n, SIZE);
+            Ok(BoxAnswer::Sides)
+        }
+        None => Ok(BoxAnswer::Empty),
     }
-    Ok(given)
 }
 
 // The box of the numbers that the buffers spell. The linear terms lie between those of from and to.
@@ -85,5 +78,16 @@ pub fn enclose(
     load_bounds(m, sized, low, high, &mut l, &mut u);
     check_laid(m, within, &mut l, &mut u)?;
     check_ends(m, &a, &b)?;
-    box_bounds(m, &l, &u, &a, &b, limit, &c, sides)
+    let bounds = Bounded {
+        order: m,
+        low: &l,
+        high: &u,
+    };
+    let problem = Centred {
+        bounds,
+        from: &a,
+        to: &b,
+        centre: &c,
+    };
+    box_bounds(problem, limit, sides)
 }

@@ -12,8 +12,8 @@ ghost use Rattle.buffers.specs.Buffers.{table_of, judge_buffers, StoredVerdict, 
 
 use crate::entering::load_bounds;
 use tables::entering::{check_laid, order};
-use tables::{GREATEST_ORDER, Refusal, TABLE_ROOM, Table};
-use verdict::judge::Verdict;
+use tables::{Refusal, TABLE_ROOM, Table};
+use verdict::judge::{Decision, Verdict, decide};
 use words::SIZE;
 
 // The verdict on bounds of order n, and what goes with it, into buffers of the sizes that n calls for.
@@ -36,19 +36,17 @@ fn judge_bounds(
         over.old) }
 {
     let mut f = [0i64; TABLE_ROOM];
-    let mut x = [0i64; GREATEST_ORDER];
-    let verdict = verdict::judge::decide(n, low, high, &mut f, &mut x);
-    match verdict {
-        Verdict::Definite(v) => {
+    match decide(n, low, high, &mut f) {
+        Decision::Definite(v) => {
             words::store_numbers(&f, factor, n * n, SIZE);
             words::store_signed(over, 0, SIZE, v);
             Verdict::Definite(v)
         }
-        Verdict::NotDefinite => {
+        Decision::NotDefinite(x) => {
             words::store_numbers(&x, vector, n, SIZE);
             Verdict::NotDefinite
         }
-        Verdict::Undecided => Verdict::Undecided,
+        Decision::Undecided => Verdict::Undecided,
     }
 }
 

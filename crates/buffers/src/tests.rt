@@ -10,6 +10,7 @@ ghost use Rattle.buffers.specs.Buffers.{table_of, vector_of, factor_buffers, vec
 
 use crate::entering::load_bounds;
 use residual::factor_test::FactorAnswer;
+use tables::bounded::Bounded;
 use tables::entering::{check_laid, order};
 use tables::{GREATEST_ORDER, Refusal, TABLE_ROOM};
 use words::SIZE;
@@ -78,5 +79,10 @@ pub fn test_vector(n: i64, low: &[u8], high: &[u8], vector: &[u8]) -> Result<boo
     check_laid(m, true, &mut l, &mut u)?;
     let mut x = [0i64; GREATEST_ORDER];
     words::load_numbers(vector, &mut x, m, SIZE);
-    vectors::vector_test::answer(m, &l, &u, &x)
+    let bounds = Bounded {
+        order: m,
+        low: &l,
+        high: &u,
+    };
+    vectors::vector_test::answer(bounds, &x)
 }

@@ -1,46 +1,25 @@
 -- By the answer.
-use mathlib.Core.Path.{refl, sym, ◌∙◌}
-use Prim.Native.Nat.{◌+◌}
+use mathlib.Core.Path.{refl, ap, ◌∙◌}
 use native.Mathlib.Omega.{arith}
+use Rattle.std.specs.Prelude.{Ok}
 use Rattle.integers.proofs.Machine.{clean}
-use Rattle.tables.specs.Matrix.{at, nth}
-use Rattle.tables.specs.Problem.{ends_of}
 use Rattle.tables.proofs.Answers.{handed_on}
-use Rattle.enclosure.specs.Box.{Box, boxed}
-use Rattle.enclosure.proofs.BoxCases.{given_answer, given-refused}
+use Rattle.enclosure.proofs.BoxCases.{given_sides, given_empty, given-refused}
 use Rattle.buffers.proofs.Stores.{numbers-stored}
 use Rattle.buffers.proofs.boxing.box_bounds.Goals as goal
-use Rattle.buffers.proofs.boxing.box_bounds.Goals.{Start}
-
--- the box
-abbrev of : Start → Box
-of s = let a = s.args in boxed a.n (at a.n a.low.now) (at a.n a.high.now) (ends_of a.from.now a.to.now) a.limit (nth a.centre.now)
-
-pub box_bounds-requires : goal.box_bounds-requires
-box_bounds-requires c = (c.requires.0, rw (clean c.ranges.limit) c.requires.1, refl)
 
 pub returns-in_err-given : goal.returns-in_err-given
 returns-in_err-given c =
     rw (handed_on c.from_residual.ensures.1)
-    (given-refused _ _ {b = of (goal.at.returns-in_err-given c).Start} (rw (clean c.ranges.limit) at c.box_bounds.ensures) _ _ c.in_err-given.was)
-
-pub slice_bounds-store_numbers-end : goal.slice_bounds-store_numbers-end
-slice_bounds-store_numbers-end c = sym c.box_bounds.ensures.size
-
-pub overflow_add-n : goal.overflow_add-n
-overflow_add-n c = omega (arith, c.requires.0.tables.order)
+    (given-refused _ _ (rw (clean c.ranges.limit) at c.box_bounds.ensures) _ _ c.in_err-given.was)
 
 pub store_numbers-requires : goal.store_numbers-requires
-store_numbers-requires c =
-    (refl, omega (arith, c.requires.0.tables.order, c.box_bounds.ensures.size), omega (arith, c.requires.2))
+store_numbers-requires c = let order = c.args.problem.bounds.checked.order in (refl, omega arith, omega (arith, c.requires.1))
 
-pub returns-then-eq : goal.returns-then-eq
-returns-then-eq c =
-    given_answer _ _ {b = of (goal.at.returns-then-eq c).Start} (rw (clean c.ranges.limit) at c.box_bounds.ensures) _ _ c.in_ok-given.was
-    (λ e. c.store_numbers.ensures ∙ numbers-stored _ (c.args.n + c.args.n) _ c.requires.2)
-    (λ e. cc (c.if-eq.true, rw e at c.eq.ensures))
+pub returns-in-Some : goal.returns-in-Some
+returns-in-Some c =
+    given_sides _ _ (rw (clean c.ranges.limit) at c.box_bounds.ensures) _ (c.in_ok-given.was ∙ ap Ok c.in-Some.is)
+    (c.store_numbers.ensures ∙ numbers-stored _ _ _ c.requires.1)
 
-pub returns-else-eq : goal.returns-else-eq
-returns-else-eq c =
-    given_answer _ _ {b = of (goal.at.returns-else-eq c).Start} (rw (clean c.ranges.limit) at c.box_bounds.ensures) _ _ c.in_ok-given.was
-    (λ e. cc (c.if-eq.false, rw e at c.eq.ensures)) (λ e. refl)
+pub returns-in-None : goal.returns-in-None
+returns-in-None c = given_empty _ _ (rw (clean c.ranges.limit) at c.box_bounds.ensures) _ (c.in_ok-given.was ∙ ap Ok c.in-None.is)

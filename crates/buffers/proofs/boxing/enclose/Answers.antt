@@ -21,7 +21,7 @@ use Rattle.tables.proofs.Admission.{Behind, order_small, order_fits, order-posit
 use Rattle.tables.proofs.Problems.{door-refused, ends-refused, constraint_passed}
 use Rattle.enclosure.specs.Box.{Box, refused, problem_box, boxing}
 use Rattle.enclosure.specs.Act.{Enclosed}
-use Rattle.enclosure.proofs.BoxCases.{BoxSized, box_sizes-of, centred, limit-within}
+use Rattle.enclosure.proofs.BoxCases.{BoxSized, box_sizes-of, centre-terms, limit-within}
 use Rattle.buffers.specs.Buffers.{table_of, vector_of, box_buffers, stored_sides, Terms}
 use Rattle.buffers.proofs.Loading.{came-sized, terms-spelled, ends-spelled, terms_by}
 use Rattle.buffers.proofs.boxing.enclose.Goals as goal
@@ -208,33 +208,46 @@ returns-in_err-check_ends c =
     rw (handed_on c.from_residual-in_err-check_ends.ensures.1)
     (ap (given s) (ends-refused refused _ _ _ (posed s) _ d c.in_ok-check_laid.was (sym e ∙ c.in_err-check_ends.was)))
 
-pub slice_bounds-box_bounds-end : goal.slice_bounds-box_bounds-end
-slice_bounds-box_bounds-end c = sym (came (goal.at.slice_bounds-box_bounds-end c).After-check_laid).rooms.low-size
+pub slice_bounds-bounds-end : goal.slice_bounds-bounds-end
+slice_bounds-bounds-end c = sym (came (goal.at.slice_bounds-bounds-end c).After-check_laid).rooms.low-size
 
-pub slice_bounds-box_bounds-end-2 : goal.slice_bounds-box_bounds-end-2
-slice_bounds-box_bounds-end-2 c = sym (came (goal.at.slice_bounds-box_bounds-end-2 c).After-check_laid).rooms.high-size
+pub slice_bounds-bounds-end-2 : goal.slice_bounds-bounds-end-2
+slice_bounds-bounds-end-2 c = sym (came (goal.at.slice_bounds-bounds-end-2 c).After-check_laid).rooms.high-size
 
-pub slice_bounds-box_bounds-end-3 : goal.slice_bounds-box_bounds-end-3
-slice_bounds-box_bounds-end-3 c = sym c.load_terms.ensures.size
+pub invariant_of-bounds : goal.invariant_of-bounds
+invariant_of-bounds c =
+    let d = came (goal.at.invariant_of-bounds c).After-check_laid in
+    rw (order (goal.at.invariant_of-bounds c).In_ok-m) (record { checked = (d.held c.in_ok-check_laid.was).tables })
 
-pub slice_bounds-box_bounds-end-4 : goal.slice_bounds-box_bounds-end-4
-slice_bounds-box_bounds-end-4 c = sym c.load_terms-2.ensures.size
+pub slice_bounds-problem-end : goal.slice_bounds-problem-end
+slice_bounds-problem-end c = sym c.load_terms.ensures.size
 
-pub slice_bounds-box_bounds-end-5 : goal.slice_bounds-box_bounds-end-5
-slice_bounds-box_bounds-end-5 c = sym c.load_terms-3.ensures.size
+pub slice_bounds-problem-end-2 : goal.slice_bounds-problem-end-2
+slice_bounds-problem-end-2 c = sym c.load_terms-2.ensures.size
+
+pub slice_bounds-problem-end-3 : goal.slice_bounds-problem-end-3
+slice_bounds-problem-end-3 c = sym c.load_terms-3.ensures.size
+
+-- where it came through, the numbers that were loaded are in their ranges
+ranges : (c : After-check_laid) → c.check_laid.result ≡ Ok tt →
+    terms_within c.in_ok-m.m c.load_terms.new.x c.load_terms-2.new.x (to_z w64 (of_z w64 c.args.limit)) c.load_terms-3.new.x ≡ true
+ranges c q = let b = passed c q in in_range_lem (goal.at.After-check_laid c).After-sized_within-within b.sizes b.within
+
+pub invariant_of-problem : goal.invariant_of-problem
+invariant_of-problem c =
+    let m = small (goal.at.invariant_of-problem c).In_ok-m in
+    let i = ranges (goal.at.invariant_of-problem c).After-check_laid c.in_ok-check_laid.was in
+    record {
+      terms = centre-terms _ _ _ _ _ i m (omega (arith, m, c.load_terms.ensures.size)) (omega (arith, m, c.load_terms-2.ensures.size))
+          (omega (arith, m, c.load_terms-3.ensures.size));
+    }
 
 pub box_bounds-requires : goal.box_bounds-requires
 box_bounds-requires c =
-    let d = came (goal.at.box_bounds-requires c).After-check_laid in
     let q = c.in_ok-check_laid.was in
     let b = passed (goal.at.box_bounds-requires c).After-check_laid q in
-    let o = order (goal.at.box_bounds-requires c).In_ok-m in
-    let m = small (goal.at.box_bounds-requires c).In_ok-m in
-    let i = in_range_lem (goal.at.box_bounds-requires c).After-sized_within-within b.sizes b.within in (
-      centred _ _ _ _ _ i (rw o (d.held q).tables) (omega (arith, m, c.load_terms.ensures.size)) (omega (arith, m, c.load_terms-2.ensures.size)) (omega (arith, m, c.load_terms-3.ensures.size)),
-      limit-within _ _ _ _ _ i,
-      rw o (box_sizes-of _ _ _ _ _ b.sizes).sides,
-    )
+    let i = ranges (goal.at.box_bounds-requires c).After-check_laid q in
+    (limit-within _ _ _ _ _ i, rw (order (goal.at.box_bounds-requires c).In_ok-m) (box_sizes-of _ _ _ _ _ b.sizes).sides)
 
 pub returns : goal.returns
 unfolding boxing problem_box constraint_entered

@@ -78,19 +78,24 @@ load_numbers-requires c =
     let z = sizes-of _ _ _ _ _ (came-through _ _ _ _ _ (came (goal.at.load_numbers-requires c).After-check_laid) c.in_ok-check_laid.was).sizes in
     rw (order-passed c.ranges.n c.in_ok-m.ensures).0 (refl, omega (arith, z.2), order_small _)
 
+pub slice_bounds-bounds-end : goal.slice_bounds-bounds-end
+slice_bounds-bounds-end c = sym (came (goal.at.slice_bounds-bounds-end c).After-check_laid).rooms.low-size
+
+pub slice_bounds-bounds-end-2 : goal.slice_bounds-bounds-end-2
+slice_bounds-bounds-end-2 c = sym (came (goal.at.slice_bounds-bounds-end-2 c).After-check_laid).rooms.high-size
+
+pub invariant_of-bounds : goal.invariant_of-bounds
+invariant_of-bounds c =
+    let d = came (goal.at.invariant_of-bounds c).After-check_laid in
+    rw (order-passed c.ranges.n c.in_ok-m.ensures).0 (record { checked = (d.held c.in_ok-check_laid.was).tables })
+
 pub slice_bounds-answer-end : goal.slice_bounds-answer-end
-slice_bounds-answer-end c = sym (came (goal.at.slice_bounds-answer-end c).After-check_laid).rooms.low-size
-
-pub slice_bounds-answer-end-2 : goal.slice_bounds-answer-end-2
-slice_bounds-answer-end-2 c = sym (came (goal.at.slice_bounds-answer-end-2 c).After-check_laid).rooms.high-size
-
-pub slice_bounds-answer-end-3 : goal.slice_bounds-answer-end-3
-slice_bounds-answer-end-3 c = sym (room (goal.at.slice_bounds-answer-end-3 c).After-load_numbers)
+slice_bounds-answer-end c = sym (room (goal.at.slice_bounds-answer-end c).After-load_numbers)
 
 pub answer-requires : goal.answer-requires
 answer-requires c =
-    let h = (came (goal.at.answer-requires c).After-check_laid).held c.in_ok-check_laid.was in
-    rw (order-passed c.ranges.n c.in_ok-m.ensures).0 (h.tables, omega (arith, room (goal.at.answer-requires c).After-load_numbers, order_small c.args.n))
+    rw (order-passed c.ranges.n c.in_ok-m.ensures).0
+    (omega (arith, room (goal.at.answer-requires c).After-load_numbers, order_small c.args.n))
 
 pub returns : goal.returns
 unfolding vector_tested
