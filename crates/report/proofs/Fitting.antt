@@ -1,5 +1,5 @@
--- A problem that passes the checks is behind the door of every act; and one that was let through, whose tables are mended, has what the acts ask of
--- its numbers.
+-- A problem that passes the checks is behind the door of every act; and one that was let through, whose tables are mended, has what the
+-- acts ask of its numbers.
 use mathlib.Core.Path.{◌≡◌, refl, ap, ◌∙◌}
 use mathlib.Core.Bool.{true}
 use Prim.Native.Nat.{ℕ, ◌*◌, ◌≤◌, ◌<◌}
@@ -24,9 +24,9 @@ use Rattle.tables.proofs.Checks.{more-checks, order-of, passed-bounds}
 use Rattle.tables.proofs.Answers.{prefix_passed}
 use Rattle.tables.proofs.Admission.{Behind, behind, entry-passes, order-known}
 use Rattle.verdict.specs.Judge.{judged}
-use Rattle.centre.specs.Required.{Centred}
+use Rattle.centre.specs.Required.{LinearTerms}
 use Rattle.enclosure.specs.Box.{boxed, problem_box}
-use Rattle.enclosure.proofs.BoxCases.{limit-within, centred}
+use Rattle.enclosure.proofs.BoxCases.{limit-within, centre-terms}
 use Rattle.summary.specs.Problems.{LetThrough}
 use Rattle.report.specs.Report.{problem_verdict, problem_text}
 
@@ -52,7 +52,8 @@ module _ (p : Problem) (o : order_ok (pos p.constraint.order) ≡ true) (e : fir
   pub opened : Behind (pos d.order) true (problem_within p) d.low d.high
   opened =
       behind (pos d.order) true (problem_within p) d.low d.high
-      (more-checks (entry_checks (pos d.order) true) _ (entry-passes (pos d.order) o refl) ∙ prefix_passed _ (constraint_ends d) (rw known e))
+      (more-checks (entry_checks (pos d.order) true) _ (entry-passes (pos d.order) o refl)
+      ∙ prefix_passed _ (constraint_ends d) (rw known e))
 
   pub bounded : Bounds d.order (low_bounds d.order d.low) (high_bounds d.order d.high)
   bounded = passed-bounds d.order d.low d.high (rw known at opened.tables)
@@ -99,10 +100,11 @@ module _ {p : Problem} (l : LetThrough p) where
   pub order-positive : 0 < n
   order-positive = positive p l.order l.checks
 
-  pub terms : Centred n c.low c.high c.linear.low c.linear.high p.centre
+  pub terms : LinearTerms n c.linear.low c.linear.high p.centre
   terms =
-      centred n c.linear.low c.linear.high c.limit p.centre through.within tables (omega (arith, l.rooms.order, l.rooms.linear_low))
-      (omega (arith, l.rooms.order, l.rooms.linear_high)) (omega (arith, l.rooms.order, l.rooms.centre))
+      centre-terms n c.linear.low c.linear.high c.limit p.centre through.within l.rooms.order
+      (omega (arith, l.rooms.order, l.rooms.linear_low)) (omega (arith, l.rooms.order, l.rooms.linear_high))
+      (omega (arith, l.rooms.order, l.rooms.centre))
 
   pub limit : Within limit_range c.limit
   limit = limit-within n c.linear.low c.linear.high c.limit p.centre through.within

@@ -107,7 +107,10 @@ module _ (n : ℕ) (l u : List ℤ) (behind t : List ℕ) where
 -- ---- a text that ends with a digit and a line feed does not end with 'empty'
 not_empty : {d : ℕ} {s : List ℕ} → Ends s (d ∷ newline ∷ []) → d < 58 → (t : List ℕ) → s ≡ t ++ ascii "empty\n" → ⊥
 not_empty {d} a l t e =
-    let h : d ≡ 121 = ap first (ends_same a (record { rest = t ++ ascii "empt"; whole = e ∙ sym (append_assoc t (ascii "empt") (ascii "y\n")) }) refl) in
+    let h : d ≡ 121 =
+    ap first
+    (ends_same a (record { rest = t ++ ascii "empt"; whole = e ∙ sym (append_assoc t (ascii "empt") (ascii "y\n")) }) refl)
+    in
     omega arith
 
 numbered-ends : (word : List ℕ) (r : Refusal) → Ends (numbered word r) (digit (refusal_number r) ∷ newline ∷ [])
@@ -119,7 +122,8 @@ unfolding box_text
 empty_last zero h b before t e = absurd (omega arith)
 empty_last (suc n) h (Box.sides x) before t e = absurd (not_empty (ends-behind before (lines_end (ascii "side") x 1 n)) (omega arith) t e)
 empty_last (suc n) h Box.empty before t e = refl
-empty_last (suc n) h (Box.refused r) before t e = absurd (not_empty (ends-behind before (numbered-ends (ascii "box refused") r)) (omega arith) t e)
+empty_last (suc n) h (Box.refused r) before t e =
+    absurd (not_empty (ends-behind before (numbered-ends (ascii "box refused") r)) (omega arith) t e)
 
 -- ---- of any file at all: what is said of its tables is said of them as they stand in the file
 module _ (s : List ℕ) where
@@ -191,7 +195,10 @@ module _ (s : List ℕ) where
   empty_means t e =
       let h = (printed-passed s (λ r q. not_empty (numbered-ends (ascii "refused") r) (omega arith) t (sym q ∙ e))).1 in
       let o = accepted-order s h in
-      let b = empty_last n (positive p o (accepted-checks s h)) (problem_box p) (verdict_text n (problem_verdict p)) t (sym (spelled-text h) ∙ e) in
+      let b =
+      empty_last n (positive p o (accepted-checks s h)) (problem_box p) (verdict_text n (problem_verdict p)) t
+      (sym (spelled-text h) ∙ e)
+      in
       let L = low_bounds n c.low in
       let U = high_bounds n c.high in
       let says = box_says n (accepted_rooms s h).order L U (bounded p o (accepted-checks s h)) (ends_in c) c.limit (nth p.centre) in

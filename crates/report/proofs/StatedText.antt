@@ -1,5 +1,5 @@
 -- The text of the answers that the code holds is that of the problem.
-use mathlib.Core.Path.{◌≡◌, ap, ap₂}
+use mathlib.Core.Path.{◌≡◌, sym, ap, ap₂}
 use mathlib.Core.List.{List, ◌++◌}
 use Prim.Native.Nat.{ℕ}
 use Rattle.tables.specs.declared.problem.Problem.{Problem}
@@ -12,4 +12,4 @@ pub answers_text_lem : {p : Problem} {a : Answers} → Answered p a → problem_
 unfolding problem_text answers_text
 answers_text_lem {p} h =
     let n = p.constraint.order in
-    ap₂ (λ (v b : List ℕ). v ++ b) (ap (verdict_text n) h.verdict.verdict) (ap (box_text n) h.box.box)
+    ap₂ (λ (v b : List ℕ). v ++ b) (ap (verdict_text n) h.verdict.verdict) (ap (box_text n) (sym h.box))

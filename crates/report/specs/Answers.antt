@@ -1,11 +1,10 @@
 -- The answers to a problem as the code holds them, and their lines.
-use Rattle.std.specs.Prelude.{List, ◌++◌, ℕ, pos, replicate}
+use Rattle.std.specs.Prelude.{◌≡◌, List, ◌++◌, ℕ, pos, replicate}
 use Rattle.tables.specs.Ranges.{table_room}
 use Rattle.tables.specs.declared.problem.Problem.{Problem}
 use Rattle.verdict.specs.Deciding.{Decided}
 use Rattle.verdict.specs.Deciding.{stated as stated_verdict}
 use Rattle.enclosure.specs.Box.{problem_box}
-use Rattle.enclosure.specs.Stating.{Stated}
 use Rattle.enclosure.specs.Stating.{stated as stated_box}
 use Rattle.report.specs.declared.answers.Answers.{Answers}
 use Rattle.report.specs.Lines.{verdict_text, box_text}
@@ -13,9 +12,9 @@ use Rattle.report.specs.Report.{problem_verdict}
 
 -- the verdict and the box of the problem p; the factor stands over zeros
 pub record Answered (p : Problem) (a : Answers) : Type 0 where
-  pub verdict : Decided (problem_verdict p) p.constraint.order a.verdict (replicate table_room (pos 0)) a.factor a.vector
-  pub box : Stated (problem_box p) p.constraint.order a.answer a.sides
+  pub verdict : Decided (problem_verdict p) p.constraint.order a.decision (replicate table_room (pos 0)) a.factor
+  pub box : stated_box p.constraint.order a.sides ≡ problem_box p
 
 -- the lines of answers of order n
 unfoldable pub answers_text : ℕ → Answers → List ℕ
-answers_text n a = verdict_text n (stated_verdict n a.verdict a.factor a.vector) ++ box_text n (stated_box n a.answer a.sides)
+answers_text n a = verdict_text n (stated_verdict n a.decision a.factor) ++ box_text n (stated_box n a.sides)

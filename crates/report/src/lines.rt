@@ -1,6 +1,6 @@
 // The lines of a verdict and of a box, R19.3 and R19.4 of docs/RULES.md.
 ghost use Rattle.std.specs.Prelude.{◌≡◌, ◌+◌, ◌*◌, ◌≤◌, length};
-ghost use Rattle.tables.specs.Ranges.{greatest_order, table_room, sides_room};
+ghost use Rattle.tables.specs.Ranges.{greatest_order};
 ghost use Rattle.tables.specs.Matrix.{nth, tabulate};
 ghost use Rattle.verdict.specs.Judge.{definite, not_definite};
 ghost use Rattle.verdict.specs.Deciding.{stated as stated_verdict};
@@ -8,10 +8,9 @@ ghost use Rattle.enclosure.specs.Stating.{stated as stated_box};
 ghost use Rattle.text.specs.Putting.{Put};
 ghost use Rattle.report.specs.Lines.{numbered, number_room, verdict_room, verdict_text, box_room, box_text};
 
-use enclosure::enclose::BoxAnswer;
 use tables::{GREATEST_ORDER, Refusal, Sides, Table, Vector};
 use text::{SPACED, put_line, put_lines, put_text};
-use verdict::judge::Verdict;
+use verdict::judge::Decision;
 
 // The bytes of a row line of the greatest order.
 const ROW_ROOM: usize = 3 + GREATEST_ORDER * SPACED + 1;
@@ -40,7 +39,7 @@ pub fn put_refused(out: &mut [u8], at: usize, word: &[u8], r: Refusal) -> usize
 
 // 'definite', the rows of the factor in f, and what the rows of its residual have over.
 fn put_factor(out: &mut [u8], at: usize, n: usize, f: &Table, over: i64) -> usize
-    requires { (n ≤ greatest_order) × (length f.now ≡ table_room) × (at + verdict_room ≤ length out.old) }
+    requires { (n ≤ greatest_order) × (at + verdict_room ≤ length out.old) }
     ensures { Put out.old at (verdict_text n (definite (tabulate (n * n) (nth f.now)) over))
         verdict_room result out.new }
 {
@@ -52,7 +51,7 @@ fn put_factor(out: &mut [u8], at: usize, n: usize, f: &Table, over: i64) -> usiz
 
 // 'not', and the vector that stands in x.
 fn put_vector(out: &mut [u8], at: usize, n: usize, x: &Vector) -> usize
-    requires { (n ≤ greatest_order) × (length x.now ≡ greatest_order) × (at + verdict_room ≤ length out.old) }
+    requires { (n ≤ greatest_order) × (at + verdict_room ≤ length out.old) }
     ensures { Put out.old at (verdict_text n (not_definite (tabulate n (nth x.now))))
         verdict_room result out.new }
 {
@@ -60,41 +59,26 @@ fn put_vector(out: &mut [u8], at: usize, n: usize, x: &Vector) -> usize
     put_lines(out, next, b"vector", x, n, 1)
 }
 
-// The lines of a verdict, with the factor in f or the vector in x.
-pub fn put_verdict(
-    out: &mut [u8],
-    at: usize,
-    n: usize,
-    verdict: Verdict,
-    f: &Table,
-    x: &Vector,
-) -> usize
-    requires { (n ≤ greatest_order) × (length f.now ≡ table_room) × (length x.now ≡ greatest_order)
-        × (at + verdict_room ≤ length out.old) }
-    ensures { Put out.old at (verdict_text n (stated_verdict n verdict f.now x.now))
-        verdict_room result out.new }
+// The lines of a decision, with its factor in f.
+pub fn put_verdict(out: &mut [u8], at: usize, n: usize, decision: Decision, f: &Table) -> usize
+    requires { (n ≤ greatest_order) × (at + verdict_room ≤ length out.old) }
+    ensures { Put out.old at (verdict_text n (stated_verdict n decision f.now)) verdict_room result out.new }
 {
-    match verdict {
-        Verdict::Definite(over) => put_factor(out, at, n, f, over),
-        Verdict::NotDefinite => put_vector(out, at, n, x),
-        Verdict::Undecided => put_text(out, at, b"undecided\n"),
+    match decision {
+        Decision::Definite(over) => put_factor(out, at, n, f, over),
+        Decision::NotDefinite(x) => put_vector(out, at, n, &x),
+        Decision::Undecided => put_text(out, at, b"undecided\n"),
     }
 }
 
-// The lines of a box, with its sides in x.
-pub fn put_box(
-    out: &mut [u8],
-    at: usize,
-    n: usize,
-    answer: Result<BoxAnswer, Refusal>,
-    x: &Sides,
-) -> usize
-    requires { (n ≤ greatest_order) × (length x.now ≡ sides_room) × (at + box_room ≤ length out.old) }
-    ensures { Put out.old at (box_text n (stated_box n answer x.now)) box_room result out.new }
+// The lines of a box: its sides, that it is empty, or its refusal.
+pub fn put_box(out: &mut [u8], at: usize, n: usize, sides: Result<Option<Sides>, Refusal>) -> usize
+    requires { (n ≤ greatest_order) × (at + box_room ≤ length out.old) }
+    ensures { Put out.old at (box_text n (stated_box n sides)) box_room result out.new }
 {
-    match answer {
-        Ok(BoxAnswer::Sides) => put_lines(out, at, b"side", x, 2, n),
-        Ok(BoxAnswer::Empty) => put_text(out, at, b"empty\n"),
+    match sides {
+        Ok(Some(x)) => put_lines(out, at, b"side", &x, 2, n),
+        Ok(None) => put_text(out, at, b"empty\n"),
         Err(r) => put_refused(out, at, b"box refused", r),
     }
 }

@@ -1,6 +1,6 @@
 // What the program prints of a summary file, R19 of docs/RULES.md.
 ghost use Rattle.std.specs.Prelude.{◌≡◌, ◌≤◌, ◌<◌, length, take};
-ghost use Rattle.tables.specs.Ranges.{greatest_order, table_room, sides_room};
+ghost use Rattle.tables.specs.Ranges.{greatest_order};
 ghost use Rattle.summary.specs.Problems.{longest};
 ghost use Rattle.text.specs.Putting.{Put};
 ghost use Rattle.report.specs.Answers.{answers_text};
@@ -21,12 +21,11 @@ pub struct Output {
 
 // The lines of the answers to a problem of order n: the verdict, then the box.
 fn put_answers(out: &mut [u8], n: usize, answers: Answers) -> usize
-    requires { (n ≤ greatest_order) × (length answers.factor ≡ table_room) × (length answers.vector ≡ greatest_order)
-        × (length answers.sides ≡ sides_room) × (report_room ≤ length out.old) }
+    requires { (n ≤ greatest_order) × (report_room ≤ length out.old) }
     ensures { Put out.old 0 (answers_text n answers) report_room result out.new }
 {
-    let next = put_verdict(out, 0, n, answers.verdict, &answers.factor, &answers.vector);
-    put_box(out, next, n, answers.answer, &answers.sides)
+    let next = put_verdict(out, 0, n, answers.decision, &answers.factor);
+    put_box(out, next, n, answers.sides)
 }
 
 // What the program prints of a file, of any bytes at all.

@@ -23,7 +23,8 @@ returns c =
     let n = c.args.n in
     let rows = lines (ascii "row") c.args.f.now n n in
     let over = over_text (to_z w64 (of_z w64 c.args.over)) in
-    let room = put_room c.put_text-rows.ensures 0 (omega (arith, c.requires.2)) in
+    let room = put_room c.put_text-rows.ensures 0 (omega (arith, c.requires.1)) in
     let both = put_then {t = rows} c.put_lines-next.ensures {s = over} (omega arith) c.put_line.ensures in
     rw (← clean c.ranges.over, ← first-lines (ascii "row") c.args.f.now n n (n * n) (omega arith))
-    (put-within (put_then c.put_text-rows.ensures {s = rows ++ over} (omega (arith, c.requires.2)) both) (omega (arith, rows_room c.requires.0)))
+    (put-within (put_then c.put_text-rows.ensures {s = rows ++ over} (omega (arith, c.requires.1)) both)
+    (omega (arith, rows_room c.requires.0)))

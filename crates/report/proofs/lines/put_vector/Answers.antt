@@ -9,4 +9,4 @@ pub returns : goal.returns
 unfolding verdict_text
 returns c =
     rw (← first-lines (ascii "vector") c.args.x.now c.args.n 1 c.args.n (omega arith))
-    (put-within (put_then c.put_text-next.ensures (omega (arith, c.requires.2)) c.put_lines.ensures) (omega (arith, c.requires.0)))
+    (put-within (put_then c.put_text-next.ensures (omega (arith, c.requires.1)) c.put_lines.ensures) (omega (arith, c.requires.0)))

@@ -9,4 +9,5 @@ pub returns : goal.returns
 unfolding answers_text
 returns c =
     let a = c.args.answers in
-    put-within (put_then {t = verdict_text c.args.n (stated c.args.n a.verdict a.factor a.vector)} c.put_verdict-next.ensures (omega arith) c.put_box.ensures) (omega arith)
+    let verdict = verdict_text c.args.n (stated c.args.n a.decision a.factor) in
+    put-within (put_then {t = verdict} c.put_verdict-next.ensures (omega arith) c.put_box.ensures) (omega arith)

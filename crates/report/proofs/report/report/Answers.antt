@@ -9,12 +9,12 @@ work_out-requires c = c.read.ensures.meaning.through c.in-Ok.is
 
 pub put_answers-length-requires : goal.put_answers-length-requires
 put_answers-length-requires c =
-    let w = c.work_out.ensures in
-    ((c.read.ensures.meaning.through c.in-Ok.is).rooms.order, w.verdict.room, w.verdict.size, w.box.size, omega arith)
+    ((c.read.ensures.meaning.through c.in-Ok.is).rooms.order, omega arith)
 
 pub returns-in-Ok : goal.returns-in-Ok
 returns-in-Ok c =
-    output_is _ (printed-problem _ (sym c.read.ensures.exact ∙ c.in-Ok.is) ∙ answers_text_lem c.work_out.ensures) c.put_answers-length.ensures (omega arith)
+    output_is _ (printed-problem _ (sym c.read.ensures.exact ∙ c.in-Ok.is) ∙ answers_text_lem c.work_out.ensures)
+    c.put_answers-length.ensures (omega arith)
 
 pub returns-in-Err : goal.returns-in-Err
 returns-in-Err c =
