@@ -12,6 +12,7 @@ use lib.Seq.{get_or-set_same, get_or-set_other}
 use Rattle.tables.specs.Matrix.{nth, tabulate}
 use Rattle.tables.proofs.Matrix.{tabulate_ext}
 use Rattle.std.specs.Prelude.{Option as CodeOption, Some, None}
+use Rattle.std.specs.Bool.{then_some}
 use Rattle.tried.specs.Tried.{listed}
 use Rattle.tried.specs.Search.{front, or_else, reached, found, Searched}
 
@@ -25,11 +26,14 @@ module _ (x : List ℤ) (d k : ℕ) (a : ℤ) (h : d < length x) where
   put_front : a ∷ tabulate k (λ i. nth x (suc d + i)) ≡ tabulate (suc k) (λ i. nth (set x d a) (d + i))
   put_front =
       ap₂ (λ (y : ℤ) (l : List ℤ). y ∷ l) (sym (rw e0 (get_or-set_same x d a (pos 0) h)))
-      (tabulate_ext k _ _ (λ i m. let e : suc d + i ≡ d + suc i = omega arith in sym (get_or-set_other x d (d + suc i) a (pos 0) (omega arith) ∙ ap (nth x) (sym e))))
+      (tabulate_ext k _ _ (λ i m. sym (get_or-set_other x d (d + suc i) a (pos 0) (omega arith) ∙ ap (nth x) (sym (e1 i)))))
       ∙ tabulate-front k (λ i. nth (set x d a) (d + i))
     where
       e0 : d + 0 ≡ d
       e0 = omega arith
+
+      e1 : (i : ℕ) → suc d + i ≡ d + suc i
+      e1 i = omega arith
 
 -- an entry is put in front of what was found after it
 module _ {d k : ℕ} (a : ℤ) {s : Option (List ℤ)} where
@@ -52,18 +56,13 @@ module _ {s : Option (List ℤ)} (t : Option (List ℤ)) {d k : ℕ} where
   found-next f g = record { answer = g.answer ∙ ap (λ (z : Option (List ℤ)). or_else z t) f.answer }
 
 -- no entry is left to choose
-module _ (d : ℕ) (s : ℤ) where
-  reached_by : (b : Bool) → le_z s (pos 0) ≡ b → reached s ≡ elim b as (λ z. Option (List ℤ)) [ true ↦ some [] | false ↦ none ]
-  unfolding reached
-  reached_by b e = ap (λ (b : Bool). elim b as (λ z. Option (List ℤ)) [ true ↦ some [] | false ↦ none ]) e
-
-  pub reached_yes : (x : List ℤ) → le_z s (pos 0) ≡ true → Searched (reached s) d 0 (Some x)
-  unfolding found tabulate
-  reached_yes x e = record { answer = sym (reached_by true e) }
-
-  pub reached_no : le_z s (pos 0) ≡ false → Searched (reached s) d 0 None
-  unfolding found
-  reached_no e = record { answer = sym (reached_by false e) }
+pub reached_is : (d : ℕ) (s : ℤ) (x : List ℤ) → Searched (reached s) d 0 (then_some (le_z s (pos 0)) x)
+unfolding reached found tabulate
+reached_is d s x = record { answer = go (le_z s (pos 0)) }
+  where
+    go : (b : Bool) → found d 0 (then_some b x) ≡ elim b as (λ z. Option (List ℤ)) [ true ↦ some [] | false ↦ none ]
+    go true = refl
+    go false = refl
 
 -- nothing is found
 pub nothing_found : {o : Option (List ℤ)} {d k : ℕ} → o ≡ none → Searched o d k None

@@ -1,6 +1,5 @@
 -- The search's steps, as the code takes them: the choices of entry d, of order n, each with what was found from entry d + 1 on.
 use mathlib.Core.Path.{◌≡◌, refl, ap, ap₂, ◌∙◌}
-use mathlib.Core.Bool.{true, false}
 use mathlib.Core.List.{List}
 use Prim.Native.Nat.{ℕ, zero, suc, ◌+◌, ◌≤◌, ◌<◌}
 use native.Mathlib.Omega.{arith}
@@ -10,16 +9,23 @@ use lib.ListN.{length, set}
 use Rattle.std.specs.Prelude.{Option as CodeOption, Some, None}
 use Rattle.tables.specs.Matrix.{Matrix}
 use Rattle.lookahead.specs.Pairs.{more}
+use Rattle.std.specs.Bool.{then_some}
 use Rattle.tried.specs.Search.{front, or_else, seek, by_sign, after, seek_after, in_front, seek_half, Searched}
-use Rattle.tried.proofs.Choices.{chosen, chosen-none, found_first, found-next, reached_yes, reached_no, nothing_found}
+use Rattle.tried.proofs.Choices.{chosen, chosen-none, found_first, found-next, reached_is, nothing_found}
 
 -- it rests on what the entries from d on and before m would add, and on the tables' entries there
-module _ {m : ℕ} (S S' O O' : Matrix) (e : (i j : ℕ) → i < m → j < m → S' i j ≡ S i j) (f : (i j : ℕ) → i < m → j < m → O' i j ≡ O i j) where
-  more_ext : (T T' : Matrix) → ((i j : ℕ) → i < m → j < m → T' i j ≡ T i j) → (d : ℕ) (p p' : ℕ → ℤ) → d < m → ((i : ℕ) → d ≤ i → i < m → p' i ≡ p i) →
-      (i : ℕ) → suc d ≤ i → i < m → more T' d p' i ≡ more T d p i
+abbrev SameTo : ℕ → Matrix → Matrix → Type 0
+SameTo m T T' = (i j : ℕ) → i < m → j < m → T' i j ≡ T i j
+
+abbrev SameFrom : ℕ → ℕ → (ℕ → ℤ) → (ℕ → ℤ) → Type 0
+SameFrom d m p p' = (i : ℕ) → d ≤ i → i < m → p' i ≡ p i
+
+module _ {m : ℕ} (S S' O O' : Matrix) (e : SameTo m S S') (f : SameTo m O O') where
+  more_ext : (T T' : Matrix) → SameTo m T T' → (d : ℕ) (p p' : ℕ → ℤ) → d < m → SameFrom d m p p' →
+      SameFrom (suc d) m (more T d p) (more T' d p')
   more_ext T T' c d p p' l g i k h = ap₂ (λ (x y : ℤ). x +ℤ y) (g i (omega arith) h) (c d i l h)
 
-  pub seek_ext : (k d : ℕ) (p p' q q' : ℕ → ℤ) (s : ℤ) → d + k ≡ m → ((i : ℕ) → d ≤ i → i < m → p' i ≡ p i) → ((i : ℕ) → d ≤ i → i < m → q' i ≡ q i) →
+  pub seek_ext : (k d : ℕ) (p p' q q' : ℕ → ℤ) (s : ℤ) → d + k ≡ m → SameFrom d m p p' → SameFrom d m q q' →
       seek S' O' d k p' q' s ≡ seek S O d k p q s
   unfolding seek
   seek_ext zero d p p' q q' s l g h = refl
@@ -43,14 +49,10 @@ module _ {m : ℕ} (S S' O O' : Matrix) (e : (i j : ℕ) → i < m → j < m →
 
 -- no entry is left
 module _ (S O : Matrix) (d : ℕ) {k : ℕ} (e : k ≡ 0) (p : ℕ → ℤ) where
-  module _ (a : ℤ) (q : ℕ → ℤ) (s : ℤ) {d' : ℕ} where
-    pub none-left-yes : {x : List ℤ} → le_z s (pos 0) ≡ true → Searched (seek_after S O d k a p q s) d' k (Some x)
-    unfolding seek
-    none-left-yes {x} f = rw e (reached_yes d' s x f)
-
-    pub none-left-no : le_z s (pos 0) ≡ false → Searched (seek_after S O d k a p q s) d' k None
-    unfolding seek
-    none-left-no f = rw e (reached_no d' s f)
+  pub none_left : (a : ℤ) (q : ℕ → ℤ) (s : ℤ) {d' : ℕ} (x : List ℤ) →
+      Searched (seek_after S O d k a p q s) d' k (then_some (le_z s (pos 0)) x)
+  unfolding seek
+  none_left a q s {d'} x = rw e (reached_is d' s x)
 
   pub half-none-left : Searched (seek_half S O d k p) d k None
   unfolding seek_half
@@ -58,11 +60,12 @@ module _ (S O : Matrix) (d : ℕ) {k : ℕ} (e : k ≡ 0) (p : ℕ → ℤ) wher
 
 module _ (S O : Matrix) where
   -- the entries after entry d, from d' on, by what the code has of them
-  pub after-found : (n : ℕ) {d d' k : ℕ} → d' ≡ suc d → d' + k ≡ n → (p q p' q' : ℕ → ℤ) (a : ℤ) → ((i : ℕ) → d < i → i < n → p' i ≡ after S O d a p i) →
-      ((i : ℕ) → d < i → i < n → q' i ≡ after O S d a q i) → (s : ℤ) {r : CodeOption (List ℤ)} →
+  pub after-found : (n : ℕ) {d d' k : ℕ} → d' ≡ suc d → d' + k ≡ n → (p q p' q' : ℕ → ℤ) (a : ℤ) →
+      SameFrom (suc d) n (after S O d a p) p' → SameFrom (suc d) n (after O S d a q) q' → (s : ℤ) {r : CodeOption (List ℤ)} →
       Searched (seek S O d' k p' q' s) d' k r → Searched (seek_after S O d k a p q s) d' k r
   after-found n {d} {k = k} h l p q p' q' a f g s w =
-      rw (← seek_ext {m = n} S S O O (λ i j a b. refl) (λ i j a b. refl) k (suc d) (after S O d a p) p' (after O S d a q) q' s (omega arith) f g, h) (rw h at w)
+      let same = seek_ext {m = n} S S O O (λ i j a b. refl) (λ i j a b. refl) k (suc d) (after S O d a p) p' (after O S d a q) q' s in
+      rw (← same (omega arith) f g, h) (rw h at w)
 
   -- they would add what they did before where entry d is 0
   pub kept-found : (n : ℕ) {d d' k : ℕ} → d' ≡ suc d → d' + k ≡ n → (p q : ℕ → ℤ) (a : ℤ) → a ≡ pos 0 → (s : ℤ) {r : CodeOption (List ℤ)} →
@@ -93,7 +96,8 @@ module _ (S O : Matrix) where
       abbrev Here : CodeOption (List ℤ) → Type 0
       Here r = Searched (seek S O d left p q s) d left r
 
-      parts : seek S O d left p q s ≡ or_else (in_front S O d k (pos 0) p q s) (or_else (in_front S O d k (pos 1) p q s) (in_front S O d k (negsuc 0) p q s))
+      parts : seek S O d left p q s ≡
+          or_else (in_front S O d k (pos 0) p q s) (or_else (in_front S O d k (pos 1) p q s) (in_front S O d k (negsuc 0) p q s))
       unfolding seek in_front after by_sign
       parts = rw e refl
 

@@ -89,10 +89,7 @@ fn search_after(
         (n - left) left result }
 {
     if left == 0 {
-        if sum <= 0 {
-            return Some([0; GREATEST_ORDER]);
-        }
-        return None;
+        return (sum <= 0).then_some([0; GREATEST_ORDER]);
     }
     if entry == 0 {
         return search(n, pairs, left, sum, plus, minus);

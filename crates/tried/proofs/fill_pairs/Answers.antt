@@ -8,13 +8,20 @@ use Rattle.tried.proofs.fill_pairs.Goals as goal
 
 pub overflow_mul-pairs : goal.overflow_mul-pairs
 overflow_mul-pairs c =
-    rw (clean_element _ c.pairs-1.given) (twice_fits _ c.args.bounds.checked.bounds.low_range {c = pos 2} (record { size = omega arith }) c.loop-k-test.true)
+    let g = c.args.bounds.checked.bounds in
+    rw (clean_element (nth c.args.bounds.low.now c.loop-k.k) (omega arith))
+    (twice_fits _ g.low_range {c = pos 2} (record { size = omega arith }) c.loop-k-test.true)
 
 pub overflow_mul-pairs-in-loop-k : goal.overflow_mul-pairs-in-loop-k
 overflow_mul-pairs-in-loop-k c =
-    rw (clean_element _ c.pairs-in-loop-k-1.given) (twice_fits _ c.args.bounds.checked.bounds.high_range {c = negsuc 1} (record { size = omega arith }) c.loop-k-test.true)
+    let g = c.args.bounds.checked.bounds in
+    rw (clean_element (nth c.args.bounds.high.now c.loop-k.k) (omega arith))
+    (twice_fits _ g.high_range {c = negsuc 1} (record { size = omega arith }) c.loop-k-test.true)
 
 pub loop-k-preserved : goal.loop-k-preserved
 loop-k-preserved c =
-    rw (clean (overflow_mul-pairs c.before), clean_element (nth c.args.bounds.low.now c.loop-k.k) c.pairs-1.given, clean (overflow_mul-pairs-in-loop-k c), clean_element _ c.pairs-in-loop-k-1.given, add-one)
-    (filled_more c.args.bounds.checked c.loop-k-test.true c.loop-k.invariant)
+    let b = c.args.bounds in
+    let k = c.loop-k.k in
+    rw (clean (overflow_mul-pairs c.before), clean_element (nth b.low.now k) (omega arith))
+    (rw (clean (overflow_mul-pairs-in-loop-k c), clean_element (nth b.high.now k) (omega arith), add-one)
+    (filled_more c.args.bounds.checked c.loop-k-test.true c.loop-k.invariant))

@@ -15,12 +15,14 @@ overflow_add-result-then-entry-lt0 c =
 
 pub returns-then-entry-gt0 : goal.returns-then-entry-gt0
 returns-then-entry-gt0 c =
-    rw (clean (overflow_add-result c), clean c.ranges.sum, clean c.ranges.plus) (sym (sign_above _ _ _ _ (rw (clean c.ranges.entry) at c.if-entry-gt0.true)))
+    rw (clean (overflow_add-result c), clean c.ranges.sum, clean c.ranges.plus)
+    (sym (sign_above _ _ _ _ (rw (clean c.ranges.entry) at c.if-entry-gt0.true)))
 
 pub returns-then-entry-lt0 : goal.returns-then-entry-lt0
 returns-then-entry-lt0 c =
     let e = clean c.ranges.entry in
-    rw (clean (overflow_add-result-then-entry-lt0 c), clean c.ranges.sum, clean c.ranges.minus) (sym (sign-under _ _ _ _ (rw e at c.if-entry-gt0.false) (rw e at c.if-entry-lt0.true)))
+    rw (clean (overflow_add-result-then-entry-lt0 c), clean c.ranges.sum, clean c.ranges.minus)
+    (sym (sign-under _ _ _ _ (rw e at c.if-entry-gt0.false) (rw e at c.if-entry-lt0.true)))
 
 pub returns : goal.returns
 returns c =
