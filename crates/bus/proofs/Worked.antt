@@ -2,7 +2,6 @@
 use mathlib.Core.Path.{◌≡◌, refl, sym, ap, ◌∙◌}
 use mathlib.Core.Bool.{Bool, true, false, false≢true, cond, ◌&&◌}
 use mathlib.Core.List.{List, [], ◌∷◌, ◌++◌}
-use mathlib.Core.Option.{Option}
 use Prim.Native.Nat.{ℕ, zero, suc, ◌+◌, ◌*◌, ◌-◌, ◌≤◌, ◌<◌}
 use native.Mathlib.Omega.{arith}
 use native.Mathlib.Numerals.{add-one}
@@ -26,9 +25,8 @@ use Rattle.cholesky.proofs.Lists.{length_snoc}
 use Rattle.cholesky.proofs.Loops.{rows_by, column_ind}
 use Rattle.cholesky.proofs.Store.{length-column_of}
 use Rattle.solved.specs.Stopped.{stop_range, Stopped}
-use Rattle.tried.specs.Search.{found, Searched}
 use Rattle.bus.specs.Area.{column_at, stop_at, columns_at, run_numbers, area_bytes, laid_over, laid_column}
-use Rattle.bus.specs.Running.{factor_columns, column_safe, stop_safe, Work, settled, definite_verdict, column_taken, search_verdict, worked}
+use Rattle.bus.specs.Running.{factor_columns, column_safe, stop_safe, Work, settled, definite_verdict, column_taken, worked}
 use Rattle.bus.specs.Required.{StopsIn, column_in}
 
 -- ---- numbers that passed the tests are in their ranges
@@ -149,12 +147,6 @@ pub below_zero : (p : ℤ) → le_z (pos 1) p ≡ false → (p ≡ pos 0 → ⊥
 below_zero (pos zero) e f = absurd (f refl)
 below_zero (pos (suc k)) e f = absurd (false≢true (sym e ∙ le_z_true {x = pos 1} {y = pos (suc k)} (≤_in (omega arith))))
 below_zero (negsuc k) e f = refl
-
--- ---- the verdict of a search
-pub shown-verdict : {o : Option (List ℤ)} {r : Bool} {n : ℕ} {x : List ℤ} → Searched o r 0 n x → search_verdict o ≡ elim r [ true ↦ 2 | false ↦ 3 ]
-unfolding found search_verdict
-shown-verdict {r = true} w = rw w.answer
-shown-verdict {r = false} w = rw w.answer
 
 pub nat_abs-below : {x : ℤ} {n : ℕ} → pos 0 ≤ℤ x → x <ℤ pos n → nat_abs x < n
 nat_abs-below {x = pos k} h g = omega (arith, <_out g)

@@ -1,5 +1,5 @@
 pub mod Registers
 pub mod Area
 pub mod Running
-pub mod Required
 pub mod Bus
+pub mod Required

@@ -15,7 +15,8 @@ use Rattle.tried.specs.Tried.{tried, first}
 use Rattle.solved.specs.Solved.{solved}
 use Rattle.solved.specs.Stopped.{stopped_at, stop_range}
 use Rattle.bus.specs.Registers.{settled_block}
-use Rattle.bus.specs.Area.{order_at, column_at, stop_at, low_at, high_at, area_of, area_bytes, blank_bytes, table_at, columns_to, laid_column}
+use Rattle.bus.specs.Area.{order_at, column_at, stop_at, low_at, high_at}
+use Rattle.bus.specs.Area.{area_of, area_bytes, blank_bytes, table_at, columns_to, laid_column}
 
 -- the block and the run area
 pub record Bus : Type 0 where
@@ -108,4 +109,6 @@ worked b s (column n j) =
     column_taken b r n j (next_column (upper t) (columns_of t j))
 worked b s (search n j m) =
     let r : List ℤ = area_of s in
-    settled (search_verdict (listed_shows n (low_bounds n (table_at n r low_at)) (high_bounds n (table_at n r high_at)) (columns_to r j) j m)) b
+    let L : Matrix = low_bounds n (table_at n r low_at) in
+    let U : Matrix = high_bounds n (table_at n r high_at) in
+    settled (search_verdict (listed_shows n L U (columns_to r j) j m)) b

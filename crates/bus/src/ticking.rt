@@ -18,8 +18,9 @@ use crate::safety::{column_safe, stop_safe};
 use cholesky::STRIDE;
 use cholesky::column_step::work_column;
 use cholesky::factoring::Stop;
-use tables::entering::{check_laid, order_of};
-use tables::{GREATEST_ORDER, Refusal, TABLE_ROOM, Table};
+use tables::bounded::Bounded;
+use tables::entering::{check_laid, order};
+use tables::{Refusal, TABLE_ROOM, Table};
 use verdict::listed::first_listed;
 
 // The verdicts' numbers in register 3.
@@ -80,7 +81,8 @@ fn keep_column(
 // Column j of a run of order n is next.
 fn take_column(block: &mut [u8], run: &mut [u8], n: usize, j: usize)
     requires { (length block.old ≡ block_bytes) × (length run.old ≡ run_bytes) × (n ≤ greatest_order) × (j < n) }
-    ensures { ◌≡◌ {A = Bus} (record { block = block.exit.now; run = run.new }) (worked block.entry.now run.old (column_work (area_of run.old) n j)) }
+    ensures { ◌≡◌ {A = Bus} (record { block = block.exit.now; run = run.new })
+        (worked block.entry.now run.old (column_work (area_of run.old) n j)) }
 {
     let mut t = [0i64; TABLE_ROOM];
     load_part(run, COLUMNS_AT, STRIDE * (j + 1), &mut t);
@@ -105,7 +107,8 @@ fn load_tables(run: &[u8], n: usize, l: &mut Table, u: &mut Table) -> Result<(),
 fn search(block: &mut [u8], run: &mut [u8], n: usize, j: usize, m: usize)
     requires { (length block.old ≡ block_bytes) × (length run.old ≡ run_bytes) × (n ≤ greatest_order) × (j < n) ×
         (m ≤ j) }
-    ensures { ◌≡◌ {A = Bus} (record { block = block.exit.now; run = run.new }) (worked block.entry.now run.old (search_work (area_of run.old) n j m)) }
+    ensures { ◌≡◌ {A = Bus} (record { block = block.exit.now; run = run.new })
+        (worked block.entry.now run.old (search_work (area_of run.old) n j m)) }
 {
     let mut t = [0i64; TABLE_ROOM];
     load_part(run, COLUMNS_AT, STRIDE * (j + 1), &mut t);
@@ -117,19 +120,23 @@ fn search(block: &mut [u8], run: &mut [u8], n: usize, j: usize, m: usize)
     if load_tables(run, n, &mut l, &mut u).is_err() {
         return;
     }
+    let bounds = Bounded {
+        order: n,
+        low: &l,
+        high: &u,
+    };
     let stop = Stop { column: j, rows: m };
-    let mut x = [0i64; GREATEST_ORDER];
-    if first_listed(n, &l, &u, &t, stop, &mut x) {
-        settle(block, run, NOT_DEFINITE);
-    } else {
-        settle(block, run, UNDECIDED);
+    match first_listed(bounds, &t, stop) {
+        Some(_) => settle(block, run, NOT_DEFINITE),
+        None => settle(block, run, UNDECIDED),
     }
 }
 
 // What a run of order n whose next column is j does in a tick; p tells of a stop.
 fn work(block: &mut [u8], run: &mut [u8], n: usize, j: usize, p: i64)
     requires { (length block.old ≡ block_bytes) × (length run.old ≡ run_bytes) × (n ≤ greatest_order) × (j < n) }
-    ensures { ◌≡◌ {A = Bus} (record { block = block.exit.now; run = run.new }) (worked block.entry.now run.old (work_at (area_of run.old) n j p)) }
+    ensures { ◌≡◌ {A = Bus} (record { block = block.exit.now; run = run.new })
+        (worked block.entry.now run.old (work_at (area_of run.old) n j p)) }
 {
     if 1 <= p {
         if p <= ((j + 1) as i64) {
@@ -145,9 +152,12 @@ fn work(block: &mut [u8], run: &mut [u8], n: usize, j: usize, p: i64)
 // A tick of a bus that is busy.
 pub fn step(block: &mut [u8], run: &mut [u8])
     requires { (length block.old ≡ block_bytes) × (length run.old ≡ run_bytes) }
-    ensures { ◌≡◌ {A = Bus} (record { block = block.exit.now; run = run.new }) (worked block.entry.now run.old (work_of (area_of run.old))) }
+    ensures { ◌≡◌ {A = Bus} (record { block = block.exit.now; run = run.new })
+        (worked block.entry.now run.old (work_of (area_of run.old))) }
 {
-    let n = order_of(number_in(run, ORDER_AT));
+    let Ok(n) = order(number_in(run, ORDER_AT)) else {
+        return;
+    };
     let j = number_in(run, COLUMN_AT);
     let p = number_in(run, STOP_AT);
     if j < 0 {

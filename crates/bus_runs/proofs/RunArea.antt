@@ -18,7 +18,7 @@ use Rattle.tables.specs.Matrix.{nth, at}
 use Rattle.tables.specs.Bounds.{Bounds}
 use Rattle.tables.specs.Mending.{mended_low, mended_high}
 use Rattle.tables.specs.Checks.{first_refusal, table_checks}
-use Rattle.std.specs.Prelude.{Ok, Err}
+use Rattle.std.specs.Prelude.{Ok}
 use Rattle.tables.proofs.Checks.{passed-bounds}
 use Rattle.tables.proofs.Buffers.{filled-whole}
 use Rattle.tables.proofs.Matrix.{table_fits, nth-at, row_inside, column_inside}

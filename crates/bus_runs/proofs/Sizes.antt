@@ -13,7 +13,7 @@ use mir.Syntax.{w64}
 use Rattle.integers.proofs.Parts.{choice_by}
 use Rattle.words.proofs.Laws.{length-bytes_of}
 use Rattle.tables.specs.Entering.{entered}
-use Rattle.std.specs.Prelude.{Ok, Err}
+use Rattle.std.specs.Prelude.{Ok}
 use Rattle.tables.proofs.Answers.{after-means}
 use Rattle.cholesky.specs.Factoring.{Column}
 use Rattle.bus.specs.Registers.{block_bytes, command, start_command, reset_command, writable, reset_block, is_busy}

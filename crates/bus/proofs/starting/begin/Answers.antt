@@ -13,16 +13,16 @@ use Rattle.bus.proofs.Begun.{front_fit, begun-columns}
 use Rattle.bus.proofs.starting.begin.Goals as goal
 
 pub overflow_mul-n : goal.overflow_mul-n
-overflow_mul-n c = record { fits = omega (arith, table_fits c.requires.1.order) }
+overflow_mul-n c = record { fits = omega (arith, table_fits c.args.bounds.checked.order) }
 
 pub returns : goal.returns
 unfolding begun_area
 returns c =
-    let t = c.requires.1 in
+    let t = c.args.bounds.checked in
     let r = bounds-ranged t.bounds in
-    let n = c.args.n in
-    let l = c.args.l.now in
-    let u = c.args.u.now in
+    let n = c.args.bounds.order in
+    let l = c.args.bounds.low.now in
+    let u = c.args.bounds.high.now in
     let o = t.order in
     let ordered : Area c.store_number.new.run (set blank_area order_at (pos n)) =
     area_set {r = blank_area} (rw c.blank.ensures area_blank) order_at (pos n) (fits (omega (arith, o))) (rw (read_i64 n (omega (arith, o))) at c.store_number.ensures) in
