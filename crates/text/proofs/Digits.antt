@@ -53,7 +53,8 @@ natural-front n =
     by_cases (dec_lt n 10) (λ u. rw (front-none n u) (digits-one n n u))
     (λ u. let e : n ≡ suc (n - 1) = omega arith in
     rw (front_some n (omega arith))
-    (ap (λ (k : ℕ). digits k n) e ∙ digits_more (n - 1) n (omega arith) ∙ ap (λ (x : List ℕ). x ++ (digit n ∷ [])) (digits_same (n - 1) (n / 10) (n / 10) (omega arith) (omega arith))))
+    (ap (λ (k : ℕ). digits k n) e ∙ digits_more (n - 1) n (omega arith)
+    ∙ ap (λ (x : List ℕ). x ++ (digit n ∷ [])) (digits_same (n - 1) (n / 10) (n / 10) (omega arith) (omega arith))))
 
 pub length-natural-front : (n : ℕ) → length (natural n) ≡ length (front n) + 1
 length-natural-front n = ap length (natural-front n) ∙ length-append (front n) (digit n ∷ [])
@@ -84,7 +85,8 @@ pub decimal-sign : (z : ℤ) → decimal z ≡ sign z ++ natural (nat_abs z)
 unfolding decimal sign
 decimal-sign z = go (le_z (pos 0) z)
   where
-    go : (b : Bool) → elim b [ true ↦ natural (nat_abs z) | false ↦ minus ∷ natural (nat_abs z) ] ≡ elim b [ true ↦ [] | false ↦ minus ∷ [] ] ++ natural (nat_abs z)
+    go : (b : Bool) → elim b [ true ↦ natural (nat_abs z) | false ↦ minus ∷ natural (nat_abs z) ] ≡
+        elim b [ true ↦ [] | false ↦ minus ∷ [] ] ++ natural (nat_abs z)
     go true = refl
     go false = refl
 

@@ -40,6 +40,7 @@ pub line-ends : (word : List ℕ) (f : ℕ → ℤ) (n : ℕ) → Ends (line wor
 unfolding line numbers
 line-ends word f n = ends_then (newline ∷ []) (ends-behind word (ends-behind (numbers f n) (ends-behind (space ∷ []) (decimal-ends (f n)))))
 
-pub lines_end : (word : List ℕ) (x : List ℤ) (d n : ℕ) → Ends (lines word x (suc d) (suc n)) (digit (nat_abs (nth x (n * suc d + d))) ∷ newline ∷ [])
+pub lines_end : (word : List ℕ) (x : List ℤ) (d n : ℕ) →
+    Ends (lines word x (suc d) (suc n)) (digit (nat_abs (nth x (n * suc d + d))) ∷ newline ∷ [])
 unfolding lines
 lines_end word x d n = ends-behind (lines word x (suc d) n) (line-ends word (λ k. nth x (n * suc d + k)) d)

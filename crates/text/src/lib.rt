@@ -11,6 +11,7 @@ ghost use Rattle.text.specs.Putting.{Put};
 pub const SPACED: usize = 21;
 
 // One byte.
+#[tactic(auto, using(crate::proofs::Puts::put_byte))]
 fn put(out: &mut [u8], at: usize, byte: u8) -> usize
     requires { at + 1 ≤ length out.old }
     ensures { Put out.old at (byte ∷ []) 1 result out.new }
@@ -20,6 +21,7 @@ fn put(out: &mut [u8], at: usize, byte: u8) -> usize
 }
 
 // A text.
+#[tactic(auto, unfolding(crate::specs::Putting::with_text))]
 pub fn put_text(out: &mut [u8], at: usize, text: &[u8]) -> usize
     requires { at + length text.now ≤ length out.old }
     ensures { Put out.old at text.now (length text.now) result out.new }

@@ -17,4 +17,5 @@ loop-i-preserved c =
     let n = c.put_line-next in
     let l = c.loop-i in
     let a = c.args in
-    rw (add-one l.i, suc-mul l.i) (put_then l.invariant {s = line a.word.now (λ k. nth a.x.now (l.i * a.width + k)) a.width} (omega arith) n.ensures)
+    rw (add-one l.i, suc-mul l.i)
+    (put_then l.invariant {s = line a.word.now (λ k. nth a.x.now (l.i * a.width + k)) a.width} (omega arith) n.ensures)

@@ -29,6 +29,7 @@ loop-v-preserved c =
     let s = c.put-from in
     let l = c.loop-v in
     let a = c.args in
-    let f : SFits w64 (get_or (take (a.first + a.count - a.first) (drop a.first a.x.now)) l.v-index (pos 0)) = record { sfits = omega arith } in
+    let f : SFits w64 (get_or (take (a.first + a.count - a.first) (drop a.first a.x.now)) l.v-index (pos 0)) =
+    record { sfits = omega arith } in
     let p = rw (clean f, at_part a.x.now a.first a.count l.v-index (omega arith)) at n.ensures in
     rw (add-one l.v-index) (put-within (put_then l.invariant (omega arith) (put_then s.ensures (omega arith) p)) (omega arith))
