@@ -58,14 +58,16 @@ image-nonzero (suc n) R up x z =
             order (R n n ∷ x n ∷ []) (product_mono p p (product_mono p p r r) (square_positive e) & ap (λ (z : ℤ). z *ℤ z) (sym last ∙ q))
             (search solver depth 40 fits 20000) (omega arith)
 
--- ---- a member N over q: the diagonal of the residual F = 2^32 N - q P has q v over the rest of each row, where no row has less than v over
+-- ---- a member N over q: the diagonal of the residual F = 2^32 N - q P has q v over the rest of each row, where no row has less
+-- than v over
 module _ (n : ℕ) (R L U : Matrix) (v : ℤ) (least : (i : ℕ) → i < n → v ≤ℤ row_over n (residual n R L) (residual n R U) i) where
   abbrev radii : Matrix
   radii = radius (residual n R L) (residual n R U)
 
   row-least : (i : ℕ) → i < n → (v +ℤ sum_except n i (radii i)) ≤ℤ residual n R L i i
   unfolding row_over
-  row-least i h = order (v ∷ sum_except n i (radii i) ∷ residual n R L i i ∷ []) (least i h) (search solver depth 40 fits 20000) (omega arith)
+  row-least i h =
+      order (v ∷ sum_except n i (radii i) ∷ residual n R L i i ∷ []) (least i h) (search solver depth 40 fits 20000) (omega arith)
 
   module _ (N : Matrix) (q : ℤ) (m : Member n L U N q) where
     F : Matrix
@@ -133,4 +135,5 @@ accepted-definite n R L U t up = record {
     none-lacking : FormBound n R L U (pos 0)
     none-lacking =
         form-bound n R L U (pos 0)
-        (λ i h. le_of _ _ (sym (row-passes n (residual n R L) (residual n R U) i) ∙ all-at (row_passes n (residual n R L) (residual n R U)) n (true_of (accepts n R L U) t) i h))
+        (λ i h. le_of _ _ (sym (row-passes n (residual n R L) (residual n R U) i)
+        ∙ all-at (row_passes n (residual n R L) (residual n R U)) n (true_of (accepts n R L U) t) i h))

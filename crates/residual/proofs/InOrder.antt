@@ -1,4 +1,5 @@
--- R7.4 and R7.5 of docs/RULES.md: the factor test is the residual whole, and then the row test over its two tables; and what the tables enclose.
+-- R7.4 and R7.5 of docs/RULES.md: the factor test is the residual whole, and then the row test over its two tables; and what
+-- the tables enclose.
 use mathlib.Core.Path.{◌≡◌, refl, sym, ap, ap₂, ◌∙◌}
 use mathlib.Core.Bool.{Bool, true, ◌&&◌, and-true}
 use mathlib.Core.List.{List, [], ◌∷◌}
@@ -31,7 +32,8 @@ use Rattle.residual.specs.ResidualAct.{Tabled, kept, tables, tabled, tabling, re
 use Rattle.residual.proofs.Rows.{rows_ext, least-over_ext}
 
 -- where check 2 passes, each table has its size
-pub residual-sizes-of : (size l u f a b : ℕ) → residual_sizes size l u f a b ≡ true → (l ≡ size) × (u ≡ size) × (f ≡ size) × (a ≡ size) × (b ≡ size)
+pub residual-sizes-of : (size l u f a b : ℕ) → residual_sizes size l u f a b ≡ true →
+    (l ≡ size) × (u ≡ size) × (f ≡ size) × (a ≡ size) × (b ≡ size)
 unfolding residual_sizes
 residual-sizes-of size l u f a b e =
     let z = sizes-of size size l u f (and_left _ _ e) in
@@ -40,7 +42,8 @@ residual-sizes-of size l u f a b e =
 
 -- ---- the residual test written out, without the two tables
 pub written_out : (n : ℕ) (R L U : Matrix) →
-    accepts n R L U ≡ all n (λ i. le_z (sum_except n i (λ j. max_ℤ (abs_ℤ (residual n R L i j)) (abs_ℤ (residual n R U i j)))) (residual n R L i i))
+    accepts n R L U ≡ all n
+    (λ i. le_z (sum_except n i (λ j. max_ℤ (abs_ℤ (residual n R L i j)) (abs_ℤ (residual n R U i j)))) (residual n R L i i))
 unfolding accepts rows_pass row_passes radius
 written_out n R L U = refl
 
@@ -59,14 +62,17 @@ rows-of-tables : (k : ℕ) (R L U : Matrix) →
     tested (accepts k R L U) (over k R L U) ≡ tested (rows_pass k A B) (least_over k A B)
 unfolding accepts over
 rows-of-tables k R L U =
-    let same : (M : Matrix) (i j : ℕ) → i < k → j < k → residual k R M i j ≡ at k (table k (residual k R M)) i j = λ M i j h l. sym (at_table k _ i j h l) in
+    let same : (M : Matrix) (i j : ℕ) → i < k → j < k → residual k R M i j ≡ at k (table k (residual k R M)) i j =
+    λ M i j h l. sym (at_table k _ i j h l) in
     ap₂ tested (rows_ext k _ _ _ _ (same L) (same U)) (least-over_ext k _ _ _ _ (same L) (same U))
 
-pub in_order : (n : ℤ) (sized : Bool) (l u f a b : List ℤ) → factor_tested n sized l u f ≡ then_rows (order_of n) (tabling n sized l u f a b)
+pub in_order : (n : ℤ) (sized : Bool) (l u f a b : List ℤ) →
+    factor_tested n sized l u f ≡ then_rows (order_of n) (tabling n sized l u f a b)
 unfolding factor_tested factor_answer tabling tabled entered after
 in_order n sized l u f a b =
     let k = order_of n in
-    go (first_refusal (door_checks n sized true l u)) (first_refusal (check_factor k (at k f) ∷ [])) (tables k (low_bounds k l) (high_bounds k u) (at k f))
+    go (first_refusal (door_checks n sized true l u)) (first_refusal (check_factor k (at k f) ∷ []))
+    (tables k (low_bounds k l) (high_bounds k u) (at k f))
     (ap Ok (rows-of-tables k (at k f) (low_bounds k l) (high_bounds k u)))
   where
     go : (c d : Checked) (t : Tabled) {x : Result FactorAnswer Refusal} → x ≡ then_rows (order_of n) t →
@@ -82,14 +88,15 @@ lent-sized size l u f a b p q =
     let z = sizes_ok size size l u f in
     sym (ap (λ (y : Bool). z && y) (and_of (eq-eqb a size p) (eq-eqb b size q)) ∙ and-true z)
 
--- the two acts: the factor test is the residual, into any two lent tables of the size that belongs to n, and then the row test over what they
--- are left with, refusals with it
+-- the two acts: the factor test is the residual, into any two lent tables of the size that belongs to n, and then the row test over
+-- what they are left with, refusals with it
 pub acts_in_order : (n : ℤ) (l u f a b : List ℤ) → length a ≡ order_of n * order_of n → length b ≡ order_of n * order_of n →
     factor_test n l u f ≡ then_rows (order_of n) (residual_act n l u f a b)
 unfolding factor_test residual_act
 acts_in_order n l u f a b p q =
     in_order n (factor_sizes (order_of n) (length l) (length u) (length f)) l u f a b
-    ∙ ap (λ (z : Bool). then_rows (order_of n) (tabling n z l u f a b)) (lent-sized (order_of n * order_of n) (length l) (length u) (length f) (length a) (length b) p q)
+    ∙ ap (λ (z : Bool). then_rows (order_of n) (tabling n z l u f a b))
+    (lent-sized (order_of n * order_of n) (length l) (length u) (length f) (length a) (length b) p q)
 
 -- ---- 2^32 N - q P, of each member N over q, lies between q times the two tables
 pub residual_encloses : (n : ℕ) (R L U N : Matrix) (q : ℤ) → Member n L U N q → (i j : ℕ) → i < n → j < n →

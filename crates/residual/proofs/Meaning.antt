@@ -36,7 +36,8 @@ unfolding factor_entry
 entry_by i j x P f g h =
     go (compare i j) (leb→le i j) (nleb→lt i j) (eqb→eq i j) (λ e. subst (λ (k : ℕ). T (eqb i k)) e (eqb_refl i))
   where
-    go : (o : Ordering) → (T (is_le o) → i ≤ j) → (T (not (is_le o)) → j < i) → (T (compare_is_eq o) → i ≡ j) → (i ≡ j → T (compare_is_eq o)) →
+    go : (o : Ordering) → (T (is_le o) → i ≤ j) → (T (not (is_le o)) → j < i) → (T (compare_is_eq o) → i ≡ j) →
+        (i ≡ j → T (compare_is_eq o)) →
         P (elim o as (λ z. Bool) [
           | Ordering.lt ↦ within factor_range x
           | Ordering.eq ↦ le_z (pos 1) x && le_z x (pos factor_range)
@@ -73,12 +74,14 @@ offered-definite n R L U s t = accepted-definite n R L U t (shape_upper n R s)
 ok-same : {a b : FactorAnswer} → ◌≡◌ {A = Result FactorAnswer Refusal} (Ok a) (Ok b) → a ≡ b
 ok-same e = cc e
 
-accepted-means : (b : Bool) (w v : ℤ) → ◌≡◌ {A = Result FactorAnswer Refusal} (Ok (tested b w)) (Ok (FactorAnswer.Accepted v)) → (b ≡ true) × (w ≡ v)
+accepted-means : (b : Bool) (w v : ℤ) → ◌≡◌ {A = Result FactorAnswer Refusal} (Ok (tested b w)) (Ok (FactorAnswer.Accepted v)) →
+    (b ≡ true) × (w ≡ v)
 unfolding tested
 accepted-means true w v e = (refl, ap carried (ok-same e))
 accepted-means false w v e = absurd (false≢true cc)
 
-not_accepted-means : (b : Bool) (w v : ℤ) → ◌≡◌ {A = Result FactorAnswer Refusal} (Ok (tested b w)) (Ok (FactorAnswer.NotAccepted v)) → (b ≡ false) × (w ≡ v)
+not_accepted-means : (b : Bool) (w v : ℤ) → ◌≡◌ {A = Result FactorAnswer Refusal} (Ok (tested b w)) (Ok (FactorAnswer.NotAccepted v)) →
+    (b ≡ false) × (w ≡ v)
 unfolding tested
 not_accepted-means true w v e = absurd (false≢true cc)
 not_accepted-means false w v e = (refl, ap carried (ok-same e))

@@ -1,23 +1,20 @@
 -- Laws of check 6, of an offered factor.
 use mathlib.Core.Path.{◌≡◌, refl, sym, ◌∙◌}
-use mathlib.Core.Bool.{true, false, ◌&&◌}
+use mathlib.Core.Bool.{true, ◌&&◌}
 use mathlib.Core.Logic.{by_cases}
 use Prim.Native.Nat.{ℕ, ◌≤◌, ◌<◌, compare, Ordering}
 use native.Mathlib.Decide.{ℕ_discrete, dec_lt}
 use native.Mathlib.Omega.{arith}
-use borrow.Author.Tests.{eqb-true}
-use lib.Dec.{T, is_le, eqb, compare_is_eq, leb→le, le→leb, eqb→eq, eqb_refl}
+use lib.Dec.{T, is_le, compare_is_eq, leb→le, le→leb, eqb→eq, eqb_refl}
 use lib.IntN.{ℤ, pos}
-use lib.Signed.{◌≤ℤ◌, ◌<ℤ◌, le_z}
-use mir.Syntax.{w64}
-use mir.Val.{SFits, of_z}
+use lib.Signed.{◌≤ℤ◌, le_z}
 use Rattle.integers.specs.Numbers.{Within}
-use Rattle.integers.proofs.Parts.{≤ℤ_trans, le_z_true, le_z_false}
-use Rattle.integers.proofs.Machine.{within_in, same_bits, fits_literal}
+use Rattle.integers.proofs.Parts.{≤ℤ_trans}
+use Rattle.integers.proofs.Machine.{within_in}
 use Rattle.tables.specs.Ranges.{factor_range}
 use Rattle.tables.specs.Matrix.{Matrix}
 use Rattle.tables.specs.Checks.{within, same}
-use Rattle.tables.proofs.Checks.{all-at, and_left, and_right, and_first_false, le_of, within_of, bool_ext, same_of, same_true}
+use Rattle.tables.proofs.Checks.{all-at, and_left, and_right, le_of, within_of, same_of}
 use Rattle.residual.specs.FactorTest.{factor_entry, factor_shape}
 
 -- ---- an entry, by where it stands
@@ -49,19 +46,6 @@ module _ (i j : ℕ) (x : ℤ) where
       go Ordering.eq f = absurd (omega (arith, f tt))
       go Ordering.gt f = refl
 
-  -- on the diagonal: below 1, and from 1 up
-  pub factor-entry-low : i ≡ j → x <ℤ pos 1 → factor_entry i j x ≡ false
-  factor-entry-low h l = factor-entry_on h ∙ and_first_false _ (le_z_false l)
-
-  pub factor-entry-high : i ≡ j → pos 1 ≤ℤ x → factor_entry i j x ≡ le_z x (pos factor_range)
-  factor-entry-high h l = factor-entry_on h ∙ rw (le_z_true l)
-
--- x == 0, as the code asks it
-pub zero_test : {x : ℤ} → SFits w64 x → eqb (of_z w64 x) 0 ≡ same x (pos 0)
-zero_test {x} f =
-    bool_ext (eqb (of_z w64 x) 0) (same x (pos 0)) (λ e. same_true (same_bits f (fits_literal tt) (eqb-true (of_z w64 x) 0 e)))
-    (λ e. rw (same_of x (pos 0) e))
-
 -- ---- what check 6 says of a factor
 module _ (n : ℕ) (R : Matrix) (e : factor_shape n R ≡ true) where
   entry_ok : (i j : ℕ) → i < n → j < n → factor_entry i j (R i j) ≡ true
@@ -83,5 +67,6 @@ module _ (n : ℕ) (R : Matrix) (e : factor_shape n R ≡ true) where
   pub factor-within : (i j : ℕ) → i < n → j < n → Within factor_range (R i j)
   factor-within i j h k =
       by_cases (dec_lt i j) (λ l. within_of factor_range (R i j) (sym (factor-entry-above i j (R i j) l) ∙ entry_ok i j h k))
-      (λ l. by_cases (ℕ_discrete i j) (λ d. rw d (within_in (≤ℤ_trans (record { le = tt }) (factor-diagonal j k)) (factor-diagonal_range j k)))
+      (λ l. by_cases (ℕ_discrete i j)
+      (λ d. rw d (within_in (≤ℤ_trans (record { le = tt }) (factor-diagonal j k)) (factor-diagonal_range j k)))
       (λ d. rw (factor-below i j (omega arith) h) (record { size = omega arith })))

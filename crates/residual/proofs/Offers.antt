@@ -19,7 +19,8 @@ shape_ext n R S h = all_ext n _ _ (λ i k. all_ext n _ _ (λ j m. ap (factor_ent
 module _ (n : ℕ) (R S L U : Matrix) (same : (i j : ℕ) → i < n → j < n → R i j ≡ S i j) where
   residual_ext : (M : Matrix) (i j : ℕ) → i < n → j < n → residual n R M i j ≡ residual n S M i j
   unfolding residual gram
-  residual_ext M i j h k = ap (λ (z : ℤ). scale *ℤ M i j -ℤ z) (sum_ext n _ _ (λ l m. ap₂ (λ (u v : ℤ). u *ℤ v) (same l i m h) (same l j m k)))
+  residual_ext M i j h k =
+      ap (λ (z : ℤ). scale *ℤ M i j -ℤ z) (sum_ext n _ _ (λ l m. ap₂ (λ (u v : ℤ). u *ℤ v) (same l i m h) (same l j m k)))
 
   pub accepts_ext : accepts n R L U ≡ accepts n S L U
   unfolding accepts

@@ -33,7 +33,8 @@ module _ {a b : ℤ} (h : a ≤ℤ b) where
   pub radius-below : b ≤ℤ neg_ℤ a → neg_ℤ a ≡ max_ℤ (abs_ℤ a) (abs_ℤ b)
   radius-below p = ≤ℤ_antisym (≤ℤ_trans (neg-≤-abs a) (≤_maxˡ (abs_ℤ a) (abs_ℤ b))) (radius_is (neg_ℤ a) p (≤ℤ_refl (neg_ℤ a)))
 
-pub radius-within : {a b : ℤ} → a ≤ℤ b → Within residual_range a → Within residual_range b → Within residual_range (max_ℤ (abs_ℤ a) (abs_ℤ b))
+pub radius-within : {a b : ℤ} → a ≤ℤ b → Within residual_range a → Within residual_range b →
+    Within residual_range (max_ℤ (abs_ℤ a) (abs_ℤ b))
 radius-within {a} {b} h v w =
     within_in (≤ℤ_trans (record { le = tt }) (≤ℤ_trans (abs-nonneg a) (≤_maxˡ (abs_ℤ a) (abs_ℤ b))))
     (radius_is h (pos residual_range) (within-high w) (within-high (within-neg v)))
@@ -44,7 +45,8 @@ left A B i j = (A i i +ℤ radius A B i i) -ℤ sum j (radius A B i)
 
 module _ (A B : Matrix) (i : ℕ) where
   pub left-none : A i i +ℤ radius A B i i ≡ left A B i 0
-  left-none = order (A i i ∷ radius A B i i ∷ sum 0 (radius A B i) ∷ []) (sum_zero (radius A B i)) (search solver depth 40 fits 20000) (omega arith)
+  left-none =
+      order (A i i ∷ radius A B i i ∷ sum 0 (radius A B i) ∷ []) (sum_zero (radius A B i)) (search solver depth 40 fits 20000) (omega arith)
 
   pub left-more : (j : ℕ) → left A B i j -ℤ radius A B i j ≡ left A B i (suc j)
   left-more j =
@@ -87,16 +89,14 @@ unfolding rows_pass
 rows-over n A B =
     bool_ext (rows_pass n A B) (le_z (pos 0) (least_over n A B))
     (λ e. le_z_true {x = pos 0} {y = least_over n A B}
-    (over_by n A B (λ z. pos 0 ≤ℤ z) (≤ℤ_refl (pos 0)) (λ i h. le_of (pos 0) (row_over n A B i) (sym (row-passes n A B i) ∙ all-at _ n e i h))))
-    (λ e. all_of _ n (λ i h. row-passes n A B i ∙ le_z_true {x = pos 0} {y = row_over n A B i} (≤ℤ_trans (le_of (pos 0) (least_over n A B) e) (least-over-≤ n A B i h))))
+    (over_by n A B (λ z. pos 0 ≤ℤ z) (≤ℤ_refl (pos 0))
+    (λ i h. le_of (pos 0) (row_over n A B i) (sym (row-passes n A B i) ∙ all-at _ n e i h))))
+    (λ e. all_of _ n (λ i h. row-passes n A B i
+    ∙ le_z_true {x = pos 0} {y = row_over n A B i} (≤ℤ_trans (le_of (pos 0) (least_over n A B) e) (least-over-≤ n A B i h))))
 
 -- ---- the least over the rows before i
 abbrev pub so_far : ℕ → Matrix → Matrix → ℕ → ℤ
 so_far n A B i = least_of (i - 1) (row_over n A B)
-
-pub so_far_first : (n : ℕ) (A B : Matrix) → row_over n A B 0 ≡ so_far n A B 1
-unfolding least_of
-so_far_first n A B = refl
 
 pub so_far_more : (n : ℕ) (A B : Matrix) (i : ℕ) → 1 ≤ i → min_ℤ (so_far n A B i) (row_over n A B i) ≡ so_far n A B (suc i)
 unfolding least_of
@@ -105,11 +105,6 @@ so_far_more n A B (suc j) h =
     let e : suc j - 1 ≡ j = omega arith in
     let d : suc (suc j) - 1 ≡ suc j = omega arith in
     rw (e, d) refl
-
-pub so_far_all : (n : ℕ) (A B : Matrix) → 0 < n → so_far n A B n ≡ least_over n A B
-unfolding least_over
-so_far_all zero A B h = absurd (omega arith)
-so_far_all (suc m) A B h = let e : suc m - 1 ≡ m = omega arith in rw e
 
 -- ---- sizes
 module _ {n : ℕ} {A B : Matrix} (r : Ranged n A B) {i : ℕ} (hi : i < n) where
@@ -123,7 +118,9 @@ module _ {n : ℕ} {A B : Matrix} (r : Ranged n A B) {i : ℕ} (hi : i < n) wher
   pub left_fits : {j : ℕ} → j < n → SFits w64 (left A B i j -ℤ radius A B i j)
   left_fits {j} h =
       let small = r.order in
-      fits_within (within-- (within-- (within-+ (r.low i i hi hi) (each_within i hi)) (within-sum j residual_range _ (λ k l. each_within k (omega arith)))) (each_within j h)) (omega arith)
+      fits_within (within--
+      (within-- (within-+ (r.low i i hi hi) (each_within i hi)) (within-sum j residual_range _ (λ k l. each_within k (omega arith))))
+      (each_within j h)) (omega arith)
 
   row-over-within : Within over_range (row_over n A B i)
   unfolding row_over
@@ -131,7 +128,9 @@ module _ {n : ℕ} {A B : Matrix} (r : Ranged n A B) {i : ℕ} (hi : i < n) wher
       let small = r.order in
       within_more (omega arith)
       (within-- (r.low i i hi hi)
-      (within-sum n residual_range _ (λ j h. except_by i j (radius A B i j) (pos 0) (λ z w. Within residual_range z) (λ e. record { size = omega arith }) (λ e. each_within j h))))
+      (within-sum n residual_range _
+      (λ j h. except_by i j (radius A B i j) (pos 0) (λ z w. Within residual_range z) (λ e. record { size = omega arith })
+      (λ e. each_within j h))))
 
 -- R7.7: the size of what the rows have over, and that this is below 2^60
 pub least-over-within : {n : ℕ} {A B : Matrix} → Ranged n A B → Within over_range (least_over n A B)
@@ -154,7 +153,8 @@ module _ (n : ℕ) (A B C D : Matrix) (f : (i j : ℕ) → i < n → j < n → A
   unfolding row_over
   row-over_ext i h = ap₂ (λ (u v : ℤ). u -ℤ v) (f i i h h) (radii_ext i h)
 
-pub least-over_ext : (n : ℕ) (A B C D : Matrix) → ((i j : ℕ) → i < n → j < n → A i j ≡ C i j) → ((i j : ℕ) → i < n → j < n → B i j ≡ D i j) →
+pub least-over_ext : (n : ℕ) (A B C D : Matrix) → ((i j : ℕ) → i < n → j < n → A i j ≡ C i j) →
+    ((i j : ℕ) → i < n → j < n → B i j ≡ D i j) →
     least_over n A B ≡ least_over n C D
 unfolding least_over
 least-over_ext zero A B C D f g = refl

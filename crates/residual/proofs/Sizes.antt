@@ -39,7 +39,9 @@ residual_fits w v = fits_within (residual-within w v) (omega arith)
 module _ {n : ℕ} {f : List ℤ} (s : Shaped n f) where
   product_within : {i j : ℕ} (k : ℕ) → i ≤ j → j < n → k ≤ i → Within product_range (at n f k i *ℤ at n f k j)
   product_within {i} {j} k h m q =
-      within_more (omega arith) (within-* (factor-within n (at n f) s.shape k i (omega arith) (omega arith)) (factor-within n (at n f) s.shape k j (omega arith) m))
+      within_more (omega arith)
+      (within-* (factor-within n (at n f) s.shape k i (omega arith) (omega arith))
+      (factor-within n (at n f) s.shape k j (omega arith) m))
 
   pub product_fits : {i j : ℕ} (k : ℕ) → i ≤ j → j < n → k ≤ i → SFits w64 (at n f k i *ℤ at n f k j)
   product_fits k h m q = fits_within (product_within k h m q) (omega arith)
@@ -47,8 +49,10 @@ module _ {n : ℕ} {f : List ℤ} (s : Shaped n f) where
   products-within : {i j : ℕ} (k : ℕ) → i ≤ j → j < n → k ≤ suc i → Within (k * product_range) (sum k (λ l. at n f l i *ℤ at n f l j))
   products-within k h m q = within-sum k product_range _ (λ l p. product_within l h m (omega arith))
 
-  pub products_fit : {i j : ℕ} (k : ℕ) → i ≤ j → j < n → k ≤ i → SFits w64 (sum k (λ l. at n f l i *ℤ at n f l j) +ℤ at n f k i *ℤ at n f k j)
-  products_fit k h m q = let small = s.order in fits_within (within-+ (products-within k h m (omega arith)) (product_within k h m q)) (omega arith)
+  pub products_fit : {i j : ℕ} (k : ℕ) → i ≤ j → j < n → k ≤ i →
+      SFits w64 (sum k (λ l. at n f l i *ℤ at n f l j) +ℤ at n f k i *ℤ at n f k j)
+  products_fit k h m q =
+      let small = s.order in fits_within (within-+ (products-within k h m (omega arith)) (product_within k h m q)) (omega arith)
 
   pub gram-within : {i j : ℕ} → i ≤ j → j < n → Within gram_range (gram_at (at n f) i j)
   unfolding gram_at
@@ -59,7 +63,9 @@ module _ (n : ℕ) (R : Matrix) (o : n ≤ greatest_order) (e : factor_shape n R
   gram-small : (i j : ℕ) → i < n → j < n → Within gram_range (gram n R i j)
   unfolding gram
   gram-small i j h k =
-      within_more (omega arith) (within-sum n product_range _ (λ l m. within_more (omega arith) (within-* (factor-within n R e l i m h) (factor-within n R e l j m k))))
+      within_more (omega arith)
+      (within-sum n product_range _
+      (λ l m. within_more (omega arith) (within-* (factor-within n R e l i m h) (factor-within n R e l j m k))))
 
   pub residual-ranged : (L U : Matrix) → Bounds n L U → Ranged n (residual n R L) (residual n R U)
   unfolding residual

@@ -54,24 +54,6 @@ module _ {n : ℕ} (s : List ℤ) {i j : ℕ} (hi : i < n) (hj : j < n) (p : ℤ
       both_other s (i * n + j) (j * n + i) _ (a * n + b)
       (λ q. d (same_row i j a b hj k q) (same_column i j a b hj k q)) (λ q. e (same_row j i a b hi k q) (same_column j i a b hi k q))
 
--- ---- pair after pair, column after column
-module _ (n : ℕ) (R : Matrix) (t : List ℤ) where
-  pub column_none : (j : ℕ) → t ≡ turned_column n R t j 0
-  unfolding turned_column
-  column_none j = refl
-
-  pub column_more : (j i : ℕ) → turned_pair n (turned_column n R t j i) i j (gram_at R i j) ≡ turned_column n R t j (suc i)
-  unfolding turned_column
-  column_more j i = refl
-
-  pub columns-none : t ≡ turned n R t 0
-  unfolding turned
-  columns-none = refl
-
-  pub columns-more : (j : ℕ) → turned_column n R (turned n R t j) j (suc j) ≡ turned n R t (suc j)
-  unfolding turned
-  columns-more j = refl
-
 -- ---- the pairs of the columns before j are turned, and of column j those before i
 module _ (n : ℕ) (R : Matrix) (t : List ℤ) where
   abbrev entry : ℕ → ℕ → ℤ
@@ -96,13 +78,15 @@ module _ (n : ℕ) (R : Matrix) (t : List ℤ) where
   turned-next : {s : List ℤ} {j : ℕ} → Turned s j (suc j) → Turned s (suc j) 0
   turned-next {s} {j} w = record {
     kept = record { size = w.kept.size; rest = λ a b h k l m. w.kept.rest a b h k (omega arith) (λ e. absurd (omega arith)) };
-    before = λ a b h k l. by_cases (ℕ_discrete b j) (λ e. rw e (w.column a (omega arith) (omega arith))) (λ d. w.before a b h (omega arith) l);
+    before =
+        λ a b h k l. by_cases (ℕ_discrete b j) (λ e. rw e (w.column a (omega arith) (omega arith))) (λ d. w.before a b h (omega arith) l);
     column = λ a h k. absurd (omega arith);
   }
 
   -- the pair (i, j) of it
   module _ (z : n * n ≤ length t) (s : List ℤ) {j i : ℕ} (hi : i ≤ j) (hj : j < n) where
-    other : (a b : ℕ) → b < n → ((a ≡ i) → (b ≡ j) → ⊥) → ((a ≡ j) → (b ≡ i) → ⊥) → at n (turned_pair n s i j (gram_at R i j)) a b ≡ at n s a b
+    other : (a b : ℕ) → b < n → ((a ≡ i) → (b ≡ j) → ⊥) → ((a ≡ j) → (b ≡ i) → ⊥) →
+        at n (turned_pair n s i j (gram_at R i j)) a b ≡ at n s a b
     other = pair_other s (omega arith) hj (gram_at R i j)
 
     kept_more : Kept s j i → Kept (turned_pair n s i j (gram_at R i j)) j (suc i)
@@ -126,7 +110,12 @@ module _ (n : ℕ) (R : Matrix) (t : List ℤ) where
                 other b a (omega arith) (λ e q. omega arith) (λ e q. omega arith) ∙ v.1,
               );
           column = λ a h k.
-              by_cases (ℕ_discrete a i) (λ e. rw e (pair-first s (omega arith) hj (gram_at R i j) room ∙ own, pair-second s (omega arith) hj (gram_at R i j) room ∙ own))
+              by_cases (ℕ_discrete a i)
+              (λ e. rw e (
+                pair-first s (omega arith) hj (gram_at R i j) room ∙ own,
+                pair-second s (omega arith) hj (gram_at R i j) room
+                    ∙ own,
+              ))
               (λ d. let v = w.column a (omega arith) k in (
                 other a j hj (λ e q. omega arith) (λ e q. omega arith) ∙ v.0,
                 other j a (omega arith) (λ e q. omega arith) (λ e q. omega arith) ∙ v.1,
@@ -153,7 +142,8 @@ module _ (n : ℕ) (R : Matrix) (t : List ℤ) where
   gram-at : factor_shape n R ≡ true → (i j : ℕ) → i ≤ j → j < n → gram_at R i j ≡ gram n R i j
   unfolding gram gram_at
   gram-at e i j h k =
-      sym (sum_prefix n (suc i) (λ k. R k i *ℤ R k j) (omega arith) (λ k a b. ap (λ (z : ℤ). z *ℤ R k j) (factor-below n R e k i a b) ∙ zero-*ℤ (R k j)))
+      sym (sum_prefix n (suc i) (λ k. R k i *ℤ R k j) (omega arith) (λ k a b. ap (λ (z : ℤ). z *ℤ R k j) (factor-below n R e k i a b)
+      ∙ zero-*ℤ (R k j)))
 
   pub turned-whole : n * n ≤ length t → factor_shape n R ≡ true → ((i j : ℕ) → i < n → j < n → at n t i j ≡ at n t j i) →
       (i j : ℕ) → i < n → j < n → at n (turned n R t n) i j ≡ residual n R (at n t) i j
@@ -172,7 +162,8 @@ module _ {n : ℕ} (R : Matrix) {j : ℕ} (small : n ≤ greatest_order) (hj : j
       let w = column-kept n R t z hj (kept-none n R t) i (omega arith) in
       record { size = w.size ∙ (f i h).size; entry = rw (w.rest i j h hj (omega arith) (λ e. omega arith)) (f i h).entry }
 
-  pub columns_unturned : length t ≡ table_room → ((a b : ℕ) → a < n → b < n → Within entry_range (at n t a b)) → UnturnedColumn n (turned n R t j) j
+  pub columns_unturned : length t ≡ table_room → ((a b : ℕ) → a < n → b < n → Within entry_range (at n t a b)) →
+      UnturnedColumn n (turned n R t j) j
   columns_unturned e f i h =
       let z : n * n ≤ length t = omega (arith, table_fits small, e) in
       let w = (columns-turned n R t z j (omega arith)).kept in

@@ -16,7 +16,8 @@ use Rattle.residual.proofs.Turned.{columns-turned, turned-whole}
 use Rattle.residual.proofs.Rows.{least-over_ext}
 
 -- a table of order n that is copied into a buffer of its size
-copied-table : {n : ℕ} (M : Matrix) (t o : List ℤ) → n * n ≤ length t → length o ≡ n * n → ((i j : ℕ) → i < n → j < n → at n t i j ≡ M i j) →
+copied-table : {n : ℕ} (M : Matrix) (t o : List ℤ) → n * n ≤ length t → length o ≡ n * n →
+    ((i j : ℕ) → i < n → j < n → at n t i j ≡ M i j) →
     take (n * n) t ++ drop (n * n) o ≡ table n M
 unfolding table
 copied-table {n} M t o h e f =

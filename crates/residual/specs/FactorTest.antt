@@ -1,6 +1,7 @@
 -- The factor test, R5.3 and R7.4 of docs/RULES.md: checks 1 to 6, and then the residual test, with what the rows have over; and what its
 -- answer means (D3).
-use Rattle.std.specs.Prelude.{◌≡◌, Bool, ◌&&◌, true, false, ◌⊎◌, List, [], ◌∷◌, ℤ, pos, negsuc, nat_abs, ◌≤ℤ◌, ◌<ℤ◌, length, Result, Ok, Err}
+use Rattle.std.specs.Prelude.{◌≡◌, Bool, ◌&&◌, true, false, ◌⊎◌, List, [], ◌∷◌, ℤ, pos, negsuc, nat_abs, ◌≤ℤ◌, ◌<ℤ◌, length, Result, Ok}
+use Rattle.std.specs.Prelude.{Err}
 use Prim.Native.Nat.{Ordering}
 use Prim.Native.Nat.{ℕ, ◌*◌, ◌<◌, compare}
 use Rattle.std.specs.Int.Signed.{le_z}

@@ -59,6 +59,7 @@ pub fn over(n: usize, low: &mut Table, high: &mut Table, factor: &[i64]) -> i64
 }
 
 // Check 6, and the residual test, of bounds and a factor of order n. The residual is left in the scratch tables of the bounds.
+#[tactic(auto, unfolding(crate::specs::FactorTest::factor_answer, tables::specs::Answers::after, tables::specs::Checks::first_refusal))]
 pub fn answer(
     n: usize,
     low: &mut Table,

@@ -1,13 +1,14 @@
 // An offered factor: check 6 (R4.6 of docs/RULES.md).
 ghost use Rattle.std.specs.Prelude.{◌≡◌, ◌*◌, ◌≤◌, ◌<◌, length};
 ghost use Rattle.tables.specs.Ranges.{greatest_order};
-ghost use Rattle.tables.specs.Matrix.{at};
+ghost use Rattle.tables.specs.Matrix.{nth, at};
 ghost use Rattle.tables.specs.Checks.{all};
 ghost use Rattle.residual.specs.FactorTest.{factor_entry, factor_shape};
 
 use tables::FACTOR_RANGE;
 
 // Whether x may stand at (i, j): 0 below the diagonal, 1 to 2^26 on it, within ±2^26 above it.
+#[tactic(auto, unfolding(crate::specs::FactorTest::factor_entry, tables::specs::Checks::within, tables::specs::Checks::same))]
 fn entry_shape(i: usize, j: usize, x: i64) -> bool
     ensures { result ≡ factor_entry i j x }
 {
@@ -23,13 +24,13 @@ fn entry_shape(i: usize, j: usize, x: i64) -> bool
     x <= FACTOR_RANGE
 }
 
-// Whether row i of a factor of order n has its shape.
-fn row_shape(n: usize, factor: &[i64], i: usize) -> bool
-    requires { (n ≤ greatest_order) × (i < n) × (n * n ≤ length factor.now) }
-    ensures { result ≡ all n (λ j. factor_entry i j (at n factor.now i j)) }
+// Whether row i of a factor has its shape.
+#[tactic(auto, unfolding(tables::specs::Checks::all))]
+fn row_shape(i: usize, row: &[i64]) -> bool
+    ensures { result ≡ all (length row.now) (λ j. factor_entry i j (nth row.now j)) }
 {
-    for j in 0..n {
-        if !entry_shape(i, j, factor[i * n + j]) {
+    for (j, x) in row.iter().enumerate() {
+        if !entry_shape(i, j, *x) {
             return false;
         }
     }
@@ -37,12 +38,14 @@ fn row_shape(n: usize, factor: &[i64], i: usize) -> bool
 }
 
 // Whether a factor of order n has its shape.
+#[tactic(auto, unfolding(tables::specs::Checks::all, crate::specs::FactorTest::factor_shape))]
 pub fn factor_shape(n: usize, factor: &[i64]) -> bool
     requires { (n ≤ greatest_order) × (n * n ≤ length factor.now) }
     ensures { result ≡ factor_shape n (at n factor.now) }
 {
     for i in 0..n {
-        if !row_shape(n, factor, i) {
+        let row = &factor[i * n..i * n + n];
+        if !row_shape(i, row) {
             return false;
         }
     }

@@ -15,6 +15,7 @@ use tables::entering::{enter, order};
 use tables::{Refusal, TABLE_ROOM, Table};
 
 // P(i,j), for i ≤ j: the factor's entries below the diagonal are 0.
+#[tactic(auto, unfolding(crate::specs::Scratch::gram_at, integers::specs::Sum::sum))]
 fn product(n: usize, factor: &[i64], i: usize, j: usize) -> i64
     requires { Shaped n factor.now × (i ≤ j) × (j < n) }
     ensures { result ≡ gram_at (at n factor.now) i j }
@@ -27,6 +28,7 @@ fn product(n: usize, factor: &[i64], i: usize, j: usize) -> i64
 }
 
 // The entry at (i, j) of a bound becomes the residual's, in both places of the pair; p is P(i,j).
+#[tactic(auto, unfolding(tables::specs::Matrix::at))]
 fn turn_pair(n: usize, t: &mut Table, i: usize, j: usize, p: i64)
     requires { (n ≤ greatest_order) × (i < n) × (j < n) × Unturned n t.old i j × Within gram_range p }
     ensures { t.new ≡ turned_pair n t.old i j p }
@@ -39,6 +41,7 @@ fn turn_pair(n: usize, t: &mut Table, i: usize, j: usize, p: i64)
 }
 
 // The pairs of column j, down to the diagonal, of both tables.
+#[tactic(auto, unfolding(crate::specs::Scratch::turned_column))]
 fn turn_column(n: usize, factor: &[i64], j: usize, low: &mut Table, high: &mut Table)
     requires { Shaped n factor.now × (j < n) × UnturnedColumn n low.old j × UnturnedColumn n high.old j }
     ensures { (low.new ≡ turned_column n (at n factor.now) low.old j (suc j)) ×
@@ -52,6 +55,7 @@ fn turn_column(n: usize, factor: &[i64], j: usize, low: &mut Table, high: &mut T
 }
 
 // The residual of a factor that passed check 6, in the place of bounds that passed checks 3 to 5.
+#[tactic(auto, unfolding(crate::specs::Scratch::turned))]
 pub fn turn(n: usize, factor: &[i64], low: &mut Table, high: &mut Table)
     requires { Offer n low.old high.old factor.now }
     ensures { (low.new ≡ turned n (at n factor.now) low.old n) × (high.new ≡ turned n
@@ -63,6 +67,7 @@ pub fn turn(n: usize, factor: &[i64], low: &mut Table, high: &mut Table)
 }
 
 // Check 6, and then the residual of bounds of order n into both lent tables. Where 6 refuses, none of their entries is written.
+#[tactic(auto, unfolding(crate::specs::ResidualAct::tabled, tables::specs::Answers::after, tables::specs::Checks::first_refusal))]
 fn write_residual(
     n: usize,
     low: &mut Table,
@@ -80,19 +85,18 @@ fn write_residual(
     }) (tabled n (at n low.old) (at n high.old) (at n factor.now)
         low_residual.old high_residual.old) }
 {
-    let size = n * n;
-    let shaped = factor_shape(n, factor);
-    let mut written = 0;
-    if shaped {
-        turn(n, factor, low, high);
-        written = size;
+    if !factor_shape(n, factor) {
+        return Err(Refusal::Factor);
     }
-    tables::copy_numbers(written, low, low_residual);
-    tables::copy_numbers(written, high, high_residual);
-    if shaped { Ok(()) } else { Err(Refusal::Factor) }
+    turn(n, factor, low, high);
+    let size = n * n;
+    tables::copy_numbers(size, low, low_residual);
+    tables::copy_numbers(size, high, high_residual);
+    Ok(())
 }
 
 // Whether the tables of a call have their size.
+#[tactic(auto, unfolding(crate::specs::ResidualAct::residual_sizes))]
 fn sizes_ok(
     size: usize,
     low: usize,

@@ -17,6 +17,7 @@ fn radius(a: i64, b: i64) -> i64
 }
 
 // The radius at (i, j).
+#[tactic(auto, unfolding(crate::specs::Residual::radius, tables::specs::Matrix::at))]
 fn radius_at(n: usize, low: &Table, high: &Table, i: usize, j: usize) -> i64
     requires { Residue n low.now high.now × (i < n) × (j < n) }
     ensures { result ≡ radius (at n low.now) (at n high.now) i j }
@@ -39,6 +40,7 @@ fn row_over(n: usize, low: &Table, high: &Table, i: usize) -> i64
 }
 
 // What the rows of a residual have over: the least over all of them.
+#[tactic(auto, unfolding(crate::specs::Residual::least_over, integers::specs::Numbers::least_of))]
 pub fn least_over(n: usize, low: &Table, high: &Table) -> i64
     requires { Residue n low.now high.now × (0 < n) }
     ensures { result ≡ least_over n (at n low.now) (at n high.now) }

@@ -9,7 +9,8 @@ use Rattle.tables.specs.Entering.{Entered}
 use Rattle.tables.specs.declared.Refusal.{Refusal}
 use Rattle.tables.proofs.Checks.{sizes-of}
 use Rattle.tables.proofs.Answers.{exactly, handed_on}
-use Rattle.tables.proofs.Admission.{order_fits, order-positive, no-order, order-passed, order-refused, came-through, entered-refused, entered-passed}
+use Rattle.tables.proofs.Admission.{order_fits, order-positive, no-order, order-passed, order-refused, came-through, entered-refused}
+use Rattle.tables.proofs.Admission.{entered-passed}
 use Rattle.residual.specs.FactorTest.{factor_sizes, factor_tested, factor_test, Meaning}
 use Rattle.residual.specs.declared.factor_test.FactorAnswer.{FactorAnswer}
 use Rattle.residual.proofs.Meaning.{tested-means}
@@ -46,14 +47,19 @@ pub overflow_mul-m-2 : goal.overflow_mul-m-2
 overflow_mul-m-2 c = record { fits = omega (arith, order_fits _ (order-passed c.ranges.n c.in_ok-m.ensures).0) }
 
 pub enter-requires : goal.enter-requires
-enter-requires c =
-    ((λ s. rw (clean c.ranges.n) (let z = sizes-of _ _ _ _ _ (sym (sized (goal.at.enter-requires c).After-sizes_ok-sized) ∙ s) in (z.0, z.1))), refl, refl)
+enter-requires c = (
+  (λ s. rw (clean c.ranges.n) (let z = sizes-of _ _ _ _ _ (sym (sized (goal.at.enter-requires c).After-sizes_ok-sized) ∙ s) in
+      (z.0, z.1))),
+  refl,
+  refl,
+)
 
 pub returns-in_err-enter : goal.returns-in_err-enter
 unfolding factor_test factor_tested
 returns-in_err-enter c =
     let d = came (goal.at.returns-in_err-enter c).After-enter in
-    means (goal.at.returns-in_err-enter c).Start _ (rw (handed_on c.from_residual-in_err-enter.ensures.1) (entered-refused _ _ _ _ _ Err _ d c.in_err-enter.was))
+    means (goal.at.returns-in_err-enter c).Start _
+    (rw (handed_on c.from_residual-in_err-enter.ensures.1) (entered-refused _ _ _ _ _ Err _ d c.in_err-enter.was))
 
 pub answer-requires : goal.answer-requires
 answer-requires c =

@@ -19,15 +19,19 @@ abbrev sizes : Start → Bool
 sizes s =
     let a = s.args in
     let k = order_of a.n in
-    residual_sizes (k * k) (length a.low.now) (length a.high.now) (length a.factor.now) (length a.low_residual.now) (length a.high_residual.now)
+    residual_sizes (k * k) (length a.low.now) (length a.high.now) (length a.factor.now) (length a.low_residual.now)
+    (length a.high_residual.now)
 
 sized : (c : After-sizes_ok-sized) → let a = c.args in let k = order_of a.n in
-    c.sizes_ok-sized.result ≡ residual_sizes (k * k) (length a.low.now) (length a.high.now) (length a.factor.now) (length a.low_residual.now) (length a.high_residual.now)
+    c.sizes_ok-sized.result ≡
+    residual_sizes (k * k) (length a.low.now) (length a.high.now) (length a.factor.now) (length a.low_residual.now)
+    (length a.high_residual.now)
 sized c = rw (order-passed c.ranges.n c.in_ok-m.ensures).0 at c.sizes_ok-sized.ensures
 
 -- the door, with what it found
 came : (c : After-enter) → let a = c.args in let k = order_of a.n in
-    Entered a.n (residual_sizes (k * k) (length a.low.now) (length a.high.now) (length a.factor.now) (length a.low_residual.now) (length a.high_residual.now)) true a.low.now a.high.now
+    Entered a.n (residual_sizes (k * k) (length a.low.now) (length a.high.now) (length a.factor.now) (length a.low_residual.now)
+    (length a.high_residual.now)) true a.low.now a.high.now
     c.enter.result c.enter.new.l c.enter.new.u
 came c = rw (clean c.ranges.n, c.sizes_ok-sized.ensures, (order-passed c.ranges.n c.in_ok-m.ensures).0) at c.enter.ensures
 
@@ -48,8 +52,12 @@ pub overflow_mul-m : goal.overflow_mul-m
 overflow_mul-m c = record { fits = omega (arith, order_fits _ (order-passed c.ranges.n c.in_ok-m.ensures).0) }
 
 pub enter-requires : goal.enter-requires
-enter-requires c =
-    ((λ s. rw (clean c.ranges.n) (let z = residual-sizes-of _ _ _ _ _ _ (sym (sized (goal.at.enter-requires c).After-sizes_ok-sized) ∙ s) in (z.0, z.1))), refl, refl)
+enter-requires c = (
+  (λ s. rw (clean c.ranges.n) (let z = residual-sizes-of _ _ _ _ _ _ (sym (sized (goal.at.enter-requires c).After-sizes_ok-sized) ∙ s) in
+      (z.0, z.1))),
+  refl,
+  refl,
+)
 
 pub returns-in_err-enter : goal.returns-in_err-enter
 unfolding residual_act tabling

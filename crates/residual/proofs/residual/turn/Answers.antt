@@ -1,11 +1,7 @@
-use native.Mathlib.Numerals.{add-one}
 use Rattle.tables.specs.Matrix.{at}
 use Rattle.tables.proofs.CheckedTables.{low-within, high-within}
-use Rattle.residual.proofs.Turned.{columns-none, columns-more, columns_unturned}
+use Rattle.residual.proofs.Turned.{columns_unturned}
 use Rattle.residual.proofs.residual.turn.Goals as goal
-
-pub loop-j-init : goal.loop-j-init
-loop-j-init c = (columns-none _ _ _, columns-none _ _ _)
 
 pub turn_column-requires : goal.turn_column-requires
 turn_column-requires c =
@@ -15,14 +11,8 @@ turn_column-requires c =
     rw (m.0, m.1) (
       p.factor,
       h,
-      columns_unturned (at c.args.n c.args.factor.now) p.factor.order h c.args.low.now p.rooms.low-size (λ a b i j. low-within p.tables i j),
-      columns_unturned (at c.args.n c.args.factor.now) p.factor.order h c.args.high.now p.rooms.high-size (λ a b i j. high-within p.tables i j),
-    )
-
-pub loop-j-preserved : goal.loop-j-preserved
-loop-j-preserved c =
-    let l = c.loop-j in
-    let e = c.turn_column.ensures in (
-      rw (add-one, ← columns-more c.args.n (at c.args.n c.args.factor.now) c.args.low.now l.j, ← l.invariant.0) e.0,
-      rw (add-one, ← columns-more c.args.n (at c.args.n c.args.factor.now) c.args.high.now l.j, ← l.invariant.1) e.1,
+      columns_unturned (at c.args.n c.args.factor.now) p.factor.order h c.args.low.now p.rooms.low-size
+          (λ a b i j. low-within p.tables i j),
+      columns_unturned (at c.args.n c.args.factor.now) p.factor.order h c.args.high.now p.rooms.high-size
+          (λ a b i j. high-within p.tables i j),
     )
