@@ -101,16 +101,19 @@ module _ (t : List ℤ) (j : ℕ) where
 
 -- ---- a number that stands before the columns, and a column
 module _ (c : List ℤ) (v : ℤ) where
-  over-set : (r : List ℤ) (f d k : ℕ) → k < f → f ≤ d → k < length r → take f (set r k v) ++ (c ++ drop d (set r k v)) ≡ set (take f r ++ (c ++ drop d r)) k v
+  over-set : (r : List ℤ) (f d k : ℕ) → k < f → f ≤ d → k < length r →
+      take f (set r k v) ++ (c ++ drop d (set r k v)) ≡ set (take f r ++ (c ++ drop d r)) k v
   over-set [] f d k h m l = absurd (omega (arith, l))
   over-set (x ∷ r) zero d k h m l = absurd (omega (arith, h))
   over-set (x ∷ r) (suc f) zero k h m l = absurd (omega (arith, m))
   over-set (x ∷ r) (suc f) (suc d) zero h m l = refl
   over-set (x ∷ r) (suc f) (suc d) (suc k) h m l = ap (λ (y : List ℤ). x ∷ y) (over-set r f d k (omega arith) (omega arith) (omega arith))
 
-pub column_set : (r : List ℤ) (j k : ℕ) (c : List ℤ) (v : ℤ) → k < columns_at → length r ≡ run_numbers → laid_column (set r k v) j c ≡ set (laid_column r j c) k v
+pub column_set : (r : List ℤ) (j k : ℕ) (c : List ℤ) (v : ℤ) → k < columns_at → length r ≡ run_numbers →
+    laid_column (set r k v) j c ≡ set (laid_column r j c) k v
 unfolding laid_column laid_over
-column_set r j k c v h e = let f = columns_at + stride * j in over-set c v r f (f + length c) k (omega arith) (omega arith) (omega (arith, e))
+column_set r j k c v h e =
+    let f = columns_at + stride * j in over-set c v r f (f + length c) k (omega arith) (omega arith) (omega (arith, e))
 
 -- ---- what is done by a test
 module _ (b s : List ℕ) {x : Bool} (u v : Work) where
@@ -127,12 +130,14 @@ module _ (b : List ℕ) (r : List ℤ) (n j : ℕ) (t : List ℤ) where
   taken-last e = rw (column_taken, eq-eqb (suc j) n (sym (add-one j) ∙ e))
 
   pub taken_next : (j + 1 ≡ n → ⊥) →
-      column_taken b r n j (column_in t j Done) ≡ record { block = b; run = area_bytes (set (laid_column r j (column_of t j (j + 1))) column_at (pos (j + 1))) }
+      column_taken b r n j (column_in t j Done)
+      ≡ record { block = b; run = area_bytes (set (laid_column r j (column_of t j (j + 1))) column_at (pos (j + 1))) }
   unfolding column_taken column_in
   taken_next f = rw (column_taken, false_of (eqb (suc j) n) (λ e. f (add-one j ∙ eqb-true (suc j) n e)), add-one)
 
   pub taken_stop : (m : ℕ) →
-      column_taken b r n j (column_in t j (Stops m)) ≡ record { block = b; run = area_bytes (set (laid_column r j (column_of t j m)) stop_at (pos (m + 1))) }
+      column_taken b r n j (column_in t j (Stops m))
+      ≡ record { block = b; run = area_bytes (set (laid_column r j (column_of t j m)) stop_at (pos (m + 1))) }
   unfolding column_taken column_in
   taken_stop m = rw (length-column_of t j m, add-one)
 

@@ -6,7 +6,8 @@ use Rattle.std.specs.Prelude.{Err}
 use Rattle.tables.specs.Checks.{order_of}
 use Rattle.tables.specs.Entering.{Entered}
 use Rattle.tables.proofs.Answers.{handed_on}
-use Rattle.tables.proofs.Admission.{order_small, order_fits, order-positive, order-passed, order-refused, no-order, no-sizes, entered-refused, entered-passed}
+use Rattle.tables.proofs.Admission.{order_small, order_fits, order-positive, order-passed, order-refused}
+use Rattle.tables.proofs.Admission.{no-order, no-sizes, entered-refused, entered-passed}
 use Rattle.buffers.specs.Buffers.{table_of}
 use Rattle.buffers.proofs.Loading.{came-sized}
 use Rattle.bus.specs.Bus.{tables_sized}

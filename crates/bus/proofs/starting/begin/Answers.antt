@@ -24,8 +24,13 @@ returns c =
     let l = c.args.bounds.low.now in
     let u = c.args.bounds.high.now in
     let o = t.order in
+    let stored = rw (read_i64 n (omega (arith, o))) at c.store_number.ensures in
     let ordered : Area c.store_number.new.run (set blank_area order_at (pos n)) =
-    area_set {r = blank_area} (rw c.blank.ensures area_blank) order_at (pos n) (fits (omega (arith, o))) (rw (read_i64 n (omega (arith, o))) at c.store_number.ensures) in
-    let low = area-laid ordered low_at (take (n * n) l) (omega (arith, table_fits o, length-take-le (n * n) l t.low-length)) (front_fit n l t.low-length r.low) c.store_part.ensures in
-    let high = area-laid low high_at (take (n * n) u) (omega (arith, table_fits o, length-take-le (n * n) u t.high-length)) (front_fit n u t.high-length r.high) c.store_part-2.ensures in
+    area_set {r = blank_area} (rw c.blank.ensures area_blank) order_at (pos n) (fits (omega (arith, o))) stored in
+    let low =
+    area-laid ordered low_at (take (n * n) l) (omega (arith, table_fits o, length-take-le (n * n) l t.low-length))
+    (front_fit n l t.low-length r.low) c.store_part.ensures in
+    let high =
+    area-laid low high_at (take (n * n) u) (omega (arith, table_fits o, length-take-le (n * n) u t.high-length))
+    (front_fit n u t.high-length r.high) c.store_part-2.ensures in
     rw (area-read high, begun-columns) at c.store_matrix.ensures

@@ -61,7 +61,8 @@ returns-in-Ok c =
     let n = byte-read b (omega (arith, c.slice_known-3-1.given order)) in
     let h = c.in-Ok.ensures.held in
     let o = admitted-order _ _ _ (refused_start b) (begun_start b _ _ _) (rw n at c.in-Ok.ensures.answer) in
-    ap₂ bus c.start.ensures (rw (held_low h (length-numbers_of w64 _ _), held_high h (length-numbers_of w64 _ _), sym o.0) at c.begin.ensures) ∙ o.1
+    let begun = rw (held_low h (length-numbers_of w64 _ _), held_high h (length-numbers_of w64 _ _), sym o.0) at c.begin.ensures in
+    ap₂ bus c.start.ensures begun ∙ o.1
 
 pub returns-in-Err : goal.returns-in-Err
 unfolding started refused_start begun_start

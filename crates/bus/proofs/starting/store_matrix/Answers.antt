@@ -14,4 +14,5 @@ pub loop-j-preserved : goal.loop-j-preserved
 unfolding laid_columns
 loop-j-preserved c =
     let p = c.args.bounds.checked in
-    rw add-one (begun_more _ _ p.order (bounds-ranged p.bounds) c.scale.ensures (omega arith) c.loop-j.invariant (rw add-one at c.store_column.ensures))
+    let stored = rw add-one at c.store_column.ensures in
+    rw add-one (begun_more _ _ p.order (bounds-ranged p.bounds) c.scale.ensures (omega arith) c.loop-j.invariant stored)

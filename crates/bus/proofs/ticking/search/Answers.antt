@@ -18,7 +18,8 @@ use Rattle.tried.specs.Tried.{tried, first, listed}
 use Rattle.solved.specs.Solved.{solved}
 use Rattle.solved.specs.Stopped.{stopped_at}
 use Rattle.bus.specs.Area.{low_at, high_at, columns_at, area_of, table_at, columns_to}
-use Rattle.bus.specs.Running.{nothing, search as searching, passes, stop_safe, search_safe, search_work, settled, search_verdict, listed_shows, worked}
+use Rattle.bus.specs.Running.{nothing, search as searching, passes, stop_safe, search_safe, search_work}
+use Rattle.bus.specs.Running.{settled, search_verdict, listed_shows, worked}
 use Rattle.bus.specs.Required.{TablesLoaded}
 use Rattle.bus.proofs.Loaded.{loaded-columns, stop_padded, stopped-padded}
 use Rattle.bus.proofs.Worked.{safe_stopped, worked-yes, worked-no}
@@ -36,7 +37,8 @@ passed (Ok _) e = refl
 passed (Err r) e = cc
 
 -- the columns that are loaded, and what the test found of them
-module _ (s : List ℕ) (n j m : ℕ) {t : List ℤ} (h : j < greatest_order) (q : Over (stride * (j + 1)) (take (stride * (j + 1)) (drop columns_at (area_of s))) t) {r : Bool} (e : r ≡ stop_safe t j m) where
+module _ (s : List ℕ) (n j m : ℕ) {t : List ℤ} (h : j < greatest_order)
+    (q : Over (stride * (j + 1)) (take (stride * (j + 1)) (drop columns_at (area_of s))) t) {r : Bool} (e : r ≡ stop_safe t j m) where
   abbrev low : List ℤ
   low = table_at n (area_of s) low_at
 
@@ -80,12 +82,15 @@ module _ (s : List ℕ) (n j m : ℕ) {t : List ℤ} (h : j < greatest_order) (q
 
 pub returns-then-not-stop_safe : goal.returns-then-not-stop_safe
 returns-then-not-stop_safe c =
-    let a = c.args in unsafe a.run.now a.n a.j a.m (omega (arith, c.requires.2, c.requires.3)) c.load_part.ensures c.stop_safe.ensures a.block.now c.if-not-stop_safe.true
+    let a = c.args in
+    unsafe a.run.now a.n a.j a.m (omega (arith, c.requires.2, c.requires.3)) c.load_part.ensures c.stop_safe.ensures a.block.now
+    c.if-not-stop_safe.true
 
 pub returns-then-is_err : goal.returns-then-is_err
 returns-then-is_err c =
     let a = c.args in
-    barred a.run.now a.n a.j a.m (omega (arith, c.requires.2, c.requires.3)) c.load_part.ensures c.stop_safe.ensures a.block.now c.if-not-stop_safe.false c.load_tables.ensures (sym c.is_err.ensures.value ∙ c.if-is_err.true)
+    barred a.run.now a.n a.j a.m (omega (arith, c.requires.2, c.requires.3)) c.load_part.ensures c.stop_safe.ensures a.block.now
+    c.if-not-stop_safe.false c.load_tables.ensures (sym c.is_err.ensures.value ∙ c.if-is_err.true)
 
 pub slice_bounds-bounds-end : goal.slice_bounds-bounds-end
 slice_bounds-bounds-end c = sym c.load_tables.ensures.rooms.low-size
@@ -103,11 +108,12 @@ first_listed-requires c =
 
 -- what is settled, by what was found
 verdict : (c : After-first_listed) → let a = c.args in
-    settled (search_verdict (listed a.n c.first_listed.result)) a.block.now ≡ worked a.block.now a.run.now (search_work (area_of a.run.now) a.n a.j a.m)
+    settled (search_verdict (listed a.n c.first_listed.result)) a.block.now
+    ≡ worked a.block.now a.run.now (search_work (area_of a.run.now) a.n a.j a.m)
 verdict c =
     let a = c.args in
-    settles a.run.now a.n a.j a.m (omega (arith, c.requires.2, c.requires.3)) c.load_part.ensures c.stop_safe.ensures a.block.now c.if-not-stop_safe.false c.load_tables.ensures (passed _ (sym c.is_err.ensures.value ∙ c.if-is_err.false))
-    _ c.first_listed.ensures
+    settles a.run.now a.n a.j a.m (omega (arith, c.requires.2, c.requires.3)) c.load_part.ensures c.stop_safe.ensures a.block.now
+    c.if-not-stop_safe.false c.load_tables.ensures (passed _ (sym c.is_err.ensures.value ∙ c.if-is_err.false)) _ c.first_listed.ensures
 
 pub returns-in-Some : goal.returns-in-Some
 unfolding listed search_verdict

@@ -17,7 +17,7 @@ use Rattle.tables.specs.Checks.{ordered, order_of}
 use Rattle.tables.proofs.Checks.{and_first_false}
 use Rattle.tables.proofs.Admission.{order_small, order-passed, order-refused}
 use Rattle.bus.specs.Area.{order_at, column_at, stop_at, area_of}
-use Rattle.bus.specs.Running.{nothing, work_at, work_of, worked}
+use Rattle.bus.specs.Running.{Work, nothing, work_at, work_of, worked}
 use Rattle.bus.proofs.Worked.{nat_abs-below, worked-yes, worked-no}
 use Rattle.bus.proofs.ticking.step.Goals as goal
 
@@ -26,7 +26,8 @@ read : {x y : ℤ} → mag x < 2 ^ 63 → x ≡ y → to_z w64 (of_z w64 x) ≡ 
 read h e = clean_element _ h ∙ e
 
 -- the order
-module _ (s : List ℕ) {x : ℤ} {n : ℕ} (h : mag x < 2 ^ 63) (e : x ≡ nth (area_of s) order_at) (o : Ok n ≡ ordered (to_z w64 (of_z w64 x))) where
+module _ (s : List ℕ) {x : ℤ} {n : ℕ} (h : mag x < 2 ^ 63) (e : x ≡ nth (area_of s) order_at)
+    (o : Ok n ≡ ordered (to_z w64 (of_z w64 x))) where
   order : n ≡ order_of (nth (area_of s) order_at)
   order = (order-passed (record { sfits = h }) o).0 ∙ ap order_of e
 
@@ -34,7 +35,8 @@ module _ (s : List ℕ) {x : ℤ} {n : ℕ} (h : mag x < 2 ^ 63) (e : x ≡ nth 
   small = omega (arith, order, order_small (nth (area_of s) order_at))
 
   -- the column, from 0 up, and below the order or not
-  module _ {y : ℤ} (k : mag y < 2 ^ 63) (f : y ≡ nth (area_of s) column_at) (q : lt_z (to_z w64 (of_z w64 y)) (pos 0) ≡ false) {b : Bool} (t : lt_z (to_z w64 (of_z w64 y)) (to_z w64 n) ≡ b) where
+  module _ {y : ℤ} (k : mag y < 2 ^ 63) (f : y ≡ nth (area_of s) column_at)
+      (q : lt_z (to_z w64 (of_z w64 y)) (pos 0) ≡ false) {b : Bool} (t : lt_z (to_z w64 (of_z w64 y)) (to_z w64 n) ≡ b) where
     up : pos 0 ≤ℤ nth (area_of s) column_at
     up = lt_fails (rw (read k f) at q)
 
@@ -54,7 +56,8 @@ under s k f t = and_first_false _ (le_z_false {x = pos 0} {y = nth (area_of s) c
 
 -- nor is a number from 0 up below 0
 none-below : (j : ℤ) → (le_z (pos 0) j && lt_z j (pos 0)) ≡ false
-none-below (pos k) = ap (λ (b : Bool). b && lt_z (pos k) (pos 0)) (le_z_true {x = pos 0} {y = pos k} (pos_nonneg k)) ∙ le-ltb k 0 (omega arith)
+none-below (pos k) =
+    ap (λ (b : Bool). b && lt_z (pos k) (pos 0)) (le_z_true {x = pos 0} {y = pos k} (pos_nonneg k)) ∙ le-ltb k 0 (omega arith)
 none-below (negsuc k) = refl
 
 -- what is done then
@@ -62,13 +65,16 @@ module _ (b s : List ℕ) where
   abbrev test : Bool
   test = le_z (pos 0) (nth (area_of s) column_at) && lt_z (nth (area_of s) column_at) (pos (order_of (nth (area_of s) order_at)))
 
+  abbrev next : Work
+  next = work_at (area_of s) (order_of (nth (area_of s) order_at)) (nat_abs (nth (area_of s) column_at)) (nth (area_of s) stop_at)
+
   idle : test ≡ false → record { block = b; run = s } ≡ worked b s (work_of (area_of s))
   unfolding work_of worked
-  idle e = worked-no b s (work_at (area_of s) (order_of (nth (area_of s) order_at)) (nat_abs (nth (area_of s) column_at)) (nth (area_of s) stop_at)) nothing e
+  idle e = worked-no b s next nothing e
 
-  busy : test ≡ true → worked b s (work_at (area_of s) (order_of (nth (area_of s) order_at)) (nat_abs (nth (area_of s) column_at)) (nth (area_of s) stop_at)) ≡ worked b s (work_of (area_of s))
+  busy : test ≡ true → worked b s next ≡ worked b s (work_of (area_of s))
   unfolding work_of
-  busy e = worked-yes b s (work_at (area_of s) (order_of (nth (area_of s) order_at)) (nat_abs (nth (area_of s) column_at)) (nth (area_of s) stop_at)) nothing e
+  busy e = worked-yes b s next nothing e
 
 pub returns-in_default : goal.returns-in_default
 returns-in_default c =
