@@ -197,7 +197,7 @@ pub mended-after : (cs : List Check) {ds : List Check} {n : ℕ} {l u : List ℤ
 mended-after cs {ds} e m = record { answered = m.answered ∙ sym (more-checks cs ds e); low-size = m.low-size; high-size = m.high-size; low = m.low; high = m.high }
 
 -- ---- checks 1 to 5 of what was laid into the scratch tables l₀ and u₀, and these mended in their place
-pub entered-laid : (n : ℤ) (sized others : Bool) {l u l₀ u₀ l' u' : List ℤ} {r : Checked} → Exact (order_of n) sized (length l) (length u) → Laid (order_of n) sized l u l₀ u₀ →
+pub entered-laid : (n : ℤ) (sized others : Bool) {l u l₀ u₀ l' u' : List ℤ} {r : Checked} → Exact (λ k. k) (order_of n) sized (length l) (length u) → Laid (order_of n) sized l u l₀ u₀ →
     Mended (door_checks n sized others l₀ u₀) (order_of n) l₀ u₀ r l' u' → Entered n sized others l u r l' u'
 entered-laid n sized others {l} {u} {l₀} {u₀} {l'} {u'} {r} x p a = go (first_refusal (entry_checks n sized)) refl
   where

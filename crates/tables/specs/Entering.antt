@@ -25,9 +25,9 @@ unfoldable pub entered : {A : Type 0} → (Refusal → A) → ℤ → Bool → B
 entered refused n sized others l u a = after refused (first_refusal (door_checks n sized others l u)) a
 
 -- ---- what the code of the door asks and leaves
--- where the buffers have their sizes, both tables have n² numbers
-abbrev pub Exact : ℕ → Bool → ℕ → ℕ → Type 0
-Exact n sized l u = sized ≡ true → (l ≡ n * n) × (u ≡ n * n)
+-- where the buffers have their sizes, both tables have the elements that n² numbers take
+abbrev pub Exact : (ℕ → ℕ) → ℕ → Bool → ℕ → ℕ → Type 0
+Exact taken n sized l u = sized ≡ true → (l ≡ taken (n * n)) × (u ≡ taken (n * n))
 
 -- a scratch table of zeros
 abbrev pub Blank : List ℤ → Type 0

@@ -8,6 +8,7 @@ pub mod Checks
 pub mod Pairs
 pub mod Answers
 pub mod Bounds
+pub mod Elements
 pub mod Entering
 pub mod Problem
 pub mod Bounded

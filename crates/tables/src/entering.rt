@@ -4,8 +4,9 @@ ghost use Rattle.tables.specs.Checks.{ordered, order_of, first_refusal, entry_ch
 ghost use Rattle.tables.specs.Ranges.{greatest_order, table_room};
 ghost use Rattle.tables.specs.Entering.{door_checks, Exact, Blank, Rooms, Laid, Mended, Entered};
 
+use crate::elements::Element;
 use crate::mending::mend_bounds;
-use crate::{Refusal, Table, copy_numbers, order_ok};
+use crate::{Refusal, Table, order_ok};
 
 // The order of a call (check 1): n, where it is an order.
 pub fn order(n: i64) -> Result<usize, Refusal>
@@ -64,30 +65,38 @@ fn check_door(
     check_laid(order_of(n), within, l, u)
 }
 
-// Bounds of order n as numbers into l and u, where the buffers have their sizes.
-fn copy_bounds(n: usize, sized: bool, low: &[i64], high: &[i64], l: &mut Table, u: &mut Table)
-    requires { (n ≤ greatest_order) × Exact n sized (length low.now) (length high.now) × Blank l.old × Blank u.old }
-    ensures { Laid n sized low.now high.now l.new u.new }
+// The bounds of order n that two buffers hold, into l and u, where the buffers have their sizes.
+fn load_bounds<E: Element>(
+    n: usize,
+    sized: bool,
+    low: &[E],
+    high: &[E],
+    l: &mut Table,
+    u: &mut Table,
+)
+    requires { (n ≤ greatest_order) × Exact E.taken n sized (length low.now) (length high.now) × Blank l.old × Blank u.old }
+    ensures { Laid n sized (E.numbers low.now (n * n)) (E.numbers high.now (n * n)) l.new u.new }
 {
     if sized {
-        copy_numbers(n * n, low, l);
-        copy_numbers(n * n, high, u);
+        E::load(low, n * n, l);
+        E::load(high, n * n, u);
     }
 }
 
-// Enters with bounds as numbers: they go into l and u, checks 1 to 5 are made, and what passes is mended there.
-pub fn enter(
+// Enters with bounds in two buffers: they go into l and u, checks 1 to 5 are made, and what passes is mended there.
+pub fn enter<E: Element>(
     n: i64,
     sized: bool,
     within: bool,
-    low: &[i64],
-    high: &[i64],
+    low: &[E],
+    high: &[E],
     l: &mut Table,
     u: &mut Table,
 ) -> Result<(), Refusal>
-    requires { Exact (order_of n) sized (length low.now) (length high.now) × Blank l.old × Blank u.old }
-    ensures { Entered n sized within low.now high.now result l.new u.new }
+    requires { Exact E.taken (order_of n) sized (length low.now) (length high.now) × Blank l.old × Blank u.old }
+    ensures { Entered n sized within (E.numbers low.now (order_of n * order_of n)) (E.numbers high.now (order_of n * order_of n)) result
+        l.new u.new }
 {
-    copy_bounds(order_of(n), sized, low, high, l, u);
+    load_bounds(order_of(n), sized, low, high, l, u);
     check_door(n, sized, within, l, u)
 }

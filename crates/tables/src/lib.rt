@@ -12,6 +12,7 @@ ghost use Rattle.tables.specs.Checks.{first_refusal};
 ghost use Rattle.tables.specs.Pairs.{entry_bounded, pair_even, pair_meets, pair_bounded, row_bounded, tables_bounded};
 
 pub mod bounded;
+pub mod elements;
 pub mod entering;
 pub mod mending;
 pub mod problem;

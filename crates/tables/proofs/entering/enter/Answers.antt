@@ -2,23 +2,23 @@ use mathlib.Core.Path.{◌≡◌}
 use Rattle.integers.proofs.Machine.{clean}
 use Rattle.tables.specs.Checks.{order_of}
 use Rattle.tables.proofs.Admission.{order_small, entered-laid}
-use Rattle.tables.proofs.entering.enter.Lts as lts
-use Rattle.tables.proofs.entering.enter.Tie as tie
-use Rattle.tables.proofs.entering.enter.Reads as reads
+use Rattle.tables.proofs.entering.enter.Given.{Over}
 use Rattle.tables.proofs.entering.enter.Goals as goal
+use Rattle.tables.proofs.entering.enter.Goals.{After-order_of}
 
-abbrev After-order_of : Type 0
-After-order_of = lts.After-order_of tie.the-claims reads.Pre reads.Post
+order : (g : Over) (c : After-order_of g) → c.order_of.result ≡ order_of c.args.n
+order g c = rw (clean c.ranges.n) at c.order_of.ensures
 
-order : (c : After-order_of) → c.order_of.result ≡ order_of c.args.n
-order c = rw (clean c.ranges.n) at c.order_of.ensures
-
-pub copy_bounds-requires : goal.copy_bounds-requires
-copy_bounds-requires c = let p = c.requires in rw (order c.before.before) (order_small _, p.0, p.1, p.2)
+pub load_bounds-requires : goal.load_bounds-requires
+load_bounds-requires g c =
+    let p = c.requires in
+    rw (order g (goal.at.load_bounds-requires g c).After-order_of) (order_small _, p.0, p.1, p.2)
 
 pub check_door-requires : goal.check_door-requires
-check_door-requires c = c.copy_bounds.ensures.rooms
+check_door-requires g c = c.load_bounds.ensures.rooms
 
 pub returns : goal.returns
-returns c =
-    entered-laid _ _ _ c.requires.0 (rw (order c.before.before.before.before.before.before) at c.copy_bounds.ensures) (rw (clean c.ranges.n) at c.check_door.ensures)
+returns g c =
+    let whole = g.E.Element.laws in
+    entered-laid _ _ _ (λ s. let z = c.requires.0 s in (whole _ _ z.0, whole _ _ z.1))
+    (rw (order g (goal.at.returns g c).After-order_of) at c.load_bounds.ensures) (rw (clean c.ranges.n) at c.check_door.ensures)
