@@ -54,6 +54,17 @@ laid-zeros room x h = record { rest = room - length x; list = ap (λ (z : List �
         ap (λ (m : ℕ). drop k (zeros m)) e ∙ ap (drop k) (sym (replicate-append-replicate k (n - k) (pos 0)))
         ∙ drop_at (zeros k) (zeros (n - k)) k (length-replicate k (pos 0))
 
+-- numbers that were loaded over zeros
+module _ (room : ℕ) {k : ℕ} (x : List ℤ) {o t : List ℤ} (b : o ≡ zeros room) (e : length x ≡ k) (h : k ≤ room) (q : t ≡ take k x ++ drop k o) where
+  loaded_front : t ≡ x ++ drop k (zeros room)
+  loaded_front = q ∙ rw (b, take_all k x (omega (arith, e))) refl
+
+  pub loaded : Padded x t
+  loaded = rw (loaded_front, ← e) (laid-zeros room x (omega (arith, e)))
+
+  pub loaded_room : length t ≡ room
+  loaded_room = ap length loaded_front ∙ rw (length-append, e, length-drop, length-replicate) (omega arith)
+
 -- into a scratch table
 pub blank_length : {o : List ℤ} → Blank o → length o ≡ table_room
 blank_length b = ap length b ∙ length-replicate table_room (pos 0)

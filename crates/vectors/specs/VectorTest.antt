@@ -26,13 +26,19 @@ vector_tested n sized l u v =
     let k : ℕ = order_of n in
     entered Err n sized true l u (vector_answer k (low_bounds k l) (high_bounds k u) (nth v))
 
--- 2, R4.2: each lent buffer has the size that belongs to n
-abbrev pub vector_sizes : ℕ → ℕ → ℕ → ℕ → Bool
-vector_sizes n = sizes_ok (n * n) n
+-- 2, R4.2: each lent buffer has the size that belongs to n; `taken` says how many elements so many numbers take
+abbrev pub vector_sizes : (ℕ → ℕ) → ℕ → ℕ → ℕ → ℕ → Bool
+vector_sizes taken n = sizes_ok (taken (n * n)) (taken n)
 
--- the vector test, of anything at all
+-- the vector test of the numbers that buffers of any length hold
+unfoldable pub vector_act : {A : Type 0} → (ℕ → ℕ) → (List A → ℕ → List ℤ) → ℤ → List A → List A → List A → Result Bool Refusal
+vector_act taken numbers n l u v =
+    let k : ℕ = order_of n in
+    vector_tested n (vector_sizes taken k (length l) (length u) (length v)) (numbers l (k * k)) (numbers u (k * k)) (numbers v k)
+
+-- of numbers themselves
 unfoldable pub vector_test : ℤ → List ℤ → List ℤ → List ℤ → Result Bool Refusal
-vector_test n l u v = vector_tested n (vector_sizes (order_of n) (length l) (length u) (length v)) l u v
+vector_test n l u v = vector_act (λ k. k) (λ x k. x) n l u v
 
 -- what an answer means: 'yes' that some member M has x'Mx ≤ 0, for this x, which is nonzero; 'no' that none has
 pub record Meaning (r : Result Bool Refusal) (n : ℕ) (l u v : List ℤ) : Type 0 where
