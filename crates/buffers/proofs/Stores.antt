@@ -16,14 +16,8 @@ use Rattle.words.proofs.Sign.{narrow-of}
 use Rattle.words.proofs.Lists.{append-drop_end}
 use Rattle.tables.specs.Matrix.{nth, tabulate}
 use Rattle.tables.proofs.Matrix.{nth-tabulate}
+use Rattle.tables.proofs.Spelled.{bytes_of_ext}
 use Rattle.buffers.specs.Buffers.{number_of, bytes_of_number}
-
--- the bytes of the first k numbers rest on these alone
-bytes_of_ext : (w : Width) (a b : List ℤ) (k : ℕ) → ((i : ℕ) → i < k → nth a i ≡ nth b i) → bytes_of w a k ≡ bytes_of w b k
-unfolding bytes_of
-bytes_of_ext w a b zero h = refl
-bytes_of_ext w a b (suc k) h =
-    ap₂ (λ (x y : List ℕ). x ++ y) (bytes_of_ext w a b k (λ i l. h i (omega arith))) (ap (λ (z : ℤ). to_le_bytes (bytes w) (of_z w64 z)) (h k (omega arith)))
 
 -- a buffer of exactly their size is written whole
 pub numbers-stored : (s : List ℕ) (n : ℕ) (x : List ℤ) → length s ≡ n * bytes w64 → bytes_of w64 x n ++ drop (n * bytes w64) s ≡ bytes_of w64 (tabulate n (nth x)) n

@@ -10,3 +10,4 @@ pub mod Problems
 pub mod Forms
 pub mod Dominance
 pub mod Triangular
+pub mod Spelled

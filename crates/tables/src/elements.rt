@@ -2,8 +2,8 @@
 ghost use Rattle.std.specs.Prelude.{◌≡◌, ◌++◌, ◌*◌, ◌^◌, ◌≤◌, List, ℕ, ℤ, length, take, drop};
 ghost use mir.Syntax.{w64};
 ghost use mir.Val.{bytes};
-ghost use Rattle.tables.specs.Elements.{WholeBuffers};
-ghost use Rattle.words.proofs.Laws.{length-numbers_of};
+ghost use Rattle.tables.specs.Elements.{BuffersWhole};
+ghost use Rattle.words.proofs.Laws.{length-numbers_of, length-bytes_of};
 ghost use Rattle.words.specs.Numbers.{numbers_of, bytes_of};
 
 use words::SIZE;
@@ -16,10 +16,10 @@ pub trait Element {
     // the numbers of a buffer, of which so many are asked for
     ghost numbers: { List Self → ℕ → List ℤ };
 
-    // the elements that the first numbers of a list are, so many of them
+    // the elements of a list of numbers, so many of them
     ghost elements: { List ℤ → ℕ → List Self };
 
-    ghost laws: { WholeBuffers taken numbers };
+    ghost laws: { BuffersWhole taken numbers elements };
 
     // How many elements so many numbers take.
     fn taken(count: usize) -> usize
@@ -34,7 +34,7 @@ pub trait Element {
     // The first numbers of x, count of them, to the front of a buffer.
     fn store(x: &[i64], count: usize, to: &mut [Self])
         requires { (count ≤ length x.now) × (taken count ≤ length to.old) }
-        ensures { to.new ≡ elements x.now count ++ drop (taken count) to.old };
+        ensures { to.new ≡ elements (take count x.now) count ++ drop (taken count) to.old };
 }
 
 impl Element for i64 {
@@ -42,9 +42,9 @@ impl Element for i64 {
 
     ghost numbers = { λ x k. x };
 
-    ghost elements = { λ x k. take k x };
+    ghost elements = { λ x k. x };
 
-    ghost laws = { λ b k e. e };
+    ghost laws = { record { numbers_whole = λ b k e. e; elements_whole = λ x k e. e } };
 
     fn taken(count: usize) -> usize {
         count
@@ -66,7 +66,7 @@ impl Element for u8 {
 
     ghost elements = { bytes_of w64 };
 
-    ghost laws = { λ b k e. length-numbers_of w64 b k };
+    ghost laws = { record { numbers_whole = λ b k e. length-numbers_of w64 b k; elements_whole = λ x k e. length-bytes_of w64 x k } };
 
     fn taken(count: usize) -> usize {
         count * SIZE

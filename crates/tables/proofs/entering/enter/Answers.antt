@@ -19,6 +19,6 @@ check_door-requires g c = c.load_bounds.ensures.rooms
 
 pub returns : goal.returns
 returns g c =
-    let whole = g.E.Element.laws in
+    let whole = g.E.Element.laws.numbers_whole in
     entered-laid _ _ _ (λ s. let z = c.requires.0 s in (whole _ _ z.0, whole _ _ z.1))
     (rw (order g (goal.at.returns g c).After-order_of) at c.load_bounds.ensures) (rw (clean c.ranges.n) at c.check_door.ensures)

@@ -30,8 +30,8 @@ returns-then-sized g c =
     let numbers = g.E.Element.numbers in
     let x = numbers a.low.now (a.n * a.n) in
     let y = numbers a.high.now (a.n * a.n) in
-    let h = g.E.Element.laws _ _ z.0 in
-    let k = g.E.Element.laws _ _ z.1 in
+    let h = g.E.Element.laws.numbers_whole _ _ z.0 in
+    let k = g.E.Element.laws.numbers_whole _ _ z.1 in
     let l = copied-over x p.2 h c.load.ensures in
     let u = copied-over y p.3 k c.load-then-sized.ensures in
     record {

@@ -107,5 +107,5 @@ returns g c =
     let q = c.in_ok-enter.was in
     let h = d.held q in
     let z = sizes-of _ _ _ _ _ (came-through _ _ _ _ _ d q).sizes in
-    let v = loaded greatest_order (offered g s) refl (g.E.Element.laws _ _ z.2) (order_small _) (rw o at c.load.ensures) in
+    let v = loaded greatest_order (offered g s) refl (g.E.Element.laws.numbers_whole _ _ z.2) (order_small _) (rw o at c.load.ensures) in
     means g s _ ((rw (o, h.low, h.high, padded-nth v) at c.answer.ensures) ∙ entered-passed _ _ _ _ _ Err _ d q)
