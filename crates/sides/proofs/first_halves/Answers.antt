@@ -9,16 +9,8 @@ use Rattle.integers.proofs.Machine.{clean, clean_element, clean_result}
 use Rattle.tables.specs.Matrix.{nth}
 use Rattle.tables.proofs.Buffers.{filled_more}
 use Rattle.sides.proofs.HalfSides.{half_fits}
-use Rattle.sides.proofs.first_halves.Lts as lts
-use Rattle.sides.proofs.first_halves.Tie as tie
-use Rattle.sides.proofs.first_halves.Reads as reads
 use Rattle.sides.proofs.first_halves.Goals as goal
-
-abbrev After-ceil_div : Type 0
-After-ceil_div = lts.After-ceil_div tie.the-claims reads.Pre reads.Post goal.the-invariant-loop-k goal.the-decreases-loop-k
-
-abbrev After-least_root : Type 0
-After-least_root = lts.After-least_root tie.the-claims reads.Pre reads.Post goal.the-invariant-loop-k goal.the-decreases-loop-k
+use Rattle.sides.proofs.first_halves.Goals.{After-ceil_div, After-least_root-s}
 
 quotient : (c : After-ceil_div) →
     let s = c.args in
@@ -27,15 +19,18 @@ quotient c =
     let f = c.ranges in
     clean_result c.ceil_div ∙ c.ceil_div.ensures ∙ rw (clean f.t, clean_element _ c.ceil_div-arg-1.given)
 
-root : (c : After-least_root) → to_z w64 (of_z w64 c.least_root-s.result) ≡ least_root c.args.t c.args.b
+root : (c : After-least_root-s) → to_z w64 (of_z w64 c.least_root-s.result) ≡ least_root c.args.t c.args.b
 root c = let f = c.ranges in clean_result c.least_root-s ∙ c.least_root-s.ensures ∙ rw (clean f.t, clean f.b)
 
 pub overflow_add-y : goal.overflow_add-y
 overflow_add-y c =
-    rw (quotient c, root c.before.before.before.before) (half_fits c.requires.0 c.requires.1 c.loop-k-test.true)
+    let at = goal.at.overflow_add-y c in
+    rw (quotient at.After-ceil_div, root at.After-least_root-s) (half_fits c.requires.0 c.requires.1 c.loop-k-test.true)
 
 pub loop-k-preserved : goal.loop-k-preserved
 loop-k-preserved c =
     let order = c.requires.0.order in
+    let at = goal.at.loop-k-preserved c in
     rw (add-one, clean c.ranges.t, clean c.ranges.b)
-    (filled_more (omega arith) (clean (overflow_add-y c) ∙ rw (quotient c, root c.before.before.before.before)) (rw (clean c.ranges.t, clean c.ranges.b) at c.loop-k.invariant))
+    (filled_more (omega arith) (clean (overflow_add-y c) ∙ rw (quotient at.After-ceil_div, root at.After-least_root-s))
+    (rw (clean c.ranges.t, clean c.ranges.b) at c.loop-k.invariant))
