@@ -37,7 +37,8 @@ module _ (n : ℕ) (c : ℕ → ℤ) (D t : ℤ) (tk u g h : ℕ → ℤ) (p : (
   half-same : (k : ℕ) → k < n → half_side n D t g tk k ≡ half_side n D t h u k
   unfolding half_side
   half-same k l =
-      ap₂ (λ (y b : ℤ). smaller_half y (tk k) b) (first-same k l) second-same ∙ ap (λ (z : ℤ). smaller_half (first_half n D t h k) z (second_bound n D t h)) (p k l)
+      ap₂ (λ (y b : ℤ). smaller_half y (tk k) b) (first-same k l) second-same
+      ∙ ap (λ (z : ℤ). smaller_half (first_half n D t h k) z (second_bound n D t h)) (p k l)
 
   pub box_same : box_of n c D t tk g ≡ box_of n c D t u h
   unfolding box_of

@@ -19,10 +19,12 @@ product_sum-squares-requires c = square_terms c.requires.0
 pub ceil_div-requires : goal.ceil_div-requires
 unfolding bound
 ceil_div-requires c =
-    rw (clean c.ranges.t, clean_result c.product_sum-squares, c.product_sum-squares.ensures) (squares-within c.requires.0, c.requires.0.step)
+    rw (clean c.ranges.t, clean_result c.product_sum-squares, c.product_sum-squares.ensures)
+    (squares-within c.requires.0, c.requires.0.step)
 
 pub returns : goal.returns
 unfolding bound
 returns c =
     let p = c.product_sum-squares in
-    clean (overflow_add-result c) ∙ rw (clean_result c.ceil_div, c.ceil_div.ensures, clean c.ranges.d, clean c.ranges.t, clean_result p, p.ensures)
+    clean (overflow_add-result c)
+    ∙ rw (clean_result c.ceil_div, c.ceil_div.ensures, clean c.ranges.d, clean c.ranges.t, clean_result p, p.ensures)

@@ -11,7 +11,8 @@ returns-then-t-le0 c = let f = c.ranges in clean f.y ∙ half_flat _ _ _ (rw (cl
 
 pub least_root-z-requires : goal.least_root-z-requires
 least_root-z-requires c =
-    rw (clean c.ranges.b, clean c.ranges.t) (c.requires, <_suc (le_no {x = c.args.t} {y = pos 0} c.ranges.t (fits_literal tt) c.if-t-le0.false))
+    rw (clean c.ranges.b, clean c.ranges.t)
+    (c.requires, <_suc (le_no {x = c.args.t} {y = pos 0} c.ranges.t (fits_literal tt) c.if-t-le0.false))
 
 pub returns : goal.returns
 returns c =

@@ -14,4 +14,5 @@ overflow_add-result c =
 
 pub returns : goal.returns
 returns c =
-    clean (overflow_add-result c) ∙ rw (clean c.ranges.d, clean (overflow_mul-result c), clean_result c.product_sum-products, c.product_sum-products.ensures)
+    clean (overflow_add-result c)
+    ∙ rw (clean c.ranges.d, clean (overflow_mul-result c), clean_result c.product_sum-products, c.product_sum-products.ensures)
