@@ -35,7 +35,9 @@ checked_code k = answer_code (λ _. pos 0) k
 unfoldable pub test_stored : ℤ → List ℕ → List ℕ → List ℕ → List ℕ → StoredAnswer
 test_stored n l u f o =
     let k : ℕ = order_of n in
-    stored_over (factor_tested n (factor_buffers k (length l) (length u) (length f) (length o)) (table_of k l) (table_of k u) (table_of k f)) o
+    stored_over
+    (factor_tested n (factor_buffers k (length l) (length u) (length f) (length o)) (table_of k l) (table_of k u) (table_of k f))
+    o
 
 -- the number of the answer, and the buffer of what the rows have over as it is left
 pub record TestFactorResult : Type 0 where
@@ -51,13 +53,16 @@ test_factor_entry n l u f o =
 unfoldable pub test_vector_entry : ℤ → List ℕ → List ℕ → List ℕ → ℤ
 test_vector_entry n l u v =
     let k : ℕ = order_of n in
-    answer_code yes_or_no_code (vector_tested n (vector_buffers k (length l) (length u) (length v)) (table_of k l) (table_of k u) (vector_of k v))
+    answer_code yes_or_no_code
+    (vector_tested n (vector_buffers k (length l) (length u) (length v)) (table_of k l) (table_of k u) (vector_of k v))
 
 -- ---- hb_judge: the judge of the numbers that the buffers spell
 unfoldable pub judge_stored : ℤ → List ℕ → List ℕ → List ℕ → List ℕ → List ℕ → StoredVerdict
 judge_stored n l u f v o =
     let k : ℕ = order_of n in
-    stored_verdict k (judging n (judge_buffers k (length l) (length u) (length f) (length v) (length o)) (table_of k l) (table_of k u)) f v o
+    stored_verdict k
+    (judging n (judge_buffers k (length l) (length u) (length f) (length v) (length o)) (table_of k l) (table_of k u))
+    f v o
 
 -- the number of the verdict, and the buffers as they are left
 pub record JudgeResult : Type 0 where
@@ -144,7 +149,8 @@ spelled_with n l u a b α =
 unfoldable pub read_stored : ℤ → List ℕ → List ℕ → List ℕ → List ℕ → ℤ → ℤ → List ℕ → ReadOut
 read_stored n l u a b α K s =
     stored_limit
-    (read_sums n (read_buffers (order_of n) (lengths_of (length l) (length u) (length a) (length b)) (length s)) K (spelled_with n l u a b α))
+    (read_sums n (read_buffers (order_of n) (lengths_of (length l) (length u) (length a) (length b)) (length s)) K
+    (spelled_with n l u a b α))
     s
 
 -- the number of the answer, and the buffer as it is left

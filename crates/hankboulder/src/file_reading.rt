@@ -24,7 +24,8 @@ pub extern "C" fn hb_read_summary(
       parts = parts order.new low.new high.new linear_low.new linear_high.new limit.new centre.new;
     })
         (read_summary_entry file.now (parts order.old low.old high.old linear_low.old linear_high.old limit.old centre.old)) }
-    ensures meaning { ReadSummaryMeaning file.now (parts order.new low.new high.new linear_low.new linear_high.new limit.new centre.new) result }
+    ensures meaning { ReadSummaryMeaning file.now
+        (parts order.new low.new high.new linear_low.new linear_high.new limit.new centre.new) result }
 {
     answer_code(file_buffers::reading::read_summary(
         file,
