@@ -1,12 +1,12 @@
 -- Laws of the definitions in specs/Numbers: lengths, and what is read where something was written. Over any number of bytes.
 use mathlib.Core.Path.{◌≡◌, refl, sym, ap, ◌∙◌}
-use mathlib.Core.List.{List, [], ◌∷◌, ◌++◌, append_assoc}
+use mathlib.Core.List.{List, [], ◌∷◌, ◌++◌, append_assoc, append-nil}
 use Prim.Native.Nat.{ℕ, zero, suc, ◌+◌, ◌-◌, ◌*◌, ◌/◌, ◌%◌, ◌^◌, ◌≤◌, ◌<◌}
 use native.Mathlib.Nat.{pow-succ', one-le-pow, zero-mul}
 use native.Mathlib.Numerals.{add-one}
 use native.Mathlib.Omega.{arith}
 use lib.ListN.{length, take, drop, get_or, length-append, length-drop, length-replicate, take-append-drop}
-use lib.Seq.{take-add, take_at, take-suc, length-take-le, drop_at, drop-cons, drop-drop, get_or_at, get_or-drop, append_snoc}
+use lib.Seq.{take-add, take_all, take_at, take-suc, length-take-le, drop_at, drop-cons, drop-drop, get_or_at, get_or-drop, append_snoc}
 use lib.IntN.{ℤ, pos, negsuc}
 use mir.Syntax.{Width, w8, w16, w32, w64, w128}
 use mir.Val.{bits, bytes, of_z, SFits, Fits}
@@ -177,6 +177,11 @@ module _ {w : Width} (n : Narrow w) where
       let r = numbers_of-bytes_of a (b ++ t) k f (omega arith) in
       ap (λ (x : List ℕ). numbers_of w x (suc k)) d
       ∙ rw (← append_assoc (bytes_of w a k), e) (rw (r, to_z-of_z (f.each k), take-suc a k (pos 0) (omega arith)))
+
+  -- and with nothing behind them
+  pub read_whole : (a : List ℤ) {k : ℕ} → AllFit w a → length a ≡ k → numbers_of w (bytes_of w a k) k ≡ a
+  read_whole a {k} f e =
+      ap (λ (s : List ℕ). numbers_of w s k) (sym (append-nil (bytes_of w a k))) ∙ numbers_of-bytes_of a [] k f (omega (arith, e)) ∙ take_all k a (omega (arith, e))
 
   -- bytes that are read and written out again, whatever stands behind the numbers
   pub bytes_of-numbers_of : (s : List ℕ) (t : List ℤ) (k : ℕ) → AllBytes s → k * bytes w ≤ length s → bytes_of w (numbers_of w s k ++ t) k ≡ take (k * bytes w) s
