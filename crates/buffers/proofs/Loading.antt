@@ -10,7 +10,8 @@ use mir.Syntax.{w64}
 use Rattle.words.specs.Numbers.{numbers_of}
 use Rattle.words.proofs.Laws.{length-numbers_of}
 use Rattle.tables.specs.Ranges.{linear_range, centre_range}
-use Rattle.tables.specs.Checks.{linear_within, terms_within, Checked, order_ok, order_of, first_refusal, entry_checks, bounds_checks, ends_checks}
+use Rattle.tables.specs.Checks.{linear_within, terms_within, Checked, order_ok, order_of, first_refusal, entry_checks, bounds_checks}
+use Rattle.tables.specs.Checks.{ends_checks}
 use Rattle.tables.specs.Entering.{Laid, Mended, Entered}
 use Rattle.std.specs.Prelude.{Ok}
 use Rattle.tables.proofs.Admission.{zeros, Padded, laid-zeros, range_same, crossed_same, entry-passes, mended-after, entered-laid}
@@ -24,27 +25,36 @@ module _ {room k : ℕ} (s : List ℕ) {o o' : List ℤ} (b : o ≡ zeros room) 
   pub loaded_room : length o' ≡ room
   loaded_room = ap length q ∙ rw (length-append, length-numbers_of, length-drop, b, length-replicate) (omega arith)
 
--- where n is an order and the buffers have their sizes, checks 3 to 5 are all that is left to ask, and those of the bounds that were loaded are those
--- of the bounds that the buffers spell
-pub came-sized : {n : ℤ} {m : ℕ} {sized sized' others : Bool} (l u : List ℕ) {l₀ u₀ l' u' : List ℤ} {r : Checked} → m ≡ order_of n → order_ok n ≡ true → sized' ≡ sized → sized' ≡ true →
+-- where n is an order and the buffers have their sizes, checks 3 to 5 are all that is left to ask, and those of the bounds that were loaded
+-- are those of the bounds that the buffers spell
+pub came-sized : {n : ℤ} {m : ℕ} {sized sized' others : Bool} (l u : List ℕ) {l₀ u₀ l' u' : List ℤ} {r : Checked} → m ≡ order_of n →
+    order_ok n ≡ true → sized' ≡ sized → sized' ≡ true →
     Laid m sized' (table_of m l) (table_of m u) l₀ u₀ → Mended (bounds_checks others m l₀ u₀) m l₀ u₀ r l' u' →
     Entered n sized others (table_of (order_of n) l) (table_of (order_of n) u) r l' u'
 came-sized {n} {sized} {others} l u {l₀} {u₀} {l'} {u'} {r} e h g t p a =
     let passed : first_refusal (entry_checks n sized) ≡ Ok tt = entry-passes n h (sym g ∙ t) in
     let laid : Laid (order_of n) sized (table_of (order_of n) l) (table_of (order_of n) u) l₀ u₀ = rw (← e, ← g) p in
     let mended : Mended (bounds_checks others (order_of n) l₀ u₀) (order_of n) l₀ u₀ r l' u' = rw (← e) a in
-    entered-laid n sized others (λ s. (length-numbers_of w64 l _, length-numbers_of w64 u _)) laid (mended-after (entry_checks n sized) passed mended)
+    entered-laid n sized others (λ s. (length-numbers_of w64 l _, length-numbers_of w64 u _)) laid
+    (mended-after (entry_checks n sized) passed mended)
 
 -- check 3 of the numbers that were loaded is that of the numbers that the buffers spell
-pub terms-spelled : (n : ℕ) (sized : Bool) (a b c : List ℕ) (x y z : List ℤ) (α : ℤ) {r sized' : Bool} {m : ℕ} {β : ℤ} → r ≡ (sized' && terms_within m x y β z) → sized' ≡ sized → m ≡ n → β ≡ α →
-    Terms n sized a x → Terms n sized b y → Terms n sized c z → r ≡ (sized && terms_within n (vector_of n a) (vector_of n b) α (vector_of n c))
+pub terms-spelled : (n : ℕ) (sized : Bool) (a b c : List ℕ) (x y z : List ℤ) (α : ℤ) {r sized' : Bool} {m : ℕ} {β : ℤ} →
+    r ≡ (sized' && terms_within m x y β z) → sized' ≡ sized → m ≡ n → β ≡ α →
+    Terms n sized a x → Terms n sized b y → Terms n sized c z →
+    r ≡ (sized && terms_within n (vector_of n a) (vector_of n b) α (vector_of n c))
 unfolding linear_within terms_within
 terms-spelled n true a b c x y z α e f g h p q t =
-    (rw (f, g, h) at e) ∙ rw (range_same linear_range n (vector_of n a) x (p.numbers refl), range_same linear_range n (vector_of n b) y (q.numbers refl), range_same centre_range n (vector_of n c) z (t.numbers refl))
+    (rw (f, g, h) at e) ∙ rw (
+      range_same linear_range n (vector_of n a) x (p.numbers refl),
+      range_same linear_range n (vector_of n b) y (q.numbers refl),
+      range_same centre_range n (vector_of n c) z (t.numbers refl),
+    )
 terms-spelled n false a b c x y z α e f g h p q t = rw f at e
 
 -- and so is check 16
-pub ends-spelled : (n : ℕ) (a b : List ℕ) (x y : List ℤ) {m : ℕ} {r : Checked} → r ≡ first_refusal (ends_checks m x y) → m ≡ n → Terms n true a x → Terms n true b y →
+pub ends-spelled : (n : ℕ) (a b : List ℕ) (x y : List ℤ) {m : ℕ} {r : Checked} → r ≡ first_refusal (ends_checks m x y) → m ≡ n →
+    Terms n true a x → Terms n true b y →
     r ≡ first_refusal (ends_checks n (vector_of n a) (vector_of n b))
 unfolding ends_checks
 ends-spelled n a b x y e g p q = (rw g at e) ∙ rw (crossed_same n (vector_of n a) x (vector_of n b) y (p.numbers refl) (q.numbers refl))

@@ -21,7 +21,8 @@ module _ (n l u f : ℕ) where
       let z = sizes-of size size l u f (and_left (sizes_ok size size l u f) _ e) in
       (z.0, z.1, z.2, eqb-true o (bytes w64) (and_right (sizes_ok size size l u f) _ e))
 
-  pub judge_buffers_of : (v o : ℕ) → judge_buffers n l u f v o ≡ true → (l ≡ size) × (u ≡ size) × (f ≡ size) × (v ≡ n * bytes w64) × (o ≡ bytes w64)
+  pub judge_buffers_of : (v o : ℕ) → judge_buffers n l u f v o ≡ true →
+      (l ≡ size) × (u ≡ size) × (f ≡ size) × (v ≡ n * bytes w64) × (o ≡ bytes w64)
   unfolding judge_buffers
   judge_buffers_of v o e =
       let z = judge-sizes-of size (n * bytes w64) l u f v (and_left (judge_sizes size (n * bytes w64) l u f v) _ e) in

@@ -1,16 +1,16 @@
 -- What the entries store: the bytes of a table, of a vector, of the sides or of one number; and what is read back from them.
-use mathlib.Core.Path.{◌≡◌, refl, sym, ap, ap₂, ◌∙◌}
+use mathlib.Core.Path.{◌≡◌, sym, ap, ◌∙◌}
 use mathlib.Core.List.{List, [], ◌++◌, append-nil}
-use Prim.Native.Nat.{ℕ, zero, suc, ◌*◌, ◌^◌, ◌<◌}
+use Prim.Native.Nat.{ℕ, ◌*◌, ◌^◌, ◌<◌}
 use native.Mathlib.Omega.{arith}
 use lib.IntN.{ℤ}
 use lib.ListN.{length, drop}
 use lib.Seq.{take_all}
-use mir.Syntax.{Width, w64}
-use mir.Val.{bytes, of_z, SFits}
+use mir.Syntax.{w64}
+use mir.Val.{bytes, SFits}
 use Rattle.integers.specs.Numbers.{Within}
 use Rattle.integers.proofs.Machine.{fits_within}
-use Rattle.words.specs.Numbers.{to_le_bytes, with_unsigned, with_signed, numbers_of, bytes_of}
+use Rattle.words.specs.Numbers.{with_unsigned, with_signed, numbers_of, bytes_of}
 use Rattle.words.proofs.Laws.{signed_at-same, numbers_of-bytes_of}
 use Rattle.words.proofs.Sign.{narrow-of}
 use Rattle.words.proofs.Lists.{append-drop_end}
@@ -20,15 +20,19 @@ use Rattle.tables.proofs.Spelled.{bytes_of_ext}
 use Rattle.buffers.specs.Buffers.{number_of, bytes_of_number}
 
 -- a buffer of exactly their size is written whole
-pub numbers-stored : (s : List ℕ) (n : ℕ) (x : List ℤ) → length s ≡ n * bytes w64 → bytes_of w64 x n ++ drop (n * bytes w64) s ≡ bytes_of w64 (tabulate n (nth x)) n
+pub numbers-stored : (s : List ℕ) (n : ℕ) (x : List ℤ) → length s ≡ n * bytes w64 →
+    bytes_of w64 x n ++ drop (n * bytes w64) s ≡ bytes_of w64 (tabulate n (nth x)) n
 numbers-stored s n x e =
-    append-drop_end (bytes_of w64 x n) s (n * bytes w64) (omega (arith, e)) ∙ bytes_of_ext w64 x (tabulate n (nth x)) n (λ i h. sym (nth-tabulate n (nth x) i h))
+    append-drop_end (bytes_of w64 x n) s (n * bytes w64) (omega (arith, e)) ∙
+    bytes_of_ext w64 x (tabulate n (nth x)) n (λ i h. sym (nth-tabulate n (nth x) i h))
 
 -- and read back
-pub read-numbers : {m b : ℕ} (x : List ℤ) → length x ≡ m → ((i : ℕ) → Within b (nth x i)) → b < 2 ^ 63 → numbers_of w64 (bytes_of w64 x m) m ≡ x
+pub read-numbers : {m b : ℕ} (x : List ℤ) → length x ≡ m → ((i : ℕ) → Within b (nth x i)) → b < 2 ^ 63 →
+    numbers_of w64 (bytes_of w64 x m) m ≡ x
 read-numbers {m} x e z h =
     ap (λ (s : List ℕ). numbers_of w64 s m) (sym (append-nil (bytes_of w64 x m)))
-    ∙ numbers_of-bytes_of (narrow-of 8) x [] m (record { each = λ i. fits_within (z i) h }) (omega (arith, e)) ∙ take_all m x (omega (arith, e))
+    ∙ numbers_of-bytes_of (narrow-of 8) x [] m (record { each = λ i. fits_within (z i) h }) (omega (arith, e)) ∙
+    take_all m x (omega (arith, e))
 
 -- ---- one number
 -- a buffer of exactly its size is written whole, with z, which is v

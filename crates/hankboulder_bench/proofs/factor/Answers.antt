@@ -37,7 +37,8 @@ enter-requires c =
 pub returns-in_err-enter : goal.returns-in_err-enter
 unfolding factoring
 returns-in_err-enter c =
-    rw (handed_on c.from_residual-in_err-enter.ensures.1) (entered-refused _ _ _ _ _ Err _ (came (goal.at.returns-in_err-enter c).After-enter) c.in_err-enter.was)
+    rw (handed_on c.from_residual-in_err-enter.ensures.1)
+    (entered-refused _ _ _ _ _ Err _ (came (goal.at.returns-in_err-enter c).After-enter) c.in_err-enter.was)
 
 pub slice_bounds-bounds-end : goal.slice_bounds-bounds-end
 slice_bounds-bounds-end c = sym c.enter.ensures.rooms.low-size

@@ -5,4 +5,5 @@ use Rattle.hankboulder_bench.proofs.hb_bench_factor.Goals as goal
 
 pub returns : goal.returns
 returns c =
-    clean_element c.answer_code.result c.answer_code.type_inv ∙ c.answer_code.ensures ∙ ap (answer_code yes_or_no_code) (rw (clean c.ranges.n) at c.factor.ensures)
+    clean_element c.answer_code.result c.answer_code.type_inv ∙ c.answer_code.ensures ∙
+    ap (answer_code yes_or_no_code) (rw (clean c.ranges.n) at c.factor.ensures)

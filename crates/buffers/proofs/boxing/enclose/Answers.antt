@@ -17,7 +17,8 @@ use Rattle.tables.specs.Problem.{constraint_of, lengths_of, constraint_ends, con
 use Rattle.tables.specs.declared.problem.Constraint.{Constraint}
 use Rattle.tables.proofs.Answers.{handed_on}
 use Rattle.tables.proofs.Checks.{and_right, and_of}
-use Rattle.tables.proofs.Admission.{Behind, order_small, order_fits, order-positive, order-passed, order-refused, no-order, no-sizes, came-through, entered_by, entered-sized}
+use Rattle.tables.proofs.Admission.{Behind, order_small, order_fits, order-positive, order-passed, order-refused, no-order, no-sizes}
+use Rattle.tables.proofs.Admission.{came-through, entered_by, entered-sized}
 use Rattle.tables.proofs.Problems.{door-refused, ends-refused, constraint_passed}
 use Rattle.enclosure.specs.Box.{Box, refused, problem_box, boxing}
 use Rattle.enclosure.specs.Act.{Enclosed}
@@ -25,7 +26,8 @@ use Rattle.enclosure.proofs.BoxCases.{BoxSized, box_sizes-of, centre-terms, limi
 use Rattle.buffers.specs.Buffers.{table_of, vector_of, box_buffers, stored_sides, Terms}
 use Rattle.buffers.proofs.Loading.{came-sized, terms-spelled, ends-spelled, terms_by}
 use Rattle.buffers.proofs.boxing.enclose.Goals as goal
-use Rattle.buffers.proofs.boxing.enclose.Goals.{Start, In_ok-m, After-box_sized-sized, After-sized_within-within, After-check_laid, After-check_ends}
+use Rattle.buffers.proofs.boxing.enclose.Goals.{Start, In_ok-m, After-box_sized-sized, After-sized_within-within, After-check_laid}
+use Rattle.buffers.proofs.boxing.enclose.Goals.{After-check_ends}
 
 order : (c : In_ok-m) → c.in_ok-m.m ≡ order_of c.args.n
 order c = (order-passed c.ranges.n c.in_ok-m.ensures).0
@@ -65,13 +67,16 @@ abbrev Loaded : Start → List ℕ → List ℤ → Type 0
 Loaded s = Terms (order_of s.args.n) (sizes s)
 
 low-ends : (c : After-sized_within-within) → Loaded (goal.at.After-sized_within-within c).Start c.args.from.now c.load_terms.new.x
-low-ends c = terms_by (order (goal.at.After-sized_within-within c).In_ok-m) (sized (goal.at.After-sized_within-within c).After-box_sized-sized) c.load_terms.ensures
+low-ends c = terms_by (order (goal.at.After-sized_within-within c).In_ok-m)
+    (sized (goal.at.After-sized_within-within c).After-box_sized-sized) c.load_terms.ensures
 
 high-ends : (c : After-sized_within-within) → Loaded (goal.at.After-sized_within-within c).Start c.args.to.now c.load_terms-2.new.x
-high-ends c = terms_by (order (goal.at.After-sized_within-within c).In_ok-m) (sized (goal.at.After-sized_within-within c).After-box_sized-sized) c.load_terms-2.ensures
+high-ends c = terms_by (order (goal.at.After-sized_within-within c).In_ok-m)
+    (sized (goal.at.After-sized_within-within c).After-box_sized-sized) c.load_terms-2.ensures
 
 centre : (c : After-sized_within-within) → Loaded (goal.at.After-sized_within-within c).Start c.args.centre.now c.load_terms-3.new.x
-centre c = terms_by (order (goal.at.After-sized_within-within c).In_ok-m) (sized (goal.at.After-sized_within-within c).After-box_sized-sized) c.load_terms-3.ensures
+centre c = terms_by (order (goal.at.After-sized_within-within c).In_ok-m)
+    (sized (goal.at.After-sized_within-within c).After-box_sized-sized) c.load_terms-3.ensures
 
 -- what check 3 finds beside the tables
 abbrev others : Start → Bool
@@ -80,11 +85,14 @@ others s =
     let k = order_of a.n in
     terms_within k (vector_of k a.from.now) (vector_of k a.to.now) a.limit (vector_of k a.centre.now)
 
-asked : (c : After-sized_within-within) → let s = (goal.at.After-sized_within-within c).Start in c.sized_within-within.result ≡ (sizes s && others s)
+asked : (c : After-sized_within-within) → let s = (goal.at.After-sized_within-within c).Start in
+    c.sized_within-within.result ≡ (sizes s && others s)
 asked c =
     let a = c.args in
-    terms-spelled (order_of a.n) (sizes (goal.at.After-sized_within-within c).Start) a.from.now a.to.now a.centre.now _ _ _ a.limit c.sized_within-within.ensures
-    (sized (goal.at.After-sized_within-within c).After-box_sized-sized) (order (goal.at.After-sized_within-within c).In_ok-m) (clean c.ranges.limit) (low-ends c) (high-ends c) (centre c)
+    terms-spelled (order_of a.n)
+    (sizes (goal.at.After-sized_within-within c).Start) a.from.now a.to.now a.centre.now _ _ _ a.limit c.sized_within-within.ensures
+    (sized (goal.at.After-sized_within-within c).After-box_sized-sized) (order (goal.at.After-sized_within-within c).In_ok-m)
+    (clean c.ranges.limit) (low-ends c) (high-ends c) (centre c)
 
 -- where both pass, so do the numbers that were loaded
 in_range_lem : (c : After-sized_within-within) → let s = (goal.at.After-sized_within-within c).Start in sizes s ≡ true → others s ≡ true →
@@ -97,22 +105,26 @@ came : (c : After-check_laid) → let s = (goal.at.After-check_laid c).Start in
 came c =
     entered-sized _ _ _ _ _
     (entered_by refl refl (asked (goal.at.After-check_laid c).After-sized_within-within)
-    (came-sized _ _ (order (goal.at.After-check_laid c).In_ok-m) (order-passed c.ranges.n c.in_ok-m.ensures).1 (sized (goal.at.After-check_laid c).After-box_sized-sized) c.if-not-sized.false c.load_bounds.ensures c.check_laid.ensures))
+    (came-sized _ _ (order (goal.at.After-check_laid c).In_ok-m) (order-passed c.ranges.n c.in_ok-m.ensures).1
+    (sized (goal.at.After-check_laid c).After-box_sized-sized) c.if-not-sized.false c.load_bounds.ensures c.check_laid.ensures))
 
-passed : (c : After-check_laid) → c.check_laid.result ≡ Ok tt → let s = (goal.at.After-check_laid c).Start in Behind s.args.n (sizes s) (others s) (posed s).low (posed s).high
+passed : (c : After-check_laid) → c.check_laid.result ≡ Ok tt → let s = (goal.at.After-check_laid c).Start in
+    Behind s.args.n (sizes s) (others s) (posed s).low (posed s).high
 passed c q = came-through _ _ _ _ _ (came c) q
 
 ends : (c : After-check_ends) → c.check_ends.result ≡ first_refusal (constraint_ends (posed (goal.at.After-check_ends c).Start))
 ends c =
     let z = (passed (goal.at.After-check_ends c).After-check_laid c.in_ok-check_laid.was).sizes in
     ends-spelled _ c.args.from.now c.args.to.now _ _ c.check_ends.ensures (order (goal.at.After-check_ends c).In_ok-m)
-    (terms_by refl z (low-ends (goal.at.After-check_ends c).After-sized_within-within)) (terms_by refl z (high-ends (goal.at.After-check_ends c).After-sized_within-within))
+    (terms_by refl z (low-ends (goal.at.After-check_ends c).After-sized_within-within))
+    (terms_by refl z (high-ends (goal.at.After-check_ends c).After-sized_within-within))
 
 -- what the act answers behind the door
 abbrev act : Start → Box
 act s =
     let a = s.args in
-    after refused (first_refusal (constraint_ends (posed s))) (problem_box (record { constraint = posed s; centre = vector_of (order_of a.n) a.centre.now }))
+    after refused (first_refusal (constraint_ends (posed s)))
+    (problem_box (record { constraint = posed s; centre = vector_of (order_of a.n) a.centre.now }))
 
 -- the buffer with it
 abbrev given : Start → Box → Enclosed (List ℕ)
@@ -149,15 +161,18 @@ returns-then-not-sized c =
 
 pub load_terms-requires : goal.load_terms-requires
 load_terms-requires c =
-    rw (order (goal.at.load_terms-requires c).In_ok-m) (order_small _, (λ s. let z = lent (goal.at.load_terms-requires c).After-box_sized-sized s in omega (arith, z.linear_low)), refl)
+    rw (order (goal.at.load_terms-requires c).In_ok-m)
+    (order_small _, (λ s. let z = lent (goal.at.load_terms-requires c).After-box_sized-sized s in omega (arith, z.linear_low)), refl)
 
 pub load_terms-requires-2 : goal.load_terms-requires-2
 load_terms-requires-2 c =
-    rw (order (goal.at.load_terms-requires-2 c).In_ok-m) (order_small _, (λ s. let z = lent (goal.at.load_terms-requires-2 c).After-box_sized-sized s in omega (arith, z.linear_high)), refl)
+    rw (order (goal.at.load_terms-requires-2 c).In_ok-m)
+    (order_small _, (λ s. let z = lent (goal.at.load_terms-requires-2 c).After-box_sized-sized s in omega (arith, z.linear_high)), refl)
 
 pub load_terms-requires-3 : goal.load_terms-requires-3
 load_terms-requires-3 c =
-    rw (order (goal.at.load_terms-requires-3 c).In_ok-m) (order_small _, (λ s. let z = lent (goal.at.load_terms-requires-3 c).After-box_sized-sized s in omega (arith, z.centre)), refl)
+    rw (order (goal.at.load_terms-requires-3 c).In_ok-m)
+    (order_small _, (λ s. let z = lent (goal.at.load_terms-requires-3 c).After-box_sized-sized s in omega (arith, z.centre)), refl)
 
 pub slice_bounds-sized_within-end : goal.slice_bounds-sized_within-end
 slice_bounds-sized_within-end c = sym c.load_terms.ensures.size
@@ -170,13 +185,21 @@ slice_bounds-sized_within-end-3 c = sym c.load_terms-3.ensures.size
 
 pub sized_within-within-requires : goal.sized_within-within-requires
 sized_within-within-requires c = λ e.
-    let m = small (goal.at.sized_within-within-requires c).In_ok-m in
-    (omega (arith, m, c.load_terms.ensures.size), omega (arith, m, c.load_terms-2.ensures.size), omega (arith, m, c.load_terms-3.ensures.size))
+    let m = small (goal.at.sized_within-within-requires c).In_ok-m in (
+      omega (arith, m, c.load_terms.ensures.size),
+      omega (arith, m, c.load_terms-2.ensures.size),
+      omega (arith, m, c.load_terms-3.ensures.size),
+    )
 
 pub load_bounds-requires : goal.load_bounds-requires
 load_bounds-requires c =
-    rw (order (goal.at.load_bounds-requires c).In_ok-m)
-    (order_small _, (λ s. let z = lent (goal.at.load_bounds-requires c).After-box_sized-sized s in (omega (arith, z.low), omega (arith, z.high))), refl, refl)
+    rw (order (goal.at.load_bounds-requires c).In_ok-m) (
+      order_small _,
+      (λ s. let z = lent (goal.at.load_bounds-requires c).After-box_sized-sized s in
+          (omega (arith, z.low), omega (arith, z.high))),
+      refl,
+      refl,
+    )
 
 pub check_laid-requires : goal.check_laid-requires
 check_laid-requires c = rw (order (goal.at.check_laid-requires c).In_ok-m) (order_small _, order_fits _ refl, c.load_bounds.ensures.rooms)
@@ -186,7 +209,8 @@ unfolding boxing problem_box constraint_entered
 returns-in_err-check_laid c =
     let s = (goal.at.returns-in_err-check_laid c).Start in
     let d = came (goal.at.returns-in_err-check_laid c).After-check_laid in
-    rw (handed_on c.from_residual-in_err-check_laid.ensures.1) (ap (given s) (door-refused refused _ _ _ (posed s) _ d c.in_err-check_laid.was))
+    rw (handed_on c.from_residual-in_err-check_laid.ensures.1)
+    (ap (given s) (door-refused refused _ _ _ (posed s) _ d c.in_err-check_laid.was))
 
 pub slice_bounds-check_ends-end : goal.slice_bounds-check_ends-end
 slice_bounds-check_ends-end c = sym c.load_terms.ensures.size
@@ -260,4 +284,12 @@ returns c =
     let e = ends (goal.at.returns c).After-check_ends in
     let w = (goal.at.returns c).After-sized_within-within in
     rw (← constraint_passed refused _ _ _ (posed s) _ d q (sym e ∙ c.in_ok-check_ends.was))
-    (rw (order (goal.at.returns c).In_ok-m, h.low, h.high, (low-ends w).numbers z, (high-ends w).numbers z, (centre w).numbers z, clean c.ranges.limit) at c.box_bounds.ensures)
+    (rw (
+      order (goal.at.returns c).In_ok-m,
+      h.low,
+      h.high,
+      (low-ends w).numbers z,
+      (high-ends w).numbers z,
+      (centre w).numbers z,
+      clean c.ranges.limit,
+    ) at c.box_bounds.ensures)

@@ -23,7 +23,11 @@ load_numbers-requires c = (refl, c.requires.1 c.if-sized.true, omega (arith, c.r
 
 pub returns-then-sized : goal.returns-then-sized
 returns-then-sized c =
-    record { size = loaded_room _ c.requires.2 c.requires.0 c.load_numbers.ensures; numbers = λ e. padded-nth (loaded _ c.requires.2 c.requires.0 c.load_numbers.ensures) }
+    record {
+      size = loaded_room _ c.requires.2 c.requires.0 c.load_numbers.ensures;
+      numbers =
+          λ e. padded-nth (loaded _ c.requires.2 c.requires.0 c.load_numbers.ensures);
+    }
 
 pub returns-else-sized : goal.returns-else-sized
 returns-else-sized c = record { size = room c.before.before.before; numbers = λ e. absurd (false≢true (sym c.if-sized.false ∙ e)) }

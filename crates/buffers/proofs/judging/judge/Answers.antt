@@ -5,7 +5,8 @@ use lib.ListN.{length}
 use Rattle.tables.specs.Checks.{order_of}
 use Rattle.tables.specs.Entering.{Entered}
 use Rattle.tables.proofs.Answers.{handed_on}
-use Rattle.tables.proofs.Admission.{order_small, order_fits, order-positive, order-passed, order-refused, no-order, no-sizes, came-through, entered-refused, entered-passed}
+use Rattle.tables.proofs.Admission.{order_small, order_fits, order-positive, order-passed, order-refused, no-order, no-sizes, came-through}
+use Rattle.tables.proofs.Admission.{entered-refused, entered-passed}
 use Rattle.verdict.specs.Judge.{Judgement, refused, judging}
 use Rattle.buffers.specs.Buffers.{table_of, judge_buffers, StoredVerdict, stored_verdict}
 use Rattle.buffers.proofs.Sizes.{judge_buffers_of}
@@ -15,7 +16,8 @@ use Rattle.buffers.proofs.judging.judge.Goals.{Start, After-check_laid}
 
 -- the door, with what it found
 came : (c : After-check_laid) → let a = c.args in
-    Entered a.n (judge_buffers (order_of a.n) (length a.low.now) (length a.high.now) (length a.factor.now) (length a.vector.now) (length a.over.now)) true
+    Entered a.n (judge_buffers (order_of a.n) (length a.low.now) (length a.high.now) (length a.factor.now) (length a.vector.now)
+    (length a.over.now)) true
     (table_of (order_of a.n) a.low.now) (table_of (order_of a.n) a.high.now) c.check_laid.result c.check_laid.new.l c.check_laid.new.u
 came c =
     let o = order-passed c.ranges.n c.in_ok-m.ensures in
@@ -39,12 +41,19 @@ unfolding judging
 returns-then-not-sized c =
     let o = order-passed c.ranges.n c.in_ok-m.ensures in
     let z = sym (rw o.0 at c.sizes_ok-sized.ensures) ∙ c.if-not-sized.true in
-    ap (given (goal.at.returns-then-not-sized c).Start) (no-sizes _ _ _ _ _ refused _ (λ e. absurd (omega (arith, order-positive _ o.1, e))) z)
+    ap (given (goal.at.returns-then-not-sized c).Start)
+    (no-sizes _ _ _ _ _ refused _ (λ e. absurd (omega (arith, order-positive _ o.1, e))) z)
 
 pub load_bounds-requires : goal.load_bounds-requires
 load_bounds-requires c =
     let o = order-passed c.ranges.n c.in_ok-m.ensures in
-    rw o.0 (order_small _, (λ s. let z = judge_buffers_of _ _ _ _ _ _ (sym (rw o.0 at c.sizes_ok-sized.ensures) ∙ s) in (omega (arith, z.0), omega (arith, z.1))), refl, refl)
+    rw o.0 (
+      order_small _,
+      (λ s. let z = judge_buffers_of _ _ _ _ _ _ (sym (rw o.0 at c.sizes_ok-sized.ensures) ∙ s) in
+          (omega (arith, z.0), omega (arith, z.1))),
+      refl,
+      refl,
+    )
 
 pub check_laid-requires : goal.check_laid-requires
 check_laid-requires c = rw (order-passed c.ranges.n c.in_ok-m.ensures).0 (order_small _, order_fits _ refl, c.load_bounds.ensures.rooms)
@@ -53,7 +62,8 @@ pub returns-in_err-check_laid : goal.returns-in_err-check_laid
 unfolding judging
 returns-in_err-check_laid c =
     rw (handed_on c.from_residual-in_err-check_laid.ensures.1)
-    (ap (given (goal.at.returns-in_err-check_laid c).Start) (entered-refused _ _ _ _ _ refused _ (came (goal.at.returns-in_err-check_laid c).After-check_laid) c.in_err-check_laid.was))
+    (ap (given (goal.at.returns-in_err-check_laid c).Start)
+    (entered-refused _ _ _ _ _ refused _ (came (goal.at.returns-in_err-check_laid c).After-check_laid) c.in_err-check_laid.was))
 
 pub judge_bounds-requires : goal.judge_bounds-requires
 judge_bounds-requires c =
@@ -69,4 +79,5 @@ returns c =
     let d = came (goal.at.returns c).After-check_laid in
     let q = c.in_ok-check_laid.was in
     let h = d.held q in
-    rw (← entered-passed _ _ _ _ _ refused _ d q) (rw ((order-passed c.ranges.n c.in_ok-m.ensures).0, h.low, h.high) at c.judge_bounds.ensures)
+    rw (← entered-passed _ _ _ _ _ refused _ d q)
+    (rw ((order-passed c.ranges.n c.in_ok-m.ensures).0, h.low, h.high) at c.judge_bounds.ensures)

@@ -32,7 +32,12 @@ unfolding stated
 returns-in-Definite c =
     let d = rw c.in-Definite.is at c.decide.ensures in
     let e = clean_element c.in-Definite.v (omega arith) in
-    rw (d.verdict, e, c.store_numbers.ensures ∙ numbers-stored _ _ _ c.requires.3, number-stored c.args.over.now c.requires.5 e c.store_signed.ensures) refl
+    rw (
+      d.verdict,
+      e,
+      c.store_numbers.ensures ∙ numbers-stored _ _ _ c.requires.3,
+      number-stored c.args.over.now c.requires.5 e c.store_signed.ensures,
+    ) refl
 
 pub returns-in-NotDefinite : goal.returns-in-NotDefinite
 unfolding stated

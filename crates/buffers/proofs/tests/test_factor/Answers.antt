@@ -12,7 +12,8 @@ use Rattle.tables.specs.Entering.{low_bounds, high_bounds, Entered}
 use Rattle.tables.specs.declared.Refusal.{Refusal}
 use Rattle.tables.proofs.Answers.{handed_on}
 use Rattle.tables.proofs.Matrix.{table_fits}
-use Rattle.tables.proofs.Admission.{Padded, padded-at, order_small, order_fits, order-positive, order-passed, order-refused, no-order, no-sizes, came-through, entered-refused, entered-passed}
+use Rattle.tables.proofs.Admission.{Padded, padded-at, order_small, order_fits, order-positive, order-passed, order-refused, no-order}
+use Rattle.tables.proofs.Admission.{no-sizes, came-through, entered-refused, entered-passed}
 use Rattle.residual.specs.FactorTest.{factor_tested, factor_answer}
 use Rattle.residual.specs.declared.factor_test.FactorAnswer.{FactorAnswer}
 use Rattle.buffers.specs.Buffers.{table_of, factor_buffers, StoredAnswer, stored_over}
@@ -23,7 +24,8 @@ use Rattle.buffers.proofs.tests.test_factor.Goals.{Start, After-check_laid, Afte
 
 -- what check 2 finds
 sized : (c : After-factor_sizes_ok-sized) → let a = c.args in
-    c.factor_sizes_ok-sized.result ≡ factor_buffers (order_of a.n) (length a.low.now) (length a.high.now) (length a.factor.now) (length a.over.now)
+    c.factor_sizes_ok-sized.result ≡ factor_buffers (order_of a.n) (length a.low.now) (length a.high.now) (length a.factor.now)
+    (length a.over.now)
 sized c = rw (order-passed c.ranges.n c.in_ok-m.ensures).0 at c.factor_sizes_ok-sized.ensures
 
 -- the door, with what it found
@@ -63,7 +65,13 @@ returns-then-not-sized c =
 pub load_bounds-requires : goal.load_bounds-requires
 load_bounds-requires c =
     let o = order-passed c.ranges.n c.in_ok-m.ensures in
-    rw o.0 (order_small _, (λ s. let z = factor_buffers_of _ _ _ _ _ (sym (rw o.0 at c.factor_sizes_ok-sized.ensures) ∙ s) in (omega (arith, z.0), omega (arith, z.1))), refl, refl)
+    rw o.0 (
+      order_small _,
+      (λ s. let z = factor_buffers_of _ _ _ _ _ (sym (rw o.0 at c.factor_sizes_ok-sized.ensures) ∙ s) in
+          (omega (arith, z.0), omega (arith, z.1))),
+      refl,
+      refl,
+    )
 
 pub check_laid-requires : goal.check_laid-requires
 check_laid-requires c = rw (order-passed c.ranges.n c.in_ok-m.ensures).0 (order_small _, order_fits _ refl, c.load_bounds.ensures.rooms)
@@ -75,14 +83,17 @@ returns-in_err-check_laid c =
     let k = order_of a.n in
     rw (handed_on c.from_residual-in_err-check_laid.ensures.1)
     (ap (given (goal.at.returns-in_err-check_laid c).Start)
-    (entered-refused _ _ _ _ _ Err (factor_answer k (low_bounds k (table_of k a.low.now)) (high_bounds k (table_of k a.high.now)) (at k (table_of k a.factor.now))) (came (goal.at.returns-in_err-check_laid c).After-check_laid) c.in_err-check_laid.was))
+    (entered-refused _ _ _ _ _ Err
+    (factor_answer k (low_bounds k (table_of k a.low.now)) (high_bounds k (table_of k a.high.now)) (at k (table_of k a.factor.now)))
+    (came (goal.at.returns-in_err-check_laid c).After-check_laid) c.in_err-check_laid.was))
 
 pub overflow_mul-m : goal.overflow_mul-m
 overflow_mul-m c = record { fits = omega (arith, order_fits _ (order-passed c.ranges.n c.in_ok-m.ensures).0) }
 
 pub load_numbers-requires : goal.load_numbers-requires
 load_numbers-requires c =
-    let z = factor_buffers_of _ _ _ _ _ (came-through _ _ _ _ _ (came (goal.at.load_numbers-requires c).After-check_laid) c.in_ok-check_laid.was).sizes in
+    let z = factor_buffers_of _ _ _ _ _
+    (came-through _ _ _ _ _ (came (goal.at.load_numbers-requires c).After-check_laid) c.in_ok-check_laid.was).sizes in
     rw (order-passed c.ranges.n c.in_ok-m.ensures).0 (refl, omega (arith, z.2), table_fits (order_small _))
 
 pub slice_bounds-answer-end : goal.slice_bounds-answer-end
@@ -92,8 +103,12 @@ pub answer-requires : goal.answer-requires
 answer-requires c =
     let d = came (goal.at.answer-requires c).After-check_laid in
     let q = c.in_ok-check_laid.was in
-    rw (order-passed c.ranges.n c.in_ok-m.ensures).0
-    ((d.held q).tables, d.rooms, omega (arith, room (goal.at.answer-requires c).After-load_numbers, table_fits (order_small c.args.n)), order-positive _ (came-through _ _ _ _ _ d q).ordered)
+    rw (order-passed c.ranges.n c.in_ok-m.ensures).0 (
+      (d.held q).tables,
+      d.rooms,
+      omega (arith, room (goal.at.answer-requires c).After-load_numbers, table_fits (order_small c.args.n)),
+      order-positive _ (came-through _ _ _ _ _ d q).ordered,
+    )
 
 -- the answer behind the door is that of the whole test
 whole : (c : After-answer) → c.check_laid.result ≡ Ok tt → let a = c.args in let k = order_of a.n in
@@ -103,7 +118,8 @@ unfolding factor_tested
 whole c q =
     let d = came (goal.at.After-answer c).After-check_laid in
     let h = d.held q in
-    (rw ((order-passed c.ranges.n c.in_ok-m.ensures).0, h.low, h.high, padded-at (offered (goal.at.After-answer c).After-load_numbers) _) at c.answer.ensures) ∙ entered-passed _ _ _ _ _ Err _ d q
+    (rw ((order-passed c.ranges.n c.in_ok-m.ensures).0, h.low, h.high, padded-at (offered (goal.at.After-answer c).After-load_numbers) _) at
+    c.answer.ensures) ∙ entered-passed _ _ _ _ _ Err _ d q
 
 pub returns-in_err-answer : goal.returns-in_err-answer
 returns-in_err-answer c =
@@ -112,7 +128,8 @@ returns-in_err-answer c =
 
 pub store_over-requires : goal.store_over-requires
 store_over-requires c =
-    (factor_buffers_of _ _ _ _ _ (came-through _ _ _ _ _ (came (goal.at.store_over-requires c).After-check_laid) c.in_ok-check_laid.was).sizes).3
+    (factor_buffers_of _ _ _ _ _
+    (came-through _ _ _ _ _ (came (goal.at.store_over-requires c).After-check_laid) c.in_ok-check_laid.was).sizes).3
 
 -- an answer that is stored is handed on
 with_answer : (a : FactorAnswer) (o : List ℕ) → record { answer = Ok a; over = (stored_over (Ok a) o).over } ≡ stored_over (Ok a) o

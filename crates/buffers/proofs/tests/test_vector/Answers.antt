@@ -9,7 +9,8 @@ use Rattle.tables.specs.Checks.{order_of}
 use Rattle.tables.specs.Entering.{low_bounds, high_bounds, Entered}
 use Rattle.tables.proofs.Answers.{handed_on}
 use Rattle.tables.proofs.Checks.{sizes-of}
-use Rattle.tables.proofs.Admission.{Padded, padded-nth, order_small, order_fits, order-positive, order-passed, order-refused, no-order, no-sizes, came-through, entered-refused, entered-passed}
+use Rattle.tables.proofs.Admission.{Padded, padded-nth, order_small, order_fits, order-positive, order-passed, order-refused, no-order}
+use Rattle.tables.proofs.Admission.{no-sizes, came-through, entered-refused, entered-passed}
 use Rattle.vectors.specs.VectorTest.{vector_tested, vector_answer}
 use Rattle.buffers.specs.Buffers.{table_of, vector_of, vector_buffers}
 use Rattle.buffers.proofs.Loading.{came-sized, loaded, loaded_room}
@@ -60,7 +61,13 @@ returns-then-not-sized c =
 pub load_bounds-requires : goal.load_bounds-requires
 load_bounds-requires c =
     let o = order-passed c.ranges.n c.in_ok-m.ensures in
-    rw o.0 (order_small _, (λ s. let z = sizes-of _ _ _ _ _ (sym (rw o.0 at c.sizes_ok-sized.ensures) ∙ s) in (omega (arith, z.0), omega (arith, z.1))), refl, refl)
+    rw o.0 (
+      order_small _,
+      (λ s. let z = sizes-of _ _ _ _ _ (sym (rw o.0 at c.sizes_ok-sized.ensures) ∙ s) in
+          (omega (arith, z.0), omega (arith, z.1))),
+      refl,
+      refl,
+    )
 
 pub check_laid-requires : goal.check_laid-requires
 check_laid-requires c = rw (order-passed c.ranges.n c.in_ok-m.ensures).0 (order_small _, order_fits _ refl, c.load_bounds.ensures.rooms)
@@ -71,11 +78,14 @@ returns-in_err-check_laid c =
     let a = c.args in
     let k = order_of a.n in
     rw (handed_on c.from_residual-in_err-check_laid.ensures.1)
-    (entered-refused _ _ _ _ _ Err (vector_answer k (low_bounds k (table_of k a.low.now)) (high_bounds k (table_of k a.high.now)) (nth (vector_of k a.vector.now))) (came (goal.at.returns-in_err-check_laid c).After-check_laid) c.in_err-check_laid.was)
+    (entered-refused _ _ _ _ _ Err
+    (vector_answer k (low_bounds k (table_of k a.low.now)) (high_bounds k (table_of k a.high.now)) (nth (vector_of k a.vector.now)))
+    (came (goal.at.returns-in_err-check_laid c).After-check_laid) c.in_err-check_laid.was)
 
 pub load_numbers-requires : goal.load_numbers-requires
 load_numbers-requires c =
-    let z = sizes-of _ _ _ _ _ (came-through _ _ _ _ _ (came (goal.at.load_numbers-requires c).After-check_laid) c.in_ok-check_laid.was).sizes in
+    let z = sizes-of _ _ _ _ _ (came-through _ _ _ _ _
+    (came (goal.at.load_numbers-requires c).After-check_laid) c.in_ok-check_laid.was).sizes in
     rw (order-passed c.ranges.n c.in_ok-m.ensures).0 (refl, omega (arith, z.2), order_small _)
 
 pub slice_bounds-bounds-end : goal.slice_bounds-bounds-end
@@ -103,4 +113,5 @@ returns c =
     let d = came (goal.at.returns c).After-check_laid in
     let q = c.in_ok-check_laid.was in
     let h = d.held q in
-    (rw ((order-passed c.ranges.n c.in_ok-m.ensures).0, h.low, h.high, padded-nth (offered (goal.at.returns c).After-load_numbers)) at c.answer.ensures) ∙ entered-passed _ _ _ _ _ Err _ d q
+    (rw ((order-passed c.ranges.n c.in_ok-m.ensures).0, h.low, h.high, padded-nth (offered (goal.at.returns c).After-load_numbers)) at
+    c.answer.ensures) ∙ entered-passed _ _ _ _ _ Err _ d q
