@@ -47,11 +47,13 @@ pub bits_none : (p : ℤ → Bool) (b : ℕ) (t : ℤ) → pos 0 ≤ℤ t → ((
 unfolding bits
 bits_none p zero t h f = refl
 bits_none p (suc b) t h f =
-    bits_left p b t (f (t +ℤ pos (2 ^ b)) (order (t ∷ pos (2 ^ b) ∷ []) (h & pos_nonneg (2 ^ b)) (search solver depth 40 fits 20000) (omega arith)))
+    bits_left p b t
+    (f (t +ℤ pos (2 ^ b)) (order (t ∷ pos (2 ^ b) ∷ []) (h & pos_nonneg (2 ^ b)) (search solver depth 40 fits 20000) (omega arith)))
     ∙ bits_none p b t h f
 
 -- what holds of t and of each number that passes holds of the number that the bits make
-pub bits_by : (p : ℤ → Bool) (P : ℤ → Type 0) → ((t : ℤ) → pos 0 ≤ℤ t → p t ≡ true → P t) → (b : ℕ) (t : ℤ) → pos 0 ≤ℤ t → P t → P (bits p b t)
+pub bits_by : (p : ℤ → Bool) (P : ℤ → Type 0) → ((t : ℤ) → pos 0 ≤ℤ t → p t ≡ true → P t) → (b : ℕ) (t : ℤ) → pos 0 ≤ℤ t → P t →
+    P (bits p b t)
 unfolding bits
 bits_by p P f zero t h s = s
 bits_by p P f (suc b) t h s =
@@ -81,5 +83,8 @@ module _ (p : ℤ → Bool) (m : ℤ) (yes : (t : ℤ) → t ≤ℤ m → p t �
       let s = t +ℤ pos (2 ^ b) in
       let e : (s +ℤ pos (2 ^ b) -ℤ pos 1) ≡ (t +ℤ pos (2 ^ suc b) -ℤ pos 1) =
       order (t ∷ pos (2 ^ b) ∷ pos (2 ^ suc b) ∷ []) (power_suc b) (search solver depth 40 fits 20000) (omega arith) in
-      bits-more p b t (yes s (order (t ∷ m ∷ pos (2 ^ b) ∷ pos (2 ^ suc b) ∷ []) (h & power_suc b & power_some b) (search solver depth 40 fits 20000) (omega arith)))
+      bits-more p b t
+      (yes s
+      (order (t ∷ m ∷ pos (2 ^ b) ∷ pos (2 ^ suc b) ∷ []) (h & power_suc b & power_some b) (search solver depth 40 fits 20000)
+      (omega arith)))
       ∙ bits-all b s (rw e h) ∙ e

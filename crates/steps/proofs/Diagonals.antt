@@ -75,9 +75,13 @@ module _ {first : ℕ} {e : ℤ} {s : List ℤ} where
   pub lower_reads : {i : ℕ} {s' : List ℤ} → i < greatest_order → Lowered first i e s s' → upper s' i i ≡ upper s i i
   lower_reads {i} k w = w.entries i i k k ∙ lowered_none _ (upper s) i i (taken_out first i e i (λ u v. absurd (omega arith)))
 
-  pub lower_more : {i : ℕ} {s' : List ℤ} → first ≤ i → i < greatest_order → Lowered first i e s s' → Lowered first (suc i) e s (set s' (stride * i + i) (upper s' i i -ℤ e))
+  pub lower_more : {i : ℕ} {s' : List ℤ} → first ≤ i → i < greatest_order → Lowered first i e s s' →
+      Lowered first (suc i) e s (set s' (stride * i + i) (upper s' i i -ℤ e))
   lower_more {i} {s'} h k w =
-      record { size = length-set s' (stride * i + i) (upper s' i i -ℤ e) ∙ w.size; entries = λ a b p q. go a b p q (ℕ_discrete a i) (ℕ_discrete b i) }
+      record {
+        size = length-set s' (stride * i + i) (upper s' i i -ℤ e) ∙ w.size;
+        entries = λ a b p q. go a b p q (ℕ_discrete a i) (ℕ_discrete b i);
+      }
     where
       -- the numbers taken off differ in entry i alone
       same : (a : ℕ) → (a ≡ i → ⊥) → taken first i e a ≡ taken first (suc i) e a
@@ -85,7 +89,8 @@ module _ {first : ℕ} {e : ℤ} {s : List ℤ} where
           taken_by first i e a (λ z. z ≡ taken first (suc i) e a) (λ u v. sym (taken_in first (suc i) e a u (omega arith)))
           (λ f. sym (taken_out first (suc i) e a (λ u v. f u (omega arith))))
 
-      go : (a b : ℕ) → a < greatest_order → b < greatest_order → Dec (a ≡ i) → Dec (b ≡ i) → upper (set s' (stride * i + i) (upper s' i i -ℤ e)) a b ≡ lowered (taken first (suc i) e) (upper s) a b
+      go : (a b : ℕ) → a < greatest_order → b < greatest_order → Dec (a ≡ i) → Dec (b ≡ i) →
+          upper (set s' (stride * i + i) (upper s' i i -ℤ e)) a b ≡ lowered (taken first (suc i) e) (upper s) a b
       go a b p q (yes x) (yes y) =
           rw (x, y) (upper-same s' i i (upper s' i i -ℤ e) (omega (arith, w.size))
           ∙ rw (lower_reads k w, lowered_on (taken first (suc i) e) (upper s) i, taken_in first (suc i) e i h (omega arith)) refl)
@@ -93,7 +98,8 @@ module _ {first : ℕ} {e : ℤ} {s : List ℤ} where
           upper_other s' i i (upper s' i i -ℤ e) a b (omega arith) ∙ w.entries a b p q
           ∙ lowered_off _ (upper s) a b (omega arith) ∙ sym (lowered_off _ (upper s) a b (omega arith))
       go a b p q (no x) y =
-          upper_other s' i i (upper s' i i -ℤ e) a b (omega arith) ∙ w.entries a b p q ∙ lowered_ext _ _ (upper s) (upper s) a b (same a x) refl
+          upper_other s' i i (upper s' i i -ℤ e) a b (omega arith) ∙ w.entries a b p q
+          ∙ lowered_ext _ _ (upper s) (upper s) a b (same a x) refl
 
 -- ---- the test of the diagonal
 module _ (S : Matrix) (first : ℕ) (e : ℤ) where
@@ -101,7 +107,8 @@ module _ (S : Matrix) (first : ℕ) (e : ℤ) where
   unfolding stays
   stays_by i P f g = go (leb first i) (leb-true first i) (leb-false first i)
     where
-      go : (b : Bool) → (b ≡ true → first ≤ i) → (b ≡ false → i < first) → P (elim b as (λ z. Bool) [ true ↦ le_z (pos 1) (S i i -ℤ e) | false ↦ true ])
+      go : (b : Bool) → (b ≡ true → first ≤ i) → (b ≡ false → i < first) →
+          P (elim b as (λ z. Bool) [ true ↦ le_z (pos 1) (S i i -ℤ e) | false ↦ true ])
       go true p q = f (p refl)
       go false p q = g (q refl)
 
@@ -143,8 +150,11 @@ module _ {n first last : ℕ} {h : List ℤ} (t : Triable n first last h) (e : �
       on-at : (a : ℕ) → first ≤ a → a < n → Dec (a < last) → Within rest_range (S' a a) × (S' a a ≤ℤ pos product_range)
       on-at a k l (yes q) =
           let top : S' a a ≤ℤ pos product_range =
-          order (S' a a ∷ S a a ∷ e ∷ []) (on_is a k q & p & t.left.top a k l) (search solver depth 40 fits 20000) (omega arith) in
-          (within_more {m = product_range} (omega arith) (within_in (order (S' a a ∷ []) (left a k q) (search solver depth 40 fits 20000) (omega arith)) top), top)
+          order (S' a a ∷ S a a ∷ e ∷ []) (on_is a k q & p & t.left.top a k l) (search solver depth 40 fits 20000) (omega arith) in (
+            within_more {m = product_range} (omega arith)
+                (within_in (order (S' a a ∷ []) (left a k q) (search solver depth 40 fits 20000) (omega arith)) top),
+            top,
+          )
       on-at a k l (no q) =
           rw (lowered_none (taken first last e) S a a (taken_out first last e a (λ u v. q v))) (t.left.on a k l, t.left.top a k l)
 
@@ -155,7 +165,9 @@ module _ {n first last : ℕ} {h : List ℤ} (t : Triable n first last h) (e : �
           record {
             size = w.size;
             order = z.order;
-            off = λ a b k l m. rw (w.entries a b (omega arith) (omega arith), lowered_off (taken first last e) S a b (omega arith)) (z.off a b k l m);
+            off =
+                λ a b k l m. rw (w.entries a b (omega arith) (omega arith), lowered_off (taken first last e) S a b (omega arith))
+                (z.off a b k l m);
             on = λ a k l. rw (w.entries a a (omega arith) (omega arith)) (on-at a k l (dec_lt a last)).0;
             top = λ a k l. rw (w.entries a a (omega arith) (omega arith)) (on-at a k l (dec_lt a last)).1;
           }
@@ -168,4 +180,5 @@ module _ {n first last : ℕ} {h : List ℤ} (t : Triable n first last h) (e : �
       pub trial-ends : ends_from (n - first) (upper s) first ≡ ends_from (n - first) S' first
       trial-ends =
           let o = t.left.order in
-          ends_ext n (n - first) first (omega (arith, t.inside, t.ordered)) (record { entries = λ a b k l m. w.entries a b (omega arith) (omega arith) })
+          ends_ext n (n - first) first (omega (arith, t.inside, t.ordered))
+          (record { entries = λ a b k l m. w.entries a b (omega arith) (omega arith) })

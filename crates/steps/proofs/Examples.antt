@@ -46,5 +46,6 @@ lines =
     ∷ []
 
 as_printed : map rules lines ≡ map (λ (l : Line). l.expected) lines
-unfolding step step_at bits trial lowered all within factoring columns_from next_column rows goes_on next_entry entries scaled_by take_off at tabulate row_width sum only floor_div whole_root root_within
+unfolding step step_at bits trial lowered all within factoring columns_from next_column rows goes_on next_entry entries scaled_by take_off
+    at tabulate row_width sum only floor_div whole_root root_within
 as_printed = refl

@@ -54,7 +54,8 @@ module _ {t : ℤ} (h : Tried t) where
 
   pub scaled-within : Within step_range (scale *ℤ t)
   scaled-within =
-      within_in (order (t ∷ []) h.low (search solver depth 40 fits 20000) (omega arith)) (order (t ∷ []) h.high (search solver depth 40 fits 20000) (omega arith))
+      within_in (order (t ∷ []) h.low (search solver depth 40 fits 20000) (omega arith))
+      (order (t ∷ []) h.high (search solver depth 40 fits 20000) (omega arith))
 
 module _ {n first last : ℕ} {S : Matrix} where
   -- bit b - 1 comes next
@@ -71,7 +72,8 @@ module _ {n first last : ℕ} {S : Matrix} where
         record {
           low = order (t ∷ pos (2 ^ b) ∷ []) (w.low & pos_nonneg (2 ^ b)) (search solver depth 40 fits 20000) (omega arith);
           high =
-              order (t ∷ pos (2 ^ b) ∷ pos (2 ^ suc b) ∷ []) (w.high & power_suc b & pos_nonneg (2 ^ b)) (search solver depth 40 fits 20000) (omega arith);
+              order (t ∷ pos (2 ^ b) ∷ pos (2 ^ suc b) ∷ []) (w.high & power_suc b & pos_nonneg (2 ^ b)) (search solver depth 40 fits 20000)
+              (omega arith);
         }
 
     abbrev tried : Bool
@@ -115,7 +117,9 @@ module _ (S : Matrix) (k : ℕ) where
   unfolding step_from
   last_none h =
       sym (bits_none _ step_bits (pos 0) (pos_nonneg 0) (λ t l.
-      passes_is t ∙ le_z_false {x = pos 1} {y = S k k -ℤ scale *ℤ t} (order (S k k ∷ t ∷ []) (h & l) (search solver depth 40 fits 20000) (omega arith))))
+      passes_is t
+      ∙ le_z_false {x = pos 1} {y = S k k -ℤ scale *ℤ t}
+      (order (S k k ∷ t ∷ []) (h & l) (search solver depth 40 fits 20000) (omega arith))))
 
   abbrev most : ℤ
   most = floor_div (S k k -ℤ pos 1) scale
@@ -127,12 +131,14 @@ module _ (S : Matrix) (k : ℕ) where
     yes-up-to : (t : ℤ) → t ≤ℤ most → passes t ≡ true
     yes-up-to t h =
         passes_is t
-        ∙ le_z_true {x = pos 1} {y = S k k -ℤ scale *ℤ t} (order (S k k ∷ t ∷ most ∷ []) (h & is-floor.low) (search solver depth 40 fits 20000) (omega arith))
+        ∙ le_z_true {x = pos 1} {y = S k k -ℤ scale *ℤ t}
+        (order (S k k ∷ t ∷ most ∷ []) (h & is-floor.low) (search solver depth 40 fits 20000) (omega arith))
 
     no_above : (t : ℤ) → most <ℤ t → passes t ≡ false
     no_above t h =
         passes_is t
-        ∙ le_z_false {x = pos 1} {y = S k k -ℤ scale *ℤ t} (order (S k k ∷ t ∷ most ∷ []) (h & is-floor.high) (search solver depth 40 fits 20000) (omega arith))
+        ∙ le_z_false {x = pos 1} {y = S k k -ℤ scale *ℤ t}
+        (order (S k k ∷ t ∷ most ∷ []) (h & is-floor.high) (search solver depth 40 fits 20000) (omega arith))
 
     pub last-most : most <ℤ pos (2 ^ 20 - 1) → most ≡ step_from (suc k) k (suc k) S
     unfolding step_from
@@ -153,7 +159,8 @@ less_fits {x} f h =
     (order (x ∷ []) (within-high (within_fits f)) (search solver depth 40 fits 20000) (omega arith))) (omega arith)
 
 -- the search of one entry alone
-pub triable_last : {n first last : ℕ} {h : List ℤ} → Triable n first last h → suc first ≡ n → step_from (suc first) first (suc first) (upper h) ≡ step_from n first last (upper h)
+pub triable_last : {n first last : ℕ} {h : List ℤ} → Triable n first last h → suc first ≡ n →
+    step_from (suc first) first (suc first) (upper h) ≡ step_from n first last (upper h)
 triable_last {n} {first} {last} {h} t e =
     let q : last ≡ suc first = omega (arith, t.inside, t.some (omega arith)) in
     rw (q, ← e) refl

@@ -53,14 +53,18 @@ module _ (d : ℕ → ℤ) (M : Matrix) where
       go (no e) = lowered_off d M i j e ∙ s ∙ sym (lowered_off d M j i (omega arith))
 
   -- entries keep their range where no diagonal entry falls below 1
-  lowered_range : (i j : ℕ) → pos 0 ≤ℤ d i → (i ≡ j → pos 1 ≤ℤ lowered d M i i) → nat_abs (M i j) ≤ entry_range → nat_abs (lowered d M i j) ≤ entry_range
+  lowered_range : (i j : ℕ) → pos 0 ≤ℤ d i → (i ≡ j → pos 1 ≤ℤ lowered d M i i) → nat_abs (M i j) ≤ entry_range →
+      nat_abs (lowered d M i j) ≤ entry_range
   lowered_range i j z one r = go (ℕ_discrete i j)
     where
       go : Dec (i ≡ j) → nat_abs (lowered d M i j) ≤ entry_range
       go (yes e) =
           let high : M i j ≤ℤ pos entry_range = within-high (record { size = r }) in
-          rw (← e) (within_in {m = entry_range} {x = lowered d M i i} (order (lowered d M i i ∷ []) (one e) (search solver depth 40 fits 20000) (omega arith))
-          (order (lowered d M i i ∷ M i i ∷ d i ∷ []) (lowered_on d M i & z & (rw (← e) at high)) (search solver depth 40 fits 20000) (omega arith))).size
+          rw (← e)
+          (within_in {m = entry_range} {x = lowered d M i i}
+          (order (lowered d M i i ∷ []) (one e) (search solver depth 40 fits 20000) (omega arith))
+          (order (lowered d M i i ∷ M i i ∷ d i ∷ []) (lowered_on d M i & z & (rw (← e) at high)) (search solver depth 40 fits 20000)
+          (omega arith))).size
       go (no e) = rw (lowered_off d M i j e) r
 
   -- x'Mx loses Σ d(i)·x(i)²
@@ -70,7 +74,8 @@ module _ (d : ℕ → ℤ) (M : Matrix) where
       form_matrix_ext n _ (λ i j. M i j +ℤ negsuc 0 *ℤ only i j (d i)) x
       (λ i j h k. ring (M i j ∷ only i j (d i) ∷ []) (search solver depth 40 fits 20000) refl)
       ∙ form-+ n M (λ i j. negsuc 0 *ℤ only i j (d i)) x
-      ∙ ap (λ (z : ℤ). form n M x +ℤ z) (form-* n (negsuc 0) (λ i j. only i j (d i)) x ∙ ap (λ (z : ℤ). negsuc 0 *ℤ z) (form-diagonal n d x))
+      ∙ ap (λ (z : ℤ). form n M x +ℤ z)
+      (form-* n (negsuc 0) (λ i j. only i j (d i)) x ∙ ap (λ (z : ℤ). negsuc 0 *ℤ z) (form-diagonal n d x))
 
 only-* : (i j : ℕ) (c x : ℤ) → only i j (c *ℤ x) ≡ c *ℤ only i j x
 unfolding only
@@ -79,7 +84,8 @@ only-* i j c x =
     (λ e. refl) (λ e. sym (*ℤ-zero c))
 
 -- ---- a trial that ended, with d(i) taken off entry (i,i): x'Mx ≥ Σ d(i)·x(i)² for every member M, and x'Mx > Σ d(i)·x(i)² for x but 0
-module _ (n : ℕ) (order-ok : n ≤ greatest_order) (L U : Matrix) (b : Bounds n L U) (d : ℕ → ℤ) (nonneg : (i : ℕ) → pos 0 ≤ℤ d i) (e : trial n L U d ≡ true) where
+module _ (n : ℕ) (order-ok : n ≤ greatest_order) (L U : Matrix) (b : Bounds n L U) (d : ℕ → ℤ) (nonneg : (i : ℕ) → pos 0 ≤ℤ d i)
+    (e : trial n L U d ≡ true) where
   abbrev positive : Bool
   positive = all n (λ i. le_z (pos 1) (lowered d L i i))
 
@@ -126,9 +132,11 @@ module _ (n : ℕ) (order-ok : n ≤ greatest_order) (L U : Matrix) (b : Bounds 
       whole = m.whole;
       symmetric = λ i j h k. lowered_symmetric taken N i j (m.symmetric i j h k);
       low = λ i j h k.
-          order (q ∷ L i j ∷ N i j ∷ only i j (d i) ∷ only i j (taken i) ∷ []) (m.low i j h k & only-* i j q (d i)) (search solver depth 40 fits 20000) (omega arith);
+          order (q ∷ L i j ∷ N i j ∷ only i j (d i) ∷ only i j (taken i) ∷ []) (m.low i j h k & only-* i j q (d i))
+          (search solver depth 40 fits 20000) (omega arith);
       high = λ i j h k.
-          order (q ∷ U i j ∷ N i j ∷ only i j (d i) ∷ only i j (taken i) ∷ []) (m.high i j h k & only-* i j q (d i)) (search solver depth 40 fits 20000) (omega arith);
+          order (q ∷ U i j ∷ N i j ∷ only i j (d i) ∷ only i j (taken i) ∷ []) (m.high i j h k & only-* i j q (d i))
+          (search solver depth 40 fits 20000) (omega arith);
     }
 
     -- q Σ d(i)·x(i)²
@@ -163,7 +171,8 @@ all-lowered n q t x = ap (λ (z : ℤ). q *ℤ z) (sum-* n t (λ i. x i *ℤ x i
 
 module _ (n : ℕ) (order-ok : n ≤ greatest_order) (L U : Matrix) (b : Bounds n L U) where
   -- t is found: x'Mx ≥ t·x'x for every member M = N over q
-  pub step_strong : pos 1 ≤ℤ step n L U → (N : Matrix) (q : ℤ) → Member n L U N q → (x : ℕ → ℤ) → (q *ℤ step n L U *ℤ sum n (λ i. x i *ℤ x i)) ≤ℤ form n N x
+  pub step_strong : pos 1 ≤ℤ step n L U → (N : Matrix) (q : ℤ) → Member n L U N q → (x : ℕ → ℤ) →
+      (q *ℤ step n L U *ℤ sum n (λ i. x i *ℤ x i)) ≤ℤ form n N x
   unfolding step
   step_strong one N q m x =
       bits_by (λ t. trial n L U (λ i. t)) (λ t. pos 1 ≤ℤ t → (q *ℤ t *ℤ sum n (λ i. x i *ℤ x i)) ≤ℤ form n N x)
@@ -171,7 +180,8 @@ module _ (n : ℕ) (order-ok : n ≤ greatest_order) (L U : Matrix) (b : Bounds 
       step_bits (pos 0) (pos_nonneg 0) (λ h. absurd h.le) one
 
   -- the tables are factored to the end: x'Mx > t·x'x for x but 0, whether t is found or 0
-  pub step-above : (factored n L U).ends ≡ true → (N : Matrix) (q : ℤ) → Member n L U N q → (x : ℕ → ℤ) → Nonzero n x → (q *ℤ step n L U *ℤ norm_squared n x) <ℤ form n N x
+  pub step-above : (factored n L U).ends ≡ true → (N : Matrix) (q : ℤ) → Member n L U N q → (x : ℕ → ℤ) → Nonzero n x →
+      (q *ℤ step n L U *ℤ norm_squared n x) <ℤ form n N x
   unfolding step norm_squared
   step-above ended N q m x z =
       bits_by (λ t. trial n L U (λ i. t)) (λ t. (q *ℤ t *ℤ sum n (λ i. x i *ℤ x i)) <ℤ form n N x)
@@ -181,12 +191,14 @@ module _ (n : ℕ) (order-ok : n ≤ greatest_order) (L U : Matrix) (b : Bounds 
       (search solver depth 40 fits 20000) (omega arith))
 
   -- t(k) is found: x'Mx ≥ t(k)·x(k)²
-  pub step-at_strong : (k : ℕ) → k < n → pos 1 ≤ℤ step_at n L U k → (N : Matrix) (q : ℤ) → Member n L U N q → (x : ℕ → ℤ) → (q *ℤ step_at n L U k *ℤ (x k *ℤ x k)) ≤ℤ form n N x
+  pub step-at_strong : (k : ℕ) → k < n → pos 1 ≤ℤ step_at n L U k → (N : Matrix) (q : ℤ) → Member n L U N q → (x : ℕ → ℤ) →
+      (q *ℤ step_at n L U k *ℤ (x k *ℤ x k)) ≤ℤ form n N x
   unfolding step_at
   step-at_strong k l one N q m x =
       bits_by (λ t. trial n L U (λ i. only i k t)) (λ t. pos 1 ≤ℤ t → (q *ℤ t *ℤ (x k *ℤ x k)) ≤ℤ form n N x)
       (λ t z e h. order (q ∷ t ∷ form n N x ∷ x k ∷ [])
-      (rw (at-k t) at (trial_strong n order-ok L U b (λ i. only i k t) (λ i. only_by i k t (λ y. pos 0 ≤ℤ y) (λ s. z) (λ s. pos_nonneg 0)) e N q m x))
+      (rw (at-k t) at
+      (trial_strong n order-ok L U b (λ i. only i k t) (λ i. only_by i k t (λ y. pos 0 ≤ℤ y) (λ s. z) (λ s. pos_nonneg 0)) e N q m x))
       (search solver depth 40 fits 20000) (omega arith))
       step_bits (pos 0) (pos_nonneg 0) (λ h. absurd h.le) one
     where

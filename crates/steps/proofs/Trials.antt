@@ -60,10 +60,13 @@ module _ (n : ℕ) (L U : Matrix) (d : ℕ → ℤ) where
     left-low : (factoring n (lowered scaled_step H)).ends ≡ true → (i : ℕ) → i < n → pos 1 ≤ℤ lowered d L i i
     unfolding row_width
     left-low e i h =
-        let one = ends-diagonal (lowered scaled_step H) n 0 i (sym (factoring_by_rows (lowered scaled_step H) n) ∙ e) (omega arith) (omega arith) in
-        let width : (U i i -ℤ L i i) ≤ℤ row_width n L U i = term_≤-sum n i (λ j. U i j -ℤ L i j) h (λ j k. gap-nonneg (b.ordered i j h k)) in
+        let one =
+        ends-diagonal (lowered scaled_step H) n 0 i (sym (factoring_by_rows (lowered scaled_step H) n) ∙ e) (omega arith) (omega arith) in
+        let width : (U i i -ℤ L i i) ≤ℤ row_width n L U i =
+        term_≤-sum n i (λ j. U i j -ℤ L i j) h (λ j k. gap-nonneg (b.ordered i j h k)) in
         order (L i i ∷ U i i ∷ d i ∷ row_width n L U i ∷ lowered d L i i ∷ lowered scaled_step H i i ∷ H i i ∷ take_off n ∷ [])
-        (one & width & lowered_on d L i & lowered_on scaled_step H i & scaled_on (take_off n) n L U i & take_off_nonneg n) (search solver depth 40 fits 20000) (omega arith)
+        (one & width & lowered_on d L i & lowered_on scaled_step H i & scaled_on (take_off n) n L U i & take_off_nonneg n)
+        (search solver depth 40 fits 20000) (omega arith)
 
     pub trial_is : trial n L U d ≡ (factoring n (lowered scaled_step H)).ends
     unfolding trial decided

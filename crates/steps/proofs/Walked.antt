@@ -25,7 +25,8 @@ use Rattle.cholesky.specs.Store.{upper}
 use Rattle.cholesky.specs.Reduced.{row_entry, reduced, ends_from}
 use Rattle.cholesky.specs.Rows.{ColumnsTaken}
 use Rattle.cholesky.proofs.Filling.{scaled_factorable}
-use Rattle.cholesky.proofs.Reduced.{left_of, RowPasses, ends-passes, ends_of_lem, ends_ext, left_falls, ends-rows, rows_end, factoring_by_rows}
+use Rattle.cholesky.proofs.Reduced.{left_of, RowPasses, ends-passes, ends_of_lem, ends_ext, left_falls, ends-rows, rows_end}
+use Rattle.cholesky.proofs.Reduced.{factoring_by_rows}
 use Rattle.cholesky.proofs.Walked.{Walked, walked_row, walked_stop}
 use Rattle.cholesky.proofs.Passing.{row_done}
 use Rattle.steps.specs.Steps.{lowered, step_bits, trial, step, step_at}
@@ -42,7 +43,12 @@ module _ {n : ℕ} {L U : Matrix} {h : List ℤ} (b : Bounds n L U) (o : n ≤ g
   -- no row was taken
   pub walked_start : Walked (scaled n L U) h 0 n
   unfolding left_of
-  walked_start = record { left = scaled_factorable b o w; agree = record { entries = λ i j p q r. w.entries i j q r }; passed = λ i q. absurd (omega arith) }
+  walked_start =
+      record {
+        left = scaled_factorable b o w;
+        agree = record { entries = λ i j p q r. w.entries i j q r };
+        passed = λ i q. absurd (omega arith);
+      }
 
   -- t
   pub step_is : step_from n 0 n (upper h) ≡ step n L U
@@ -54,7 +60,8 @@ module _ {n : ℕ} {L U : Matrix} {h : List ℤ} (b : Bounds n L U) (o : n ≤ g
           let e : n - 0 ≡ n = omega arith in
           rw e (ends_ext n n 0 (omega arith) (record {
             entries = λ i j k l m.
-                lowered_ext _ (λ i. scale *ℤ t) (upper h) (scaled n L U) i j (taken_in 0 n (scale *ℤ t) i (omega arith) (omega arith)) (w.entries i j l m);
+                lowered_ext _ (λ i. scale *ℤ t) (upper h) (scaled n L U) i j (taken_in 0 n (scale *ℤ t) i (omega arith) (omega arith))
+                (w.entries i j l m);
           })
           ∙ sym (factoring_by_rows _ n) ∙ sym (trial_is n L U (λ i. t) b))
 
@@ -124,7 +131,8 @@ module _ (n : ℕ) (H : Matrix) (k : ℕ) (d : ℕ → ℤ) (alone : (i : ℕ) �
           later = λ j q r. record {
             small = rw (← later-kept j) (p.later j q r).small;
             some = order (left_of H (suc i) j j ∷ left_of H' (suc i) j j ∷ d j ∷ [])
-                ((left-lowered (suc i) h j j ∙ lowered_on d (left_of H (suc i)) j) & nonneg j & (p.later j q r).some) (search solver depth 40 fits 20000) (omega arith);
+                ((left-lowered (suc i) h j j ∙ lowered_on d (left_of H (suc i)) j) & nonneg j & (p.later j q r).some)
+                (search solver depth 40 fits 20000) (omega arith);
           };
         }
 
@@ -203,5 +211,6 @@ module _ {n : ℕ} {L U : Matrix} (b : Bounds n L U) {k : ℕ} (l : k < n) where
       fails : (t : ℤ) → pos 0 ≤ℤ t → ((i : ℕ) → i < n → RowPasses (left_of (lowered (off t) G) i) i n) → ⊥
       fails t h p =
           s.stops (omega arith)
-          (order (G 0 0 ∷ lowered (off t) G 0 0 ∷ off t 0 ∷ []) (lowered_on (off t) G 0 & off_nonneg t h 0 & (p 0 (omega arith)).first) (search solver depth 40 fits 20000) (omega arith))
+          (order (G 0 0 ∷ lowered (off t) G 0 0 ∷ off t 0 ∷ []) (lowered_on (off t) G 0 & off_nonneg t h 0 & (p 0 (omega arith)).first)
+          (search solver depth 40 fits 20000) (omega arith))
           (λ i q. pass-after n G k (off t) (off_none t) i q (off_nonneg t h) (p i (omega arith)))

@@ -27,4 +27,5 @@ unfolding upper
 loop-i-preserved c =
     let l = c.loop-i in
     let e = clean c.ranges.e in
-    rw (clean (overflow_sub-s c), e, clean_element _ c.s-1.given, add-one) (lower_more (omega arith) (inside c.before) (rw e at l.invariant))
+    rw (clean (overflow_sub-s c), e, clean_element _ c.s-1.given, add-one)
+    (lower_more (omega arith) (inside c.before) (rw e at l.invariant))

@@ -6,7 +6,8 @@ use mir.Val.{to_z}
 use lib.IntN.{pos}
 use Rattle.integers.proofs.Machine.{clean, fits_within}
 use Rattle.cholesky.specs.Store.{upper}
-use Rattle.steps.proofs.Searches.{Searching, shifted, tried-within, scaled-within, search_bit, search_start, search_tried, search_more, search_left, search_end}
+use Rattle.steps.proofs.Searches.{Searching, shifted, tried-within, scaled-within, search_bit, search_start, search_tried, search_more}
+use Rattle.steps.proofs.Searches.{search_left, search_end}
 use Rattle.steps.proofs.search.Goals as goal
 use Rattle.steps.proofs.search.Goals.{In-loop-b}
 
@@ -30,12 +31,14 @@ loop-b-init c = search_start
 
 pub loop-b-preserved-then-trial : goal.loop-b-preserved-then-trial
 loop-b-preserved-then-trial c =
-    let r = rw (clean (overflow_mul-next c.before.before), clean (overflow_add-next c.before.before), bit c.before.before) at c.trial.ensures in
+    let r =
+    rw (clean (overflow_mul-next c.before.before), clean (overflow_add-next c.before.before), bit c.before.before) at c.trial.ensures in
     rw (clean (overflow_add-next c.before.before), bit c.before.before) (search_more (searching c.before.before) (rw r at c.if-trial.true))
 
 pub loop-b-preserved : goal.loop-b-preserved
 loop-b-preserved c =
-    let r = rw (clean (overflow_mul-next c.before.before), clean (overflow_add-next c.before.before), bit c.before.before) at c.trial.ensures in
+    let r =
+    rw (clean (overflow_mul-next c.before.before), clean (overflow_add-next c.before.before), bit c.before.before) at c.trial.ensures in
     search_left (searching c.before.before) (rw r at c.if-trial.false)
 
 pub returns : goal.returns

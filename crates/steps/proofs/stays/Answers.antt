@@ -28,7 +28,8 @@ unfolding upper
 returns-then-s-i-lt1 c =
     let l = c.loop-i in
     let q = rw (clean (overflow_sub-s c.before), clean c.ranges.e, clean_element _ c.t12-1.given) at c.if-s-i-lt1.true in
-    sym (all_false _ _ l.i c.loop-i-test.true (stays_is _ _ _ l.i (omega arith) ∙ le_z_false {x = pos 1} {y = left c.before.before} (lt_holds q)))
+    sym (all_false _ _ l.i c.loop-i-test.true
+    (stays_is _ _ _ l.i (omega arith) ∙ le_z_false {x = pos 1} {y = left c.before.before} (lt_holds q)))
 
 pub loop-i-preserved : goal.loop-i-preserved
 unfolding upper
@@ -36,4 +37,5 @@ loop-i-preserved c =
     let l = c.loop-i in
     let e = clean c.ranges.e in
     let q = rw (clean (overflow_sub-s c.before), e, clean_element _ c.t12-1.given) at c.if-s-i-lt1.false in
-    rw e (all_more _ l.i (rw e at l.invariant) (stays_is _ _ _ l.i (omega arith) ∙ le_z_true {x = pos 1} {y = left c.before.before} (lt_fails q)))
+    rw e (all_more _ l.i (rw e at l.invariant)
+    (stays_is _ _ _ l.i (omega arith) ∙ le_z_true {x = pos 1} {y = left c.before.before} (lt_fails q)))
