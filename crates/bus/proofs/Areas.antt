@@ -10,13 +10,16 @@ use native.Mathlib.Decide.{ℕ_discrete}
 use native.Mathlib.Nat.{add-zero, mul-le-mul_right}
 use native.Mathlib.Omega.{arith}
 use lib.IntN.{ℤ, pos}
-use lib.ListN.{length, take, drop, set, replicate, length-append, length-drop, length-set, length-replicate, take-append-drop, drop_of_length-le, replicate-append-replicate}
-use lib.Seq.{take_all, take_at, set_at, length-take-le, take-append-le, drop-append-le, drop-cons, append_snoc, get_or-drop, get_or-set_same, get_or-set_other}
+use lib.ListN.{length, take, drop, set, replicate, length-append, length-drop, length-set, length-replicate, take-append-drop}
+use lib.ListN.{drop_of_length-le, replicate-append-replicate}
+use lib.Seq.{take_all, take_at, set_at, length-take-le, take-append-le, drop-append-le, drop-cons, append_snoc, get_or-drop}
+use lib.Seq.{get_or-set_same, get_or-set_other}
 use mir.Syntax.{Width, w64}
 use mir.Val.{bytes, SFits, of_z}
 use Rattle.integers.proofs.Machine.{fits_literal}
 use Rattle.words.specs.Numbers.{to_le_bytes, signed_at, with_unsigned, with_signed, numbers_of, bytes_of}
-use Rattle.words.proofs.Laws.{AllBytes, AllFit, length-to_le_bytes, signed_at_fits, length-numbers_of, length-bytes_of, numbers_of-bytes_of, bytes_of-numbers_of}
+use Rattle.words.proofs.Laws.{AllBytes, AllFit, length-to_le_bytes, signed_at_fits, length-numbers_of, length-bytes_of}
+use Rattle.words.proofs.Laws.{numbers_of-bytes_of, bytes_of-numbers_of}
 use Rattle.words.proofs.Lists.{drop_past}
 use Rattle.words.proofs.Sign.{narrow-of}
 use Rattle.tables.specs.Ranges.{greatest_order}
@@ -85,14 +88,18 @@ module _ (w : Width) where
   with-front : (p q : List ℕ) (at : ℕ) (v : ℤ) → at + bytes w ≤ length p → with_signed w (p ++ q) at v ≡ with_signed w p at v ++ q
   unfolding with_signed with_unsigned
   with-front p q at v h =
-      rw (take-append-le at p q (omega arith), drop-append-le (at + bytes w) p q h) (sym (append_assoc (take at p ++ to_le_bytes (bytes w) (of_z w64 v)) (drop (at + bytes w) p) q))
+      rw (take-append-le at p q (omega arith), drop-append-le (at + bytes w) p q h)
+      (sym (append_assoc (take at p ++ to_le_bytes (bytes w) (of_z w64 v)) (drop (at + bytes w) p) q))
 
   -- at the end
-  with_end : (p q : List ℕ) (at : ℕ) (v : ℤ) → length p ≡ at → length q ≡ bytes w → with_signed w (p ++ q) at v ≡ p ++ to_le_bytes (bytes w) (of_z w64 v)
+  with_end : (p q : List ℕ) (at : ℕ) (v : ℤ) → length p ≡ at → length q ≡ bytes w →
+      with_signed w (p ++ q) at v ≡ p ++ to_le_bytes (bytes w) (of_z w64 v)
   unfolding with_signed with_unsigned
-  with_end p q at v e f = rw (take_at p q at e, drop_past p q at (bytes w) e, drop_of_length-le q {i = bytes w} (omega (arith, f)), append-nil)
+  with_end p q at v e f =
+      rw (take_at p q at e, drop_past p q at (bytes w) e, drop_of_length-le q {i = bytes w} (omega (arith, f)), append-nil)
 
-  bytes_set : (r : List ℤ) (n k : ℕ) (v : ℤ) → k < n → n ≤ length r → bytes_of w (set r k v) n ≡ with_signed w (bytes_of w r n) (k * bytes w) v
+  bytes_set : (r : List ℤ) (n k : ℕ) (v : ℤ) → k < n → n ≤ length r →
+      bytes_of w (set r k v) n ≡ with_signed w (bytes_of w r n) (k * bytes w) v
   unfolding bytes_of
   bytes_set r zero k v h l = absurd (omega (arith, h))
   bytes_set r (suc n) k v h l = go (ℕ_discrete k n) (λ i. bytes_set r n k v i (omega arith))
@@ -124,7 +131,8 @@ area_bytes_lem {s} {r} a = ap length a.spelled ∙ length-bytes_of w64 r run_num
 pub area-read : {s : List ℕ} {r : List ℤ} → Area s r → area_of s ≡ r
 area-read {s} {r} a =
     rw (a.spelled, ← append-nil (area_bytes r))
-    (numbers_of-bytes_of (narrow-of 8) r [] run_numbers a.fit (omega (arith, a.numbers)) ∙ take_all run_numbers r (omega (arith, a.numbers)))
+    (numbers_of-bytes_of (narrow-of 8) r [] run_numbers a.fit (omega (arith, a.numbers))
+    ∙ take_all run_numbers r (omega (arith, a.numbers)))
 
 -- number k of any bytes
 pub nth-area : (s : List ℕ) (k : ℕ) → k < run_numbers → nth (area_of s) k ≡ signed_at w64 s (k * bytes w64)
@@ -162,7 +170,13 @@ module _ (r : List ℤ) (f : ℕ) where
       let n : ℕ = f + length c in
       let e : length p ≡ n = length-append (take f r) c ∙ rw (length-take-le f r (omega arith)) in
       let m : f + length (c ++ (v ∷ [])) ≡ suc n = rw length-append (omega arith) in
-      rw (m, drop-cons r n (pos 0) h, ← append_assoc (take f r) c (nth r n ∷ drop (suc n) r), append_snoc c v (drop (suc n) r), ← append_assoc (take f r) c (v ∷ drop (suc n) r))
+      rw (
+        m,
+        drop-cons r n (pos 0) h,
+        ← append_assoc (take f r) c (nth r n ∷ drop (suc n) r),
+        append_snoc c v (drop (suc n) r),
+        ← append_assoc (take f r) c (v ∷ drop (suc n) r),
+      )
       (set_at p (nth r n) (drop (suc n) r) v n e)
 
 -- ---- what the stores of the module `area` leave, from what they ensure: t of s
@@ -173,19 +187,24 @@ module _ {s t : List ℕ} {r : List ℤ} (a : Area s r) where
   pub area_set : (k : ℕ) (v : ℤ) → SFits w64 v → t ≡ area_bytes (set (area_of s) k v) → Area t (set r k v)
   area_set k v f e = area_by (λ x. set x k v) e (length-set r k v ∙ a.numbers) (set_fit k r f a.fit)
 
-  pub area-laid : (f : ℕ) (c : List ℤ) → f + length c ≤ run_numbers → AllFit w64 c → t ≡ area_bytes (laid_over (area_of s) f c) → Area t (laid_over r f c)
-  area-laid f c h b e = area_by (λ x. laid_over x f c) e (length-laid r f c (omega (arith, a.numbers, h)) ∙ a.numbers) (laid_fit r f c a.fit b)
+  pub area-laid : (f : ℕ) (c : List ℤ) → f + length c ≤ run_numbers → AllFit w64 c → t ≡ area_bytes (laid_over (area_of s) f c) →
+      Area t (laid_over r f c)
+  area-laid f c h b e =
+      area_by (λ x. laid_over x f c) e (length-laid r f c (omega (arith, a.numbers, h)) ∙ a.numbers) (laid_fit r f c a.fit b)
 
-  pub area_column : (j : ℕ) (c : List ℤ) → j < greatest_order → length c ≤ suc j → AllFit w64 c → t ≡ area_bytes (laid_column (area_of s) j c) → Area t (laid_column r j c)
+  pub area_column : (j : ℕ) (c : List ℤ) → j < greatest_order → length c ≤ suc j → AllFit w64 c →
+      t ≡ area_bytes (laid_column (area_of s) j c) → Area t (laid_column r j c)
   unfolding laid_column
   area_column j c h l b e = area-laid (columns_at + stride * j) c (omega (arith, h, l)) b e
 
 -- ---- the store of one number
-pub area_store : {s : List ℕ} {r : List ℤ} (k : ℕ) (v : ℤ) → k < run_numbers → Area s r → with_signed w64 s (k * bytes w64) v ≡ area_bytes (set r k v)
+pub area_store : {s : List ℕ} {r : List ℤ} (k : ℕ) (v : ℤ) → k < run_numbers → Area s r →
+    with_signed w64 s (k * bytes w64) v ≡ area_bytes (set r k v)
 area_store {s} {r} k v h a = rw a.spelled (sym (bytes_set w64 r run_numbers k v h (omega (arith, a.numbers))))
 
 -- behind those that are laid already
-pub area-more : {s : List ℕ} (r : List ℤ) (f : ℕ) (c : List ℤ) (v : ℤ) {i : ℕ} → length c ≡ i → f + i < run_numbers → length r ≡ run_numbers → SFits w64 v
+pub area-more : {s : List ℕ} (r : List ℤ) (f : ℕ) (c : List ℤ) (v : ℤ) {i : ℕ} → length c ≡ i → f + i < run_numbers →
+    length r ≡ run_numbers → SFits w64 v
     → Area s (laid_over r f c) → Area (with_signed w64 s ((f + i) * bytes w64) v) (laid_over r f (c ++ (v ∷ [])))
 area-more {s} r f c v e h n g a =
     let k : f + length c < run_numbers = omega (arith, e, h) in
@@ -207,4 +226,9 @@ zeros_bytes m (suc n) =
 
 pub area_blank : Area blank_bytes blank_area
 unfolding blank_bytes blank_area
-area_blank = record { spelled = sym (zeros_bytes run_numbers run_numbers); numbers = length-replicate run_numbers (pos 0); fit = record { each = λ i. rw (nth-zeros run_numbers i) (fits_literal tt) } }
+area_blank =
+    record {
+      spelled = sym (zeros_bytes run_numbers run_numbers);
+      numbers = length-replicate run_numbers (pos 0);
+      fit = record { each = λ i. rw (nth-zeros run_numbers i) (fits_literal tt) };
+    }

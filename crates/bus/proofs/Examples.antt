@@ -11,7 +11,8 @@ use Rattle.integers.specs.Root.{whole_root, root_within}
 use Rattle.integers.specs.Numbers.{min_ℤ, max_ℤ}
 use Rattle.tables.specs.Matrix.{at, table, tabulate, row_width}
 use Rattle.tables.specs.Mending.{mended_by}
-use Rattle.tables.specs.Checks.{all, same, first_refusal, order_ok, order_of, within, all_within, nowhere_crossed, tables_within, entry_checks, bounds_checks}
+use Rattle.tables.specs.Checks.{all, same, first_refusal, order_ok, order_of, within, all_within, nowhere_crossed, tables_within}
+use Rattle.tables.specs.Checks.{entry_checks, bounds_checks}
 use Rattle.tables.specs.Answers.{after}
 use Rattle.tables.specs.Entering.{entered}
 use Rattle.tables.specs.declared.Refusal.TheVariants.{Length, Busy}
@@ -24,10 +25,13 @@ use Rattle.tried.specs.Tried.{tried, first}
 use Rattle.solved.specs.Solved.{stopped_factor, solved_entry, solved_rows, solved}
 use Rattle.solved.specs.Stopped.{stopped_at}
 use Rattle.tables.specs.Matrix.{form}
-use Rattle.bus.specs.Registers.{writable, reset_block, put, is_busy, raised, cleared, started_block, refused_block, settled_block, is_raised}
+use Rattle.bus.specs.Registers.{writable, reset_block, put, is_busy, raised, cleared, started_block, refused_block, settled_block}
+use Rattle.bus.specs.Registers.{is_raised}
 use Rattle.bus.specs.Area.{blank_area, blank_bytes, table_at, columns_to, laid_over, laid_column, laid_columns, begun_area}
-use Rattle.bus.specs.Running.{Bus, factor_columns, column_safe, passes, stop_safe, search_safe, column_work, search_work, work_at, work_of, settled, search_verdict, column_taken, listed_shows, worked}
-use Rattle.bus.specs.Bus.{tables_sized, refused_start, begun_start, started, start, reset_bus, commanded, written_at, written, ticked, bus_sized, where_sized, write, line}
+use Rattle.bus.specs.Running.{Bus, factor_columns, column_safe, passes, stop_safe, search_safe, column_work, search_work, work_at, work_of}
+use Rattle.bus.specs.Running.{settled, search_verdict, column_taken, listed_shows, worked}
+use Rattle.bus.specs.Bus.{tables_sized, refused_start, begun_start, started, start, reset_bus, commanded, written_at, written, ticked}
+use Rattle.bus.specs.Bus.{bus_sized, where_sized, write, line}
 use Rattle.bus.specs.declared.line.Line.TheVariants as Line
 
 -- tables of numbers of 8 bytes below 256
@@ -79,11 +83,12 @@ worked_cases :
     -- W87 and W88
     × ((write (take 31 one.block) one.run (pos 0) 1 [] []).answer ≡ Err Length)
     × (shown (ticked (put_in two (pos 5) 1)) ≡ 0 ∷ 1 ∷ 0 ∷ 0 ∷ 0 ∷ 0 ∷ 2 ∷ [])
-unfolding write where_sized bus_sized written written_at commanded writable put start is_busy reset_bus reset_block started entered tables_sized refused_start begun_start
-    started_block refused_block settled_block cleared raised is_raised line ticked work_of work_at column_work search_work factor_columns column_safe
-    passes stop_safe search_safe settled search_verdict column_taken listed_shows worked blank_area blank_bytes table_at columns_to laid_over
-    laid_column laid_columns begun_area numbers_of bytes_of signed_at unsigned_at from_le_bytes to_le_bytes after first_refusal order_ok order_of entry_checks bounds_checks within
-    all_within nowhere_crossed tables_within mended_by all at table tabulate row_width scaled_by take_off entries next_entry goes_on rows next_column
-    upper column_of columns_of least_member least_value nonzero shows tried first stopped_factor solved_entry solved_rows solved stopped_at form sum
-    only floor_div whole_root root_within min_ℤ max_ℤ same
+unfolding write where_sized bus_sized written written_at commanded writable put start is_busy reset_bus reset_block started entered
+    tables_sized refused_start begun_start started_block refused_block settled_block cleared raised is_raised line ticked work_of work_at
+    column_work search_work factor_columns column_safe passes stop_safe search_safe settled search_verdict column_taken listed_shows
+    worked blank_area blank_bytes table_at columns_to laid_over laid_column laid_columns begun_area numbers_of bytes_of signed_at
+    unsigned_at from_le_bytes to_le_bytes after first_refusal order_ok order_of entry_checks bounds_checks within all_within
+    nowhere_crossed tables_within mended_by all at table tabulate row_width scaled_by take_off entries next_entry goes_on rows next_column
+    upper column_of columns_of least_member least_value nonzero shows tried first stopped_factor solved_entry solved_rows solved
+    stopped_at form sum only floor_div whole_root root_within min_ℤ max_ℤ same
 worked_cases = (refl, refl, refl, refl, refl, refl, refl, refl, refl, refl, refl, refl, refl, refl, refl, refl, refl, refl, refl, refl)

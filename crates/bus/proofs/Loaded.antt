@@ -42,7 +42,9 @@ module _ {x t : List ℤ} (p : Padded x t) where
   pub safe_padded : (j : ℕ) → column_safe t j ≡ column_safe x j
   unfolding column_safe
   safe_padded j =
-      rw (factor-padded j) (ap (λ (M : Matrix). factor_columns x j && (all j (λ k. within product_range (M k j)) && le_z (M j j) (pos product_range))) upper-padded)
+      rw (factor-padded j)
+      (ap (λ (M : Matrix). factor_columns x j &&
+      (all j (λ k. within product_range (M k j)) && le_z (M j j) (pos product_range))) upper-padded)
 
   pub stop_padded : (j m : ℕ) → stop_safe t j m ≡ stop_safe x j m
   unfolding stop_safe
@@ -62,15 +64,19 @@ module _ {x t : List ℤ} (p : Padded x t) where
 -- ---- the columns of an area
 module _ (s : List ℕ) where
   length_part : (f k : ℕ) → f + k ≤ run_numbers → length (take k (drop f (area_of s))) ≡ k
-  length_part f k h = length-take-le k (drop f (area_of s)) (omega (arith, h, length-drop f (area_of s), length-numbers_of w64 s run_numbers))
+  length_part f k h =
+      length-take-le k (drop f (area_of s)) (omega (arith, h, length-drop f (area_of s), length-numbers_of w64 s run_numbers))
 
-  module _ {j : ℕ} (h : j < greatest_order) {t : List ℤ} (q : Over (stride * (j + 1)) (take (stride * (j + 1)) (drop columns_at (area_of s))) t) where
+  module _ {j : ℕ} (h : j < greatest_order) {t : List ℤ}
+      (q : Over (stride * (j + 1)) (take (stride * (j + 1)) (drop columns_at (area_of s))) t) where
     pub loaded-columns : Padded (columns_to (area_of s) j) t
     unfolding columns_to
     loaded-columns = rw (← add-one j) (over-padded (length_part columns_at (stride * (j + 1)) (omega arith)) (omega arith) q)
 
     pub loaded_room : length t ≡ table_room
-    loaded_room = over_room (take (stride * (j + 1)) (drop columns_at (area_of s))) (length_part columns_at (stride * (j + 1)) (omega arith)) (omega arith) q
+    loaded_room =
+        over_room (take (stride * (j + 1)) (drop columns_at (area_of s))) (length_part columns_at (stride * (j + 1)) (omega arith))
+        (omega arith) q
 
   pub length-table_at : {n : ℕ} (f : ℕ) → n ≤ greatest_order → f + table_room ≤ run_numbers → length (table_at n (area_of s) f) ≡ n * n
   unfolding table_at
@@ -80,12 +86,14 @@ module _ (s : List ℕ) where
 module _ {n : ℕ} (some : 0 < n) (small : n ≤ greatest_order) where
   is_order : order_ok (pos n) ≡ true
   unfolding order_ok
-  is_order = and_of (le_z_true {x = pos 1} {y = pos n} (≤_in (omega arith))) (le_z_true {x = pos n} {y = pos greatest_order} (≤_in (omega arith)))
+  is_order =
+      and_of (le_z_true {x = pos 1} {y = pos n} (≤_in (omega arith))) (le_z_true {x = pos n} {y = pos greatest_order} (≤_in (omega arith)))
 
   pub order_same : order_of (pos n) ≡ n
   order_same = order-known (pos n) is_order
 
-  module _ (l u : List ℤ) {l₀ u₀ : List ℤ} (el : length l ≡ n * n) (eu : length u ≡ n * n) (ql : Over (n * n) l l₀) (qu : Over (n * n) u u₀) {r : Checked} {l' u' : List ℤ}
+  module _ (l u : List ℤ) {l₀ u₀ : List ℤ} (el : length l ≡ n * n) (eu : length u ≡ n * n) (ql : Over (n * n) l l₀)
+      (qu : Over (n * n) u u₀) {r : Checked} {l' u' : List ℤ}
       (m : Mended (table_checks n l₀ u₀) n l₀ u₀ r l' u') where
     entered : Entered (pos n) true true l u r l' u'
     entered =
@@ -100,7 +108,9 @@ module _ {n : ℕ} (some : 0 < n) (small : n ≤ greatest_order) where
     pub loaded-tables : TablesLoaded n l u r l' u'
     loaded-tables =
         record {
-          answered = entered.answered ∙ rw order_same (more-checks (entry_checks (pos n) true) (table_checks n l u) (entry-passes (pos n) is_order refl));
+          answered =
+              entered.answered
+              ∙ rw order_same (more-checks (entry_checks (pos n) true) (table_checks n l u) (entry-passes (pos n) is_order refl));
           rooms = entered.rooms;
           held = λ e. rw order_same at (entered.held e);
         }

@@ -21,4 +21,5 @@ tables-sized-of n l u e =
 
 pub bus-sized-of : (b s : List ℕ) → bus_sized b s ≡ true → (length b ≡ block_bytes) × (length s ≡ run_bytes)
 unfolding bus_sized
-bus-sized-of b s e = (eqb-true (length b) block_bytes (and_left _ _ e), eqb-true (length s) run_bytes (and_right (eqb (length b) block_bytes) _ e))
+bus-sized-of b s e =
+    (eqb-true (length b) block_bytes (and_left _ _ e), eqb-true (length s) run_bytes (and_right (eqb (length b) block_bytes) _ e))

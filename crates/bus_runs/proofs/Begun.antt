@@ -41,7 +41,8 @@ module _ (n : ℕ) (l u : List ℤ) (a : Tables n l u) where
   -- every entry of H fits
   scaled_fits : (i j : ℕ) → i ≤ j → j < n → SFits w64 (H i j)
   scaled_fits i j h k =
-      by_cases (ℕ_discrete i j) (λ e. rw (e, scaled_on (take_off n) n (at n l) (at n u) j) (on_fits a.order (bounds-ranged (tables-bounds a)) k k))
+      by_cases (ℕ_discrete i j)
+      (λ e. rw (e, scaled_on (take_off n) n (at n l) (at n u) j) (on_fits a.order (bounds-ranged (tables-bounds a)) k k))
       (λ d. fits_within (bounds_off (tables-bounds a) a.order i j (omega arith) k) (omega arith))
 
   columns-laid : (k : ℕ) → k ≤ n → Laid k
@@ -51,7 +52,10 @@ module _ (n : ℕ) (l u : List ℤ) (a : Tables n l u) where
         table = zeros table_room;
         laid = refl;
         entries = record { size = length-replicate table_room (pos 0); entries = λ i j p q. absurd (omega arith) };
-        fits = fits_list (λ i p. rw (get_or-replicate table_room i (pos 0) (pos 0) (omega (arith, length-replicate table_room (pos 0)))) (fits_small (omega arith)));
+        fits =
+            fits_list
+            (λ i p. rw (get_or-replicate table_room i (pos 0) (pos 0) (omega (arith, length-replicate table_room (pos 0))))
+            (fits_small (omega arith)));
       }
   columns-laid (suc k) h =
       let b = columns-laid k (omega arith) in
@@ -71,7 +75,8 @@ module _ (n : ℕ) (l u : List ℤ) (a : Tables n l u) where
               (λ f. rw f (upper-laid b.table k c s inside short i (omega arith) ∙ nth-tabulate (suc k) (λ i. H i k) i (omega arith)))
               (λ f. upper-kept b.table k c s inside short i j (omega arith) f ∙ b.entries.entries i j p (omega arith));
         };
-        fits = laid_fit b.table (stride * k) c b.fits (tabulate_fit (suc k) (λ i. H i k) (λ i p. scaled_fits i k (omega arith) (omega arith)));
+        fits =
+            laid_fit b.table (stride * k) c b.fits (tabulate_fit (suc k) (λ i. H i k) (λ i p. scaled_fits i k (omega arith) (omega arith)));
       }
 
   -- the area before them

@@ -78,7 +78,8 @@ module _ {b : List ℕ} (z : SizedBlock b) where
       let z₁ = sized_set z status 0 in
       let z₂ = sized_set z₁ number 0 in
       record {
-        status_is = set_other z₂ verdict 0 status (omega arith) ∙ set_other z₁ number 0 status (omega arith) ∙ set_same z status 0 (omega arith);
+        status_is =
+            set_other z₂ verdict 0 status (omega arith) ∙ set_other z₁ number 0 status (omega arith) ∙ set_same z status 0 (omega arith);
         number_is = set_other z₂ verdict 0 number (omega arith) ∙ set_same z₁ number 0 (omega arith);
         verdict_is = set_same z₂ verdict 0 (omega arith);
       }
@@ -87,7 +88,8 @@ module _ {b : List ℕ} (z : SizedBlock b) where
   unfolding cleared
   cleared-flags =
       let z₁ = sized_set z status 0 in
-      set_other (sized_set z₁ number 0) verdict 0 flags (omega arith) ∙ set_other z₁ number 0 flags (omega arith) ∙ set_other z status 0 flags (omega arith)
+      set_other (sized_set z₁ number 0) verdict 0 flags (omega arith) ∙ set_other z₁ number 0 flags (omega arith)
+      ∙ set_other z status 0 flags (omega arith)
 
   pub started-sized : SizedBlock (started_block b)
   unfolding started_block
@@ -126,10 +128,12 @@ module _ {b : List ℕ} (z : SizedBlock b) where
       record {
         status_is = raised-status refused z₁ ∙ ap (λ (x : ℕ). bit_or x refused) (set_other z₀ number m status (omega arith) ∙ c.status_is);
         number_is = raised_other refused z₁ number (omega arith) (omega arith) ∙ set_same z₀ number m (omega arith);
-        verdict_is = raised_other refused z₁ verdict (omega arith) (omega arith) ∙ set_other z₀ number m verdict (omega arith) ∙ c.verdict_is;
+        verdict_is =
+            raised_other refused z₁ verdict (omega arith) (omega arith) ∙ set_other z₀ number m verdict (omega arith) ∙ c.verdict_is;
       }
 
-  pub refused-flagged : (m : ℕ) (q r : List ℕ) → Flagged (record { block = b; run = q }) (record { block = refused_block m b; run = r }) refused
+  pub refused-flagged : (m : ℕ) (q r : List ℕ) →
+      Flagged (record { block = b; run = q }) (record { block = refused_block m b; run = r }) refused
   unfolding refused_block
   refused-flagged m q r =
       let z₀ = sized-cleared in
@@ -181,7 +185,8 @@ unfolding put
 put-none k x v e f g = rw (put, f, e, and_zero_r v, g, or_zero_r x) refl
 
 -- leaves it, and one to another too
-put_keeps : {b : List ℕ} → SizedBlock b → (i x k v : ℕ) → register b i ≡ x → i < block_bytes → writable i ≡ 0 → eqb i flags ≡ false → bit_and x all_bits ≡ x →
+put_keeps : {b : List ℕ} → SizedBlock b → (i x k v : ℕ) → register b i ≡ x → i < block_bytes → writable i ≡ 0 → eqb i flags ≡ false →
+    bit_and x all_bits ≡ x →
     register (set b k (put k (register b k) v)) i ≡ x
 put_keeps z i x k v e h w f g =
     by_cases (ℕ_discrete i k) (λ q. rw (← q, e) (set_same z i (put i x v) h ∙ put-none i x v w f g)) (λ q. set_other z k _ i q ∙ e)

@@ -62,7 +62,8 @@ line-raised : (b : List ℕ) → length b ≡ block_bytes → line b ≡ elim (i
 unfolding line
 line-raised b e = rw (line, eq-eqb _ _ e) refl
 
-raised-only : (x : Bool) → ◌≡◌ {A = Result Line Refusal} (elim x [ true ↦ Ok Line.Raised | false ↦ Ok Line.Low ]) (Ok Line.Raised) → x ≡ true
+raised-only : (x : Bool) → ◌≡◌ {A = Result Line Refusal} (elim x [ true ↦ Ok Line.Raised | false ↦ Ok Line.Low ]) (Ok Line.Raised) →
+    x ≡ true
 raised-only true e = refl
 raised-only false e = cc
 

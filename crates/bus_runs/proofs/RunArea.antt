@@ -65,12 +65,14 @@ laid_past h t c m f e =
     rw (a, drop_past h t m (f + length c) e, ← e, take-append-add h t f, append_assoc h)
 
 -- at the front of a part
-pub laid-part : (h a b c : List ℤ) (m : ℕ) → length h ≡ m → length c ≤ length a → laid_over (h ++ (a ++ b)) m c ≡ h ++ ((c ++ drop (length c) a) ++ b)
+pub laid-part : (h a b c : List ℤ) (m : ℕ) → length h ≡ m → length c ≤ length a →
+    laid_over (h ++ (a ++ b)) m c ≡ h ++ ((c ++ drop (length c) a) ++ b)
 unfolding laid_over
 laid-part h a b c m e p = rw (take_at h (a ++ b) m e, drop_past h (a ++ b) m (length c) e, drop-append-le (length c) a b p, append_assoc c)
 
 -- ---- a column laid over a table
-module _ (t : List ℤ) (j : ℕ) (c : List ℤ) (size : length t ≡ table_room) (inside : j < greatest_order) (short : length c ≤ greatest_order) where
+module _ (t : List ℤ) (j : ℕ) (c : List ℤ) (size : length t ≡ table_room) (inside : j < greatest_order)
+    (short : length c ≤ greatest_order) where
   room : stride * j + length c ≤ length t
   room = omega arith
 
@@ -167,7 +169,8 @@ module _ (n : ℕ) (l u : List ℤ) where
     pub area-high : (j p : ℕ) (t : List ℤ) → table_at n (area j p t) high_at ≡ u
     unfolding table_at area front
     area-high j p t =
-        rw (append_assoc (filled l), drop_at (filled l) (filled u ++ t) table_room (filled_room l low-short)) (take-filled u t (n * n) b.high)
+        rw (append_assoc (filled l), drop_at (filled l) (filled u ++ t) table_room (filled_room l low-short))
+        (take-filled u t (n * n) b.high)
 
     pub area-columns : (j p : ℕ) (t : List ℤ) (i : ℕ) → columns_to (area j p t) i ≡ take (stride * suc i) t
     unfolding columns_to area
@@ -183,9 +186,11 @@ module _ (n : ℕ) (l u : List ℤ) where
     front_fits j p h k =
         more_fit (fits_small (omega (arith, b.order)))
         (more_fit (fits_small h)
-        (more_fit (fits_small k) (append_fit (filled l) (filled u) (filled_fits l low-short (low_fits b)) (filled_fits u high-short (high_fits b)))))
+        (more_fit (fits_small k)
+        (append_fit (filled l) (filled u) (filled_fits l low-short (low_fits b)) (filled_fits u high-short (high_fits b)))))
 
-    pub area-kept : (j p : ℕ) (t : List ℤ) → j < 2 ^ 63 → p < 2 ^ 63 → length t ≡ table_room → AllFit w64 t → area_of (area_bytes (area j p t)) ≡ area j p t
+    pub area-kept : (j p : ℕ) (t : List ℤ) → j < 2 ^ 63 → p < 2 ^ 63 → length t ≡ table_room → AllFit w64 t →
+        area_of (area_bytes (area j p t)) ≡ area j p t
     unfolding area
     area-kept j p t h k e f =
         area-read (record {

@@ -35,12 +35,14 @@ use Rattle.verdict.specs.Judge.{Judgement, definite, not_definite, undecided, re
 use Rattle.verdict.proofs.Decisions.{judged-ends, judged_stops}
 use Rattle.buffers.specs.Buffers.{table_of}
 use Rattle.bus.specs.Registers as Registers
-use Rattle.bus.specs.Registers.{block_bytes, command, start_command, reset_command, order, busy, done, all_bits, register, reset_value, reset_block}
+use Rattle.bus.specs.Registers.{block_bytes, command, start_command, reset_command, order, busy, done, all_bits, register, reset_value}
+use Rattle.bus.specs.Registers.{reset_block}
 use Rattle.bus.specs.Registers.{writable, is_busy}
 use Rattle.bus.specs.Area.{area_bytes, blank_bytes, begun_area}
 use Rattle.bus.specs.Running.{Bus, settled}
 use Rattle.bus.specs.Bus as Acts
-use Rattle.bus.specs.Bus.{Moved, written, written_at, commanded, start, started, tables_sized, refused_start, begun_start, ticked, reset_bus}
+use Rattle.bus.specs.Bus.{Moved, written, written_at, commanded, start, started, tables_sized, refused_start, begun_start, ticked}
+use Rattle.bus.specs.Bus.{reset_bus}
 use Rattle.bus_runs.specs.Operations.{Operation, write, tick, read, look, Sized, applied, after, starts, resets}
 use Rattle.bus_runs.specs.Operations.{commands, is_start, is_reset, any_reset, any_command, counted, ticks}
 use Rattle.bus_runs.specs.Runs.{verdict_number, Shows, Flagged, judgement, StartMeaning}
@@ -112,7 +114,8 @@ module _ {x y w : ℕ} (a : Bytes x y w) {s : Bus} (z : SizedBlock s.block) (h :
       choice_by (λ (m : Moved). Kept x y w s m.bus) (eqb c start_command) f
       (λ t. choice_by (Kept x y w s) (eqb c reset_command) (λ r. absurd (subst T e r)) (λ r. kept_self))
 
-  write_kept : (k : ℤ) (v : ℕ) (l u : List ℕ) → (T (is_start (write k v l u)) → Kept x y w s (start s l u).bus) → is_reset (write k v l u) ≡ false →
+  write_kept : (k : ℤ) (v : ℕ) (l u : List ℕ) → (T (is_start (write k v l u)) → Kept x y w s (start s l u).bus) →
+      is_reset (write k v l u) ≡ false →
       Kept x y w s (written s k v l u).bus
   unfolding written written_at commands
   write_kept (pos zero) v l u f e = command-kept (bit_and v (writable command)) l u f e
@@ -208,7 +211,8 @@ module _ (n : ℕ) (l u : List ℤ) (a : Tables n l u) where
       let o = is_reset (write k v x y) in
       let z = g.sized in
       let kept =
-      write_kept busy_bytes z g.shows k v x y (λ t. rw (start-busy s x y (shows-busy z g.shows)) (kept_self busy_bytes z g.shows)) (or_left o _ e) in
+      write_kept busy_bytes z g.shows k v x y (λ t. rw (start-busy s x y (shows-busy z g.shows)) (kept_self busy_bytes z g.shows))
+      (or_left o _ e) in
       rw (write_works (running-sized g) k v x y) (run_on os (or_right o _ e) m (running-kept g kept) q h)
   run_on (tick ∷ os) e m g q h = rw (tick_works (running-sized g)) (run_on os e m (tick_goes g (omega arith)) (omega arith) h)
   run_on (read k ∷ os) e m g q h = run_on os e m g q h
@@ -366,7 +370,8 @@ module _ (s : Bus) (l u : List ℕ) (sizes : Sized s) (idle : is_busy s.block �
           }
       go (Ok tt) e =
           let a = tables e in
-          let on : (os : List Operation) → any_reset os ≡ false → ticks os < last_tick k low high → Running k low high a (ticks os) (after os (applied (starts l u) s)) =
+          let on : (os : List Operation) → any_reset os ≡ false → ticks os < last_tick k low high →
+          Running k low high a (ticks os) (after os (applied (starts l u) s)) =
           λ os g h. run_on k low high a os g (ticks os) (running e) (omega arith) h in
           let b = applied (starts l u) s in
           let none : (i : Refusal) → judgement s l u ≡ refused i → ⊥ = λ i f. judged-given k _ _ i (sym (passed-judgement e) ∙ f) in
@@ -385,6 +390,7 @@ module _ (s : Bus) (l u : List ℕ) (sizes : Sized s) (idle : is_busy s.block �
             stays = λ f os g h ps p.
                 let r = on os g (omega arith) in
                 rw (after-append os (tick ∷ ps) b, passed-judgement e)
-                (stay_on (done_bytes _) refl ps p (sizes-kept tick (after os b) (running-sized k low high a r)) (last-shows k low high a r h));
+                (stay_on (done_bytes _) refl ps p (sizes-kept tick (after os b) (running-sized k low high a r))
+                (last-shows k low high a r h));
             soon = λ f. last-soon k low high a;
           }

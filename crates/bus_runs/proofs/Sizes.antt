@@ -20,7 +20,8 @@ use Rattle.bus.specs.Registers.{block_bytes, command, start_command, reset_comma
 use Rattle.bus.specs.Area.{run_numbers, run_bytes, area_of, area_bytes, blank_bytes}
 use Rattle.bus.specs.Running.{Bus, Work, nothing, column, search, settled, column_taken, worked, work_of}
 use Rattle.bus.specs.Bus as Acts
-use Rattle.bus.specs.Bus.{Moved, written, written_at, commanded, start, started, refused_start, begun_start, ticked, reset_bus, bus_sized, where_sized}
+use Rattle.bus.specs.Bus.{Moved, written, written_at, commanded, start, started, refused_start, begun_start, ticked, reset_bus, bus_sized}
+use Rattle.bus.specs.Bus.{where_sized}
 use Rattle.bus_runs.specs.Operations.{Operation, write, tick, read, look, Sized, applied, after}
 use Rattle.bus_runs.proofs.Blocks.{SizedBlock, sized_set, started-sized, refused-sized, settled-sized}
 

@@ -43,7 +43,8 @@ use Rattle.solved.proofs.Stops.{Stop, bounds_stop, done-small}
 use Rattle.verdict.specs.Judge.{shown_by, judged, listed}
 use Rattle.verdict.proofs.Decisions.{judged-ends, judged_stops}
 use Rattle.bus.specs.Area.{column_at, stop_at, low_at, high_at, table_at, area_of, area_bytes, columns_to, laid_over, laid_column}
-use Rattle.bus.specs.Running.{Bus, column, search, work_of, work_at, column_work, search_work, factor_columns, column_safe, passes, stop_safe, search_safe}
+use Rattle.bus.specs.Running.{Bus, column, search, work_of, work_at, column_work, search_work, factor_columns, column_safe, passes}
+use Rattle.bus.specs.Running.{stop_safe, search_safe}
 use Rattle.bus.specs.Running.{settled, search_verdict, column_taken, listed_shows, worked}
 use Rattle.bus.proofs.Areas.{laid_fit}
 use Rattle.bus_runs.specs.Runs.{verdict_number, settling_tick}
@@ -64,7 +65,8 @@ unfolding factor_columns
 safe_columns t j d =
     all_of _ j (λ l h.
     and_of (all_of _ (suc l) (λ k p. within_true (done-small t j d k l (omega arith) h)))
-    (le_z_true (subst (λ (z : ℤ). pos 1 ≤ℤ z) (entries-columns_of t j l l (omega arith) h) (d.on l (omega (arith, length-columns_of t j))).one)))
+    (le_z_true
+    (subst (λ (z : ℤ). pos 1 ≤ℤ z) (entries-columns_of t j l l (omega arith) h) (d.on l (omega (arith, length-columns_of t j))).one)))
 
 -- factoring goes on from the columns that are done
 columns_grow : (H : Matrix) (k : ℕ) (cs : List (List ℤ)) → length cs ≤ length (columns_from H k cs).columns
@@ -195,7 +197,8 @@ module _ (n : ℕ) (l u : List ℤ) where
 
       column-tick : (b : List ℕ) → worked b (area_bytes r) (work_of (area_of (area_bytes r))) ≡ column_taken b r n i c
       unfolding worked
-      column-tick b = rw (column-kept, work-is i 0 t p.inside ∙ column-at) (rw (column-kept, area-columns n l u a i 0 t i, column-made) refl)
+      column-tick b =
+          rw (column-kept, work-is i 0 t p.inside ∙ column-at) (rw (column-kept, area-columns n l u a i 0 t i, column-made) refl)
 
       from-here : factored n L U ≡ columns_from H (suc (n - suc i)) cs
       from-here = let m : n - i ≡ suc (n - suc i) = omega (arith, p.inside) in rw m at p.so_far
@@ -290,7 +293,9 @@ module _ (n : ℕ) (l u : List ℤ) where
         halted-next =
             let s = take (stride * suc i) (t' cut) in
             let old : columns_of s i ≡ cs =
-            columns_of_ext s t i (λ k j h q. upper-front (t' cut) i k j (omega (arith, small)) (omega arith) ∙ kept cut k j (omega (arith, small)) (omega arith)) in
+            columns_of_ext s t i
+            (λ k j h q. upper-front (t' cut) i k j (omega (arith, small)) (omega arith)
+            ∙ kept cut k j (omega (arith, small)) (omega arith)) in
             let new : column_of s i (length c.column) ≡ c.column =
             column_is s c.column i (λ k h. upper-front (t' cut) i k i (omega (arith, few cut)) (omega arith) ∙ new cut k h) in
             record {
@@ -344,7 +349,8 @@ module _ (n : ℕ) (l u : List ℤ) where
       unfolding search_safe stop_safe passes stopped_at
       search-safe =
           let near : (k : ℕ) → k < m → Within stop_range (upper made k j) =
-          λ k h. subst (Within stop_range) (nth-column_of made j m k h) (search-stop.cut.near.each k (omega (arith, length-column_of made j m))) in
+          λ k h. subst (Within stop_range) (nth-column_of made j m k h)
+          (search-stop.cut.near.each k (omega (arith, length-column_of made j m))) in
           and_of (and_of (safe_columns {H = H} made j search-stop.done) (all_of _ m (λ k h. within_true (near k h)))) (rw a.checked refl)
 
       search-at : work_at q n j (pos (suc m)) ≡ search n j m
@@ -353,23 +359,35 @@ module _ (n : ℕ) (l u : List ℤ) where
           let rows : suc m - 1 ≡ m = omega arith in
           let safe : search_safe n (table_at n q low_at) (table_at n q high_at) (columns_to q j) j m ≡ true =
           rw (area-low n l u a j (suc m) t, area-high n l u a j (suc m) t, area-columns n l u a j (suc m) t j) search-safe in
-          chosen _ _ (le-leb 1 (suc m) (omega arith)) ∙ chosen _ _ (le-leb (suc m) (suc j) (omega (arith, search-rows))) ∙ rw rows (chosen _ _ safe)
+          chosen _ _ (le-leb 1 (suc m) (omega arith)) ∙ chosen _ _ (le-leb (suc m) (suc j) (omega (arith, search-rows)))
+          ∙ rw rows (chosen _ _ safe)
 
       search-kept : area_of (area_bytes q) ≡ q
-      search-kept = area-kept n l u a j (suc m) t (omega (arith, search-inside, a.order)) (omega (arith, search-rows, search-inside, a.order)) p.size p.fits
+      search-kept =
+          area-kept n l u a j (suc m) t (omega (arith, search-inside, a.order))
+          (omega (arith, search-rows, search-inside, a.order)) p.size p.fits
 
       -- it gives the judge's verdict
       verdict_is : verdict ≡ search_verdict (listed_shows n L U made j m)
       unfolding listed listed_shows
       verdict_is =
           ap verdict_number (judged_stops n L U search-ends) ∙ shown-number _
-          ∙ ap (λ (f : Factoring). search_verdict (first (λ x. shows n L U (nth x)) (tried n ++ (solved n f (pos 1) ++ solved n f (pos 64))))) p.stopped
+          ∙ ap (λ (f : Factoring). search_verdict
+          (first (λ x. shows n L U (nth x)) (tried n ++ (solved n f (pos 1) ++ solved n f (pos 64))))) p.stopped
 
       search-tick : (b : List ℕ) → worked b (area_bytes q) (work_of (area_of (area_bytes q))) ≡ settled verdict b
       unfolding worked
       search-tick b =
           rw (search-kept, work-is j (suc m) t search-inside ∙ search-at)
-          (rw (search-kept, area-low n l u a j (suc m) t, area-high n l u a j (suc m) t, area-columns n l u a j (suc m) t j, a.low-mended, a.high-mended, ← verdict_is) refl)
+          (rw (
+            search-kept,
+            area-low n l u a j (suc m) t,
+            area-high n l u a j (suc m) t,
+            area-columns n l u a j (suc m) t j,
+            a.low-mended,
+            a.high-mended,
+            ← verdict_is,
+          ) refl)
 
       search-last : suc (suc j) ≡ last_tick
       unfolding stopped_at

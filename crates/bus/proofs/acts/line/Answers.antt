@@ -8,7 +8,8 @@ returns-then-block-ne-BLOCK_BYTES c = record { exact = rw (line, ne_eqb _ _ c.if
 
 pub returns-then-is_raised : goal.returns-then-is_raised
 unfolding line
-returns-then-is_raised c = record { exact = rw (line, eq-eqb _ _ c.if-block-ne-BLOCK_BYTES.false, ← c.is_raised.ensures, c.if-is_raised.true) }
+returns-then-is_raised c =
+    record { exact = rw (line, eq-eqb _ _ c.if-block-ne-BLOCK_BYTES.false, ← c.is_raised.ensures, c.if-is_raised.true) }
 
 pub returns : goal.returns
 unfolding line

@@ -14,4 +14,7 @@ returns-then-value-ne1 c = record { exact = rw (read, eq-eqb _ _ c.if-block-ne-B
 pub returns : goal.returns
 unfolding read
 returns c =
-    record { exact = rw (read, eq-eqb _ _ c.if-block-ne-BLOCK_BYTES.false, eq-eqb _ _ c.if-value-ne1.false, c.read_at.ensures, clean c.ranges.address) }
+    record {
+      exact =
+          rw (read, eq-eqb _ _ c.if-block-ne-BLOCK_BYTES.false, eq-eqb _ _ c.if-value-ne1.false, c.read_at.ensures, clean c.ranges.address);
+    }

@@ -21,9 +21,16 @@ step-requires c = bus-sized-of _ _ (sym c.bus_sized.ensures ∙ c.if-not-bus_siz
 pub returns-then-is_busy : goal.returns-then-is_busy
 unfolding tick where_sized ticked
 returns-then-is_busy c =
-    record { exact = rw (tick, where_sized, sym c.bus_sized.ensures ∙ c.if-not-bus_sized.false, ticked, ← c.is_busy.ensures, c.if-is_busy.true) (ap let_through c.step.ensures) }
+    record {
+      exact =
+          rw (tick, where_sized, sym c.bus_sized.ensures ∙ c.if-not-bus_sized.false, ticked, ← c.is_busy.ensures, c.if-is_busy.true)
+          (ap let_through c.step.ensures);
+    }
 
 pub returns-else-is_busy : goal.returns-else-is_busy
 unfolding tick where_sized ticked
 returns-else-is_busy c =
-    record { exact = rw (tick, where_sized, sym c.bus_sized.ensures ∙ c.if-not-bus_sized.false, ticked, ← c.is_busy.ensures, c.if-is_busy.false) }
+    record {
+      exact =
+          rw (tick, where_sized, sym c.bus_sized.ensures ∙ c.if-not-bus_sized.false, ticked, ← c.is_busy.ensures, c.if-is_busy.false);
+    }

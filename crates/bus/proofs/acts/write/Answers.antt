@@ -22,7 +22,11 @@ module _ {a : ℤ} (f : SFits w64 a) where
   high e = rw (clean f) at e
 
   small : lt_z (to_z w64 (of_z w64 a)) (pos 0) ≡ false → lt_z (to_z w64 (of_z w64 a)) (pos block_bytes) ≡ true → nat_abs a < block_bytes
-  small e g = omega (arith, (within_in {m = 31} {x = a} (omega (signed, low e)) (omega (signed, lt_holds {x = a} {y = pos block_bytes} (high g)))).size)
+  small e g =
+      omega (
+        arith,
+        (within_in {m = 31} {x = a} (omega (signed, low e)) (omega (signed, lt_holds {x = a} {y = pos block_bytes} (high g)))).size,
+      )
 
 pub returns-then-not-bus_sized : goal.returns-then-not-bus_sized
 unfolding write where_sized
@@ -33,7 +37,13 @@ unfolding write where_sized written
 returns-then-address-lt0 c =
     record {
       exact =
-          rw (write, where_sized, sym c.bus_sized.ensures ∙ c.if-not-bus_sized.false, written, le_z_false {x = pos 0} {y = c.args.address} (lt_yes c.ranges.address (fits_literal tt) c.if-address-lt0.true));
+          rw (
+            write,
+            where_sized,
+            sym c.bus_sized.ensures ∙ c.if-not-bus_sized.false,
+            written,
+            le_z_false {x = pos 0} {y = c.args.address} (lt_yes c.ranges.address (fits_literal tt) c.if-address-lt0.true),
+          );
     }
 
 pub overflow_cast-address : goal.overflow_cast-address
@@ -49,7 +59,14 @@ unfolding write where_sized written
 returns-then-address c =
     record {
       exact =
-          rw (write, where_sized, sym c.bus_sized.ensures ∙ c.if-not-bus_sized.false, written, le_z_true {x = pos 0} {y = c.args.address} (low c.ranges.address c.if-address-lt0.false), high c.ranges.address c.if-address.true)
+          rw (
+            write,
+            where_sized,
+            sym c.bus_sized.ensures ∙ c.if-not-bus_sized.false,
+            written,
+            le_z_true {x = pos 0} {y = c.args.address} (low c.ranges.address c.if-address-lt0.false),
+            high c.ranges.address c.if-address.true,
+          )
           (rw (clean c.ranges.address) at c.write_at.ensures);
     }
 
@@ -58,5 +75,12 @@ unfolding write where_sized written
 returns c =
     record {
       exact =
-          rw (write, where_sized, sym c.bus_sized.ensures ∙ c.if-not-bus_sized.false, written, le_z_true {x = pos 0} {y = c.args.address} (low c.ranges.address c.if-address-lt0.false), high c.ranges.address c.if-address.false);
+          rw (
+            write,
+            where_sized,
+            sym c.bus_sized.ensures ∙ c.if-not-bus_sized.false,
+            written,
+            le_z_true {x = pos 0} {y = c.args.address} (low c.ranges.address c.if-address-lt0.false),
+            high c.ranges.address c.if-address.false,
+          );
     }

@@ -23,5 +23,7 @@ loop-i-preserved c =
     let l = c.loop-i in
     let a = c.args in
     let x = drop a.first (area_of a.run.now) in
-    let v = clean_result c.load_signed ∙ c.load_signed.ensures ∙ sym (get_or-drop a.first (area_of a.run.now) l.i (pos 0) ∙ nth-area a.run.now (a.first + l.i) (omega arith)) in
+    let v =
+    clean_result c.load_signed ∙ c.load_signed.ensures
+    ∙ sym (get_or-drop a.first (area_of a.run.now) l.i (pos 0) ∙ nth-area a.run.now (a.first + l.i) (omega arith)) in
     rw (add-one, l.invariant, v) (copied_more x a.out.now l.i (omega (arith, long a.run.now a.first)) (omega arith))

@@ -26,23 +26,32 @@ small h k = (within_in {m = order} (omega (signed, h)) k).size
 
 pub returns-then-address : goal.returns-then-address
 unfolding read_at
-returns-then-address c = let a = c.args.address in rw (le_z_false {x = pos status} {y = a} (lt_yes c.ranges.address (fits_literal tt) c.if-address.true))
+returns-then-address c =
+    let a = c.args.address in rw (le_z_false {x = pos status} {y = a} (lt_yes c.ranges.address (fits_literal tt) c.if-address.true))
 
 pub returns-then-address-2 : goal.returns-then-address-2
 unfolding read_at
 returns-then-address-2 c =
     let a = c.args.address in
-    rw (le_z_true {x = pos status} {y = a} (low c.ranges.address c.if-address.false), le_z_false {x = a} {y = pos order} (lt_yes (fits_literal tt) c.ranges.address c.if-address-2.true))
+    rw (
+      le_z_true {x = pos status} {y = a} (low c.ranges.address c.if-address.false),
+      le_z_false {x = a} {y = pos order} (lt_yes (fits_literal tt) c.ranges.address c.if-address-2.true),
+    )
 
 pub overflow_cast-result : goal.overflow_cast-result
 overflow_cast-result c = as_usize c.ranges.address (omega (signed, low c.ranges.address c.if-address.false))
 
 pub bounds-block-address : goal.bounds-block-address
 bounds-block-address c =
-    rw (clean c.ranges.address) (omega (arith, small (low c.ranges.address c.if-address.false) (high c.ranges.address c.if-address-2.false), c.requires))
+    rw (clean c.ranges.address)
+    (omega (arith, small (low c.ranges.address c.if-address.false) (high c.ranges.address c.if-address-2.false), c.requires))
 
 pub returns : goal.returns
 unfolding read_at
 returns c =
     let a = c.args.address in
-    rw (clean c.ranges.address, le_z_true {x = pos status} {y = a} (low c.ranges.address c.if-address.false), le_z_true {x = a} {y = pos order} (high c.ranges.address c.if-address-2.false))
+    rw (
+      clean c.ranges.address,
+      le_z_true {x = pos status} {y = a} (low c.ranges.address c.if-address.false),
+      le_z_true {x = a} {y = pos order} (high c.ranges.address c.if-address-2.false),
+    )

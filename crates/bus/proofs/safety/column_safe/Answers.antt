@@ -21,11 +21,16 @@ column_within-requires c = (c.requires.0, omega arith, c.requires.1, pos_nonneg 
 pub returns-then-not-column_within : goal.returns-then-not-column_within
 unfolding column_safe upper
 returns-then-not-column_within c =
-    rw (sym c.factor_columns.ensures ∙ c.if-not-factor_columns.false) (sym (and_first_false _ (sym c.column_within.ensures ∙ c.if-not-column_within.true)))
+    rw (sym c.factor_columns.ensures ∙ c.if-not-factor_columns.false)
+    (sym (and_first_false _ (sym c.column_within.ensures ∙ c.if-not-column_within.true)))
 
 pub returns : goal.returns
 unfolding column_safe upper
 returns c =
     let t = c.args.t.now in
     let j = c.args.j in
-    rw (sym c.factor_columns.ensures ∙ c.if-not-factor_columns.false, sym c.column_within.ensures ∙ c.if-not-column_within.false, clean_element (upper t j j) c.result-1.given)
+    rw (
+      sym c.factor_columns.ensures ∙ c.if-not-factor_columns.false,
+      sym c.column_within.ensures ∙ c.if-not-column_within.false,
+      clean_element (upper t j j) c.result-1.given,
+    )

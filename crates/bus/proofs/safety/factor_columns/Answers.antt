@@ -40,10 +40,13 @@ returns-then-not-column_within c =
 pub returns-then-t-l-lt1 : goal.returns-then-t-l-lt1
 unfolding factor_columns upper
 returns-then-t-l-lt1 c =
-    sym (all_false _ _ c.loop-l.l c.loop-l-test.true (and_second_false (ranged c.before.before.before) (read_less (diagonal c.before.before.before.before.before) (pos 1) c.t11-1.given (omega arith) c.if-t-l-lt1.true)))
+    sym (all_false _ _ c.loop-l.l c.loop-l-test.true
+    (and_second_false (ranged c.before.before.before)
+    (read_less (diagonal c.before.before.before.before.before) (pos 1) c.t11-1.given (omega arith) c.if-t-l-lt1.true)))
 
 pub loop-l-preserved : goal.loop-l-preserved
 unfolding factor_columns upper
 loop-l-preserved c =
     all_more _ c.loop-l.l c.loop-l.invariant
-    (and_of (sym (found c.before.before.before) ∙ c.if-not-column_within.false) (read_not_less (diagonal c.before.before.before.before.before) (pos 1) c.t11-1.given (omega arith) c.if-t-l-lt1.false))
+    (and_of (sym (found c.before.before.before) ∙ c.if-not-column_within.false)
+    (read_not_less (diagonal c.before.before.before.before.before) (pos 1) c.t11-1.given (omega arith) c.if-t-l-lt1.false))

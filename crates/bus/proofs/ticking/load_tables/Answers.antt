@@ -20,13 +20,15 @@ pub overflow_mul-n : goal.overflow_mul-n
 overflow_mul-n c = record { fits = omega (arith, table_fits c.requires.2) }
 
 pub load_part-requires : goal.load_part-requires
-load_part-requires c = (c.requires.0, omega (arith, table_fits c.requires.2), omega (arith, table_fits c.requires.2, blank_length c.requires.3))
+load_part-requires c =
+    (c.requires.0, omega (arith, table_fits c.requires.2), omega (arith, table_fits c.requires.2, blank_length c.requires.3))
 
 pub overflow_mul-n-2 : goal.overflow_mul-n-2
 overflow_mul-n-2 c = record { fits = omega (arith, table_fits c.requires.2) }
 
 pub load_part-requires-2 : goal.load_part-requires-2
-load_part-requires-2 c = (c.requires.0, omega (arith, table_fits c.requires.2), omega (arith, table_fits c.requires.2, blank_length c.requires.4))
+load_part-requires-2 c =
+    (c.requires.0, omega (arith, table_fits c.requires.2), omega (arith, table_fits c.requires.2, blank_length c.requires.4))
 
 pub check_laid-requires : goal.check_laid-requires
 check_laid-requires c =
@@ -36,8 +38,12 @@ check_laid-requires c =
       c.requires.2,
       table_fits c.requires.2,
       record {
-        low-size = over_room (table_at n r low_at) (length-table_at s low_at c.requires.2 (omega arith)) (table_fits c.requires.2) (over n low_at r c.requires.3 c.load_part.ensures);
-        high-size = over_room (table_at n r high_at) (length-table_at s high_at c.requires.2 (omega arith)) (table_fits c.requires.2) (over n high_at r c.requires.4 c.load_part-2.ensures);
+        low-size =
+            over_room (table_at n r low_at) (length-table_at s low_at c.requires.2 (omega arith)) (table_fits c.requires.2)
+            (over n low_at r c.requires.3 c.load_part.ensures);
+        high-size =
+            over_room (table_at n r high_at) (length-table_at s high_at c.requires.2 (omega arith)) (table_fits c.requires.2)
+            (over n high_at r c.requires.4 c.load_part-2.ensures);
       },
     )
 
@@ -46,5 +52,7 @@ returns c =
     let n = c.args.n in
     let s = c.args.run.now in
     let r = area_of s in
-    loaded-tables c.requires.1 c.requires.2 (table_at n r low_at) (table_at n r high_at) (length-table_at s low_at c.requires.2 (omega arith))
-    (length-table_at s high_at c.requires.2 (omega arith)) (over n low_at r c.requires.3 c.load_part.ensures) (over n high_at r c.requires.4 c.load_part-2.ensures) c.check_laid.ensures
+    loaded-tables c.requires.1 c.requires.2 (table_at n r low_at) (table_at n r high_at)
+    (length-table_at s low_at c.requires.2 (omega arith))
+    (length-table_at s high_at c.requires.2 (omega arith)) (over n low_at r c.requires.3 c.load_part.ensures)
+    (over n high_at r c.requires.4 c.load_part-2.ensures) c.check_laid.ensures

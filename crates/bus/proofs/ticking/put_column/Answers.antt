@@ -19,4 +19,5 @@ returns c =
     let n = area_set r a.k (pos a.v) f (rw (clean f) at c.store_number.ensures) in
     let x = column_of a.t.now a.j a.count in
     c.store_column.ensures
-    ∙ ap area_bytes (ap (λ (y : List ℤ). laid_column y a.j x) (area-read n) ∙ column_set (area_of a.run.now) a.j a.k x (pos a.v) c.requires.1 r.numbers)
+    ∙ ap area_bytes
+    (ap (λ (y : List ℤ). laid_column y a.j x) (area-read n) ∙ column_set (area_of a.run.now) a.j a.k x (pos a.v) c.requires.1 r.numbers)

@@ -46,12 +46,19 @@ overflow_sub-p c = let p = c.requires in rw (clean c.ranges.p) (fit c.ranges.p p
 pub overflow_cast-p : goal.overflow_cast-p
 overflow_cast-p c =
     let p = c.requires in
-    rw (clean c.ranges.p) (as_usize (fit c.ranges.p p.2 p.3 c.if-p-ge1.true c.if-p-j.true) (rw (row c.ranges.p p.2 p.3 c.if-p-ge1.true c.if-p-j.true).0 (pos_nonneg _)))
+    rw (clean c.ranges.p)
+    (as_usize (fit c.ranges.p p.2 p.3 c.if-p-ge1.true c.if-p-j.true)
+    (rw (row c.ranges.p p.2 p.3 c.if-p-ge1.true c.if-p-j.true).0 (pos_nonneg _)))
 
 pub search-requires : goal.search-requires
 search-requires c =
-    let p = c.requires in
-    (p.0, p.1, p.2, p.3, rw (read c.ranges.p p.2 p.3 c.if-p-ge1.true c.if-p-j.true) (row c.ranges.p p.2 p.3 c.if-p-ge1.true c.if-p-j.true).1)
+    let p = c.requires in (
+      p.0,
+      p.1,
+      p.2,
+      p.3,
+      rw (read c.ranges.p p.2 p.3 c.if-p-ge1.true c.if-p-j.true) (row c.ranges.p p.2 p.3 c.if-p-ge1.true c.if-p-j.true).1,
+    )
 
 pub returns-then-p-j : goal.returns-then-p-j
 unfolding work_at worked
