@@ -1,5 +1,5 @@
 -- Laws of a buffer that is being filled: each store adds an entry, and a full buffer is a whole list; and a list of small numbers.
-use mathlib.Core.Path.{◌≡◌, refl, sym, ◌∙◌}
+use mathlib.Core.Path.{◌≡◌, refl, sym, ap, ◌∙◌}
 use mathlib.Core.List.{List, ◌++◌, append-nil}
 use Prim.Native.Nat.{ℕ, suc, ◌≤◌, ◌<◌}
 use native.Mathlib.Omega.{arith}
@@ -47,13 +47,21 @@ copied_more x o k h l =
     rw (drop-cons o k (pos 0) l, take-suc x k (pos 0) h)
     (set_at (take k x) (nth o k) (drop (suc k) o) (nth x k) k (length-take-le k x (omega arith)) ∙ sym (append_snoc (take k x) (nth x k) (drop (suc k) o)))
 
--- a buffer that is as long as the copy
+-- the first entries of a list, by their places
+pub front : {n : ℕ} (x : List ℤ) → n ≤ length x → take n x ≡ tabulate n (nth x)
+front {n} x h =
+    ext_get_or (pos 0) (take n x) (tabulate n (nth x)) (length-take-le n x h ∙ sym (length-tabulate n (nth x)))
+    (λ k l. let m : k < n = omega (arith, l, length-take-le n x h) in get_or-take n x k (pos 0) m ∙ sym (nth-tabulate n (nth x) k m))
+
+-- a buffer that is as long as what is stored in it: elements of the first numbers of x
+pub stored-whole : {A : Type 0} (elements : List ℤ → ℕ → List A) {n m : ℕ} (x : List ℤ) (o : List A) → n ≤ length x → length o ≡ m →
+    elements (take n x) n ++ drop m o ≡ elements (tabulate n (nth x)) n
+stored-whole elements {n} {m} x o h e =
+    let end : length o ≤ m = omega (arith, e) in rw (drop_of_length-le o end, append-nil) (ap (λ (y : List ℤ). elements y n) (front x h))
+
+-- or these numbers themselves
 pub copied-whole : {n : ℕ} (x o : List ℤ) → n ≤ length x → length o ≡ n → take n x ++ drop n o ≡ tabulate n (nth x)
-copied-whole {n} x o h e =
-    let end : length o ≤ n = omega (arith, e) in
-    rw (drop_of_length-le o end, append-nil)
-    (ext_get_or (pos 0) (take n x) (tabulate n (nth x)) (length-take-le n x h ∙ sym (length-tabulate n (nth x)))
-    (λ k l. let m : k < n = omega (arith, l, length-take-le n x h) in get_or-take n x k (pos 0) m ∙ sym (nth-tabulate n (nth x) k m)))
+copied-whole = stored-whole (λ x k. x)
 
 -- and of the same length as what is copied
 pub copied_all : {n : ℕ} (x o : List ℤ) → length x ≡ n → length o ≡ n → take n x ++ drop n o ≡ x
