@@ -1,5 +1,5 @@
--- Laws of mended problems, R2.10 of docs/RULES.md, in lists with more numbers than the order calls for: zeros behind the tables play no part,
--- and a problem in arrays that passes the checks is, mended, let through.
+-- Laws of mended problems, R2.10 of docs/RULES.md, in lists with more numbers than the order calls for: zeros behind the tables play no
+-- part, and a problem in arrays that passes the checks is, mended, let through.
 use mathlib.Core.Path.{◌≡◌, refl, sym, ap, ap₂, ◌∙◌}
 use mathlib.Core.Bool.{true}
 use mathlib.Core.List.{List}
@@ -13,9 +13,7 @@ use Rattle.tables.specs.Ranges.{table_room}
 use Rattle.tables.specs.Matrix.{nth, at}
 use Rattle.tables.specs.Mending.{mended_by}
 use Rattle.tables.specs.Checks.{order_ok, first_refusal}
-use Rattle.tables.specs.Entering.{Mended}
-use Rattle.tables.specs.Problem.{problem_of, problem_checks, mended_problem}
-use Rattle.tables.specs.Checks.{Checked}
+use Rattle.tables.specs.Problem.{problem_checks, mended_problem}
 use Rattle.std.specs.Prelude.{Ok}
 use Rattle.tables.specs.declared.problem.Problem.{Problem}
 use Rattle.tables.proofs.Matrix.{inside, nth-padded, table_fits}
@@ -54,13 +52,10 @@ pub mended-padded-problem : (p : Problem) → let c = p.constraint in c.order * 
     padded (mended_problem p) ≡ mended_problem (padded p)
 mended-padded-problem p h k =
     let c = p.constraint in
-    rw (padded-mended max_ℤ greater_pairing table_room c.order c.low h, padded-mended min_ℤ smaller_pairing table_room c.order c.high k) refl
-
--- put together of tables that were mended in their place
-pub mended_together : (p : Problem) {α : ℤ} {r : Checked} {l u : List ℤ} → let c = p.constraint in
-    α ≡ c.limit → Mended (problem_checks p) c.order c.low c.high r l u → r ≡ Ok tt →
-    problem_of c.order l u c.linear.low c.linear.high α p.centre ≡ mended_problem p
-mended_together p q m e = rw (q, m.low e, m.high e)
+    rw (
+      padded-mended max_ℤ greater_pairing table_room c.order c.low h,
+      padded-mended min_ℤ smaller_pairing table_room c.order c.high k,
+    ) refl
 
 -- in arrays of their sizes
 module _ (p : Problem) (z : ProblemRooms p) where

@@ -1,5 +1,6 @@
--- R16.3 and R17.6 of docs/RULES.md: a file that is accepted is its seven fields in the order of their tags, one after the other and nothing else,
--- so its order gives its length, and its contents give all of its bytes. And a file that is put together so is read as the problem of its contents.
+-- R16.3 and R17.6 of docs/RULES.md: a file that is accepted is its seven fields in the order of their tags, one after the
+-- other and nothing else, so its order gives its length, and its contents give all of its bytes. And a file that is put
+-- together so is read as the problem of its contents.
 use mathlib.Core.Path.{◌≡◌, refl, sym, ap, ◌∙◌}
 use mathlib.Core.Bool.{true}
 use mathlib.Core.List.{List, [], ◌∷◌}
@@ -30,8 +31,10 @@ use Rattle.fields.specs.Entries.{whole_file}
 use Rattle.fields.proofs.Finding.{place-below, each_place}
 use Rattle.fields.proofs.Parts.{walked_inside, length-content}
 use Rattle.fields.proofs.Whole.{whole-passes, whole-found, passed-whole, length_whole, whole_ext}
-use Rattle.summary.specs.Problems.{longest, all_present, order_in, length_for, lengths_for, file_size, lengths_ok, field_checks, problem_from, contents_of, file_of, problem_in, reading_of, reading, ProblemRooms, spelled_by}
-use Rattle.summary.proofs.Spelled.{length_is, called_for, fields_order, order_small, fields_fit, problem_rooms, read_in_passed, reading-walked, reading-handed, accepted}
+use Rattle.summary.specs.Problems.{longest, all_present, order_in, length_for, lengths_for, file_size, lengths_ok, field_checks}
+use Rattle.summary.specs.Problems.{problem_from, contents_of, file_of, problem_in, reading_of, reading, ProblemRooms, spelled_by}
+use Rattle.summary.proofs.Spelled.{length_is, called_for, fields_order, order_small, fields_fit, problem_rooms, read_in_passed}
+use Rattle.summary.proofs.Spelled.{reading-walked, reading-handed, accepted}
 
 -- ---- a file that is accepted
 -- every field is there, with the length that the order calls for
@@ -80,7 +83,8 @@ one_number : (t : List ℕ) → AllBytes t → length t ≡ bytes w64 → bytes_
 unfolding numbers_of
 one_number t v h = bytes_of-numbers_of (narrow-of 8) t [] 1 v (omega arith) ∙ take_all (1 * bytes w64) t (omega arith)
 
-contents_back : (c : Kind → List ℕ) → ((k : Kind) → AllBytes (c k)) → ((k : Kind) → length (c k) ≡ length_for (get_or (c Kind.Order) 0 0) k) →
+contents_back : (c : Kind → List ℕ) → ((k : Kind) → AllBytes (c k)) →
+    ((k : Kind) → length (c k) ≡ length_for (get_or (c Kind.Order) 0 0) k) →
     (k : Kind) → contents_of (problem_from (get_or (c Kind.Order) 0 0) c) k ≡ c k
 contents_back c v z Kind.Order = one_byte (c Kind.Order) (z Kind.Order)
 contents_back c v z Kind.Low = numbers-back (narrow-of 4) table_room (c Kind.Low) _ (v Kind.Low) (z Kind.Low)
@@ -88,7 +92,8 @@ contents_back c v z Kind.High = numbers-back (narrow-of 4) table_room (c Kind.Hi
 contents_back c v z Kind.LinearLow = numbers-back (narrow-of 8) greatest_order (c Kind.LinearLow) _ (v Kind.LinearLow) (z Kind.LinearLow)
 contents_back c v z Kind.Limit = one_number (c Kind.Limit) (v Kind.Limit) (z Kind.Limit)
 contents_back c v z Kind.Centre = numbers-back (narrow-of 8) greatest_order (c Kind.Centre) _ (v Kind.Centre) (z Kind.Centre)
-contents_back c v z Kind.LinearHigh = numbers-back (narrow-of 8) greatest_order (c Kind.LinearHigh) _ (v Kind.LinearHigh) (z Kind.LinearHigh)
+contents_back c v z Kind.LinearHigh =
+    numbers-back (narrow-of 8) greatest_order (c Kind.LinearHigh) _ (v Kind.LinearHigh) (z Kind.LinearHigh)
 
 -- ---- a file that is accepted is the file of its contents, which are those of the problem that it spells
 module _ (s : List ℕ) {p : Problem} (e : reading s ≡ Ok p) where
@@ -136,7 +141,8 @@ module _ (s s' : List ℕ) (v : AllBytes s) (v' : AllBytes s') {p p' : Problem} 
   same-problem h = accepted-back s e v ∙ ap file_of h ∙ sym (accepted-back s' e' v')
 
 -- ---- a file that is put together of contents of the lengths that the order calls for
-module _ (c : Kind → List ℕ) (o : order_ok (pos (get_or (c Kind.Order) 0 0)) ≡ true) (z : (k : Kind) → length (c k) ≡ length_for (get_or (c Kind.Order) 0 0) k) where
+module _ (c : Kind → List ℕ) (o : order_ok (pos (get_or (c Kind.Order) 0 0)) ≡ true) (z : (k : Kind) →
+    length (c k) ≡ length_for (get_or (c Kind.Order) 0 0) k) where
   abbrev order : ℕ
   order = get_or (c Kind.Order) 0 0
 
@@ -194,10 +200,19 @@ module _ (c : Kind → List ℕ) (o : order_ok (pos (get_or (c Kind.Order) 0 0))
   pub problem-there : spelled_by file ≡ problem_from order c
   unfolding problem_in
   problem-there =
-      rw (whole-order, whole-content Kind.Low, whole-content Kind.High, whole-content Kind.LinearLow, whole-content Kind.LinearHigh, whole-content Kind.Limit, whole-content Kind.Centre)
+      rw (
+        whole-order,
+        whole-content Kind.Low,
+        whole-content Kind.High,
+        whole-content Kind.LinearLow,
+        whole-content Kind.LinearHigh,
+        whole-content Kind.Limit,
+        whole-content Kind.Centre,
+      )
 
   pub whole-read : reading file ≡ reading_of (problem_from order c)
   whole-read =
       let h = (order-of o).1 in
       let fits : length file ≤ longest = omega (arith, whole_length, table_fits h) in
-      reading-walked file fits (whole-passes c (λ k. rw (z k) (short k))) ∙ read_in_passed file layout whole-checks ∙ ap reading_of problem-there
+      reading-walked file fits (whole-passes c (λ k. rw (z k) (short k))) ∙ read_in_passed file layout whole-checks
+      ∙ ap reading_of problem-there

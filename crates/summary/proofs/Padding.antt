@@ -1,5 +1,5 @@
--- A problem as it is handed in, in lists of exactly the sizes that its order calls for, and the same in arrays with zeros behind its numbers: the
--- checks find the same of both, and both have the same file.
+-- A problem as it is handed in, in lists of exactly the sizes that its order calls for, and the same in arrays with zeros behind its
+-- numbers: the checks find the same of both, and both have the same file.
 use mathlib.Core.Path.{◌≡◌, refl, sym, ap, subst, ◌∙◌}
 use mathlib.Core.Bool.{true}
 use mathlib.Core.List.{List, ◌++◌}
@@ -36,7 +36,8 @@ padded_again : (room k : ℕ) (x : List ℤ) → k ≤ length x → padded_to ro
 padded_again room k x h = ap (λ (y : List ℤ). y ++ replicate (room - k) (pos 0)) (take_at (take k x) _ k (length-take-le k x h))
 
 padded_list : (room k : ℕ) (x : List ℤ) → length x ≡ k → Padded x (padded_to room k x)
-padded_list room k x e = record { rest = room - k; list = ap (λ (y : List ℤ). y ++ replicate (room - k) (pos 0)) (take_all k x (omega arith)) }
+padded_list room k x e =
+    record { rest = room - k; list = ap (λ (y : List ℤ). y ++ replicate (room - k) (pos 0)) (take_all k x (omega arith)) }
 
 -- numbers that are copied over zeros, and those that bytes spell
 pub over_zeros : (room k : ℕ) (x : List ℤ) → k ≤ room → take k x ++ drop k (replicate room (pos 0)) ≡ padded_to room k x
@@ -137,12 +138,22 @@ module _ (p : Problem) (z : Sized p) where
   padded-mending = mended-padded-problem p (omega (arith, z.low)) (omega (arith, z.high))
 
   -- so where they pass the mended one in arrays is let through
-  pub padded-through : order_ok (pos p.constraint.order) ≡ true → first_refusal (problem_checks p) ≡ Ok tt → LetThrough (padded (mended_problem p))
+  pub padded-through : order_ok (pos p.constraint.order) ≡ true → first_refusal (problem_checks p) ≡ Ok tt →
+      LetThrough (padded (mended_problem p))
   padded-through o e =
-      subst LetThrough (sym padded-mending) (mended-through (padded p) (padded_rooms (order-of o).1) o (ap first_refusal padded-checks ∙ e) zeros-behind)
+      subst LetThrough (sym padded-mending)
+      (mended-through (padded p) (padded_rooms (order-of o).1) o (ap first_refusal padded-checks ∙ e) zeros-behind)
 
   -- and a file whose numbers fit their fields gets the refusal that the checks find
-  pub file_checked : order_ok (pos p.constraint.order) ≡ true → InFields p → checked_of (reading (file_of p)) ≡ first_refusal (problem_checks p)
+  pub file_checked : order_ok (pos p.constraint.order) ≡ true → InFields p →
+      checked_of (reading (file_of p)) ≡ first_refusal (problem_checks p)
   file_checked o f =
-      let w : Holds p = record { low = omega (arith, z.low); high = omega (arith, z.high); linear_low = omega (arith, z.linear_low); linear_high = omega (arith, z.linear_high); centre = omega (arith, z.centre) } in
+      let w : Holds p =
+      record {
+        low = omega (arith, z.low);
+        high = omega (arith, z.high);
+        linear_low = omega (arith, z.linear_low);
+        linear_high = omega (arith, z.linear_high);
+        centre = omega (arith, z.centre);
+      } in
       ap checked_of (file-read p w f o) ∙ reading_checked (padded p) ∙ ap first_refusal padded-checks

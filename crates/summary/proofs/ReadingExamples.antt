@@ -10,13 +10,15 @@ use Rattle.tables.specs.Matrix.{at, tabulate, table}
 use Rattle.tables.specs.Mending.{mended_by}
 use Rattle.tables.specs.Problem.{problem_of}
 use Rattle.tables.specs.Ranges.{greatest_order, table_room}
-use Rattle.tables.specs.Checks.{all, first_refusal, order_ok, within, all_within, nowhere_crossed, tables_within, linear_within, terms_within, bounds_checks, ends_checks}
+use Rattle.tables.specs.Checks.{all, first_refusal, order_ok, within, all_within, nowhere_crossed, tables_within, linear_within}
+use Rattle.tables.specs.Checks.{terms_within, bounds_checks, ends_checks}
 use Rattle.tables.specs.declared.Refusal.TheVariants.{Order, Range, Crossed, Lopsided, Tag, Absent, Size, Long, Reversed, Falling}
 use Rattle.tables.specs.Answers.{after}
 use Rattle.std.specs.Prelude.{Ok, Err}
 use Rattle.fields.specs.Fields.{kind_in, kind_of, tagged, field_at}
 use Rattle.fields.specs.Layouts.{part_of, start_of, length_of, seen, unseen, placed, walk_on, walk_fields, walk, walked, content}
-use Rattle.summary.specs.Problems.{longest, all_present, order_in, lengths_ok, field_checks, problem_in, Reading, reading_of, read_in, read_walked, reading}
+use Rattle.summary.specs.Problems.{longest, all_present, order_in, lengths_ok, field_checks, problem_in, Reading, reading_of, read_in}
+use Rattle.summary.specs.Problems.{read_walked, reading}
 
 -- ---- files
 abbrev field : ℕ → List ℕ → List ℕ
@@ -82,7 +84,11 @@ abbrev lines : List Line
 lines =
     record { bytes = file (1 ∷ []) 4 (long 2); expected = reading_p }
     -- fields in another order: 19, before 13 and before the lengths are looked at
-    ∷ record { bytes = field 1 (1 ∷ []) ++ field 3 (short 4) ++ field 2 (short 4) ++ field 4 minus_eight ++ field 5 (long 0) ++ field 6 (long 2) ++ field 7 minus_eight; expected = Err Falling }
+    ∷ record {
+      bytes = field 1 (1 ∷ []) ++ field 3 (short 4) ++ field 2 (short 4) ++ field 4 minus_eight ++ field 5 (long 0) ++ field 6
+          (long 2) ++ field 7 minus_eight;
+      expected = Err Falling;
+    }
     ∷ record { bytes = field 7 minus_eight ++ six (1 ∷ []) 4 (long 2); expected = Err Falling }
     ∷ record { bytes = field 2 (short 4) ++ field 1 (1 ∷ 1 ∷ []); expected = Err Falling }
     -- a high end of its own

@@ -1,5 +1,5 @@
--- R24.2 and R24.3 of docs/RULES.md: the file of a problem that is let through is read as that problem; a file with symmetric tables that is accepted
--- is the file of its problem; so each such problem has just one file with symmetric tables. Any other file comes back as that one.
+-- R24.2 and R24.3 of docs/RULES.md: the file of a problem that is let through is read as that problem; a file with symmetric tables that is
+-- accepted is the file of its problem; so each such problem has just one file with symmetric tables. Any other file comes back as that one.
 use mathlib.Core.Path.{◌≡◌, refl, sym, ap, subst, ◌∙◌}
 use mathlib.Core.Bool.{Bool, true, false, ◌&&◌}
 use mathlib.Core.List.{List, [], ◌∷◌, ◌++◌, map, append-nil}
@@ -32,7 +32,8 @@ use Rattle.fields.specs.declared.field.Kind.{Kind}
 use Rattle.fields.specs.Fields.{kinds}
 use Rattle.fields.specs.Entries.{head_bytes, entry_bytes, bytes_of_entries, entry_with, whole_file}
 use Rattle.fields.proofs.Finding.{place-below}
-use Rattle.summary.specs.Problems.{problem_from, contents_of, file_of, padded_to, padded, reading_of, reading, ProblemRooms, LetThrough, spelled_by, SymmetricTables, ReadingMeaning}
+use Rattle.summary.specs.Problems.{problem_from, contents_of, file_of, padded_to, padded, reading_of, reading, ProblemRooms, LetThrough}
+use Rattle.summary.specs.Problems.{spelled_by, SymmetricTables, ReadingMeaning}
 use Rattle.summary.proofs.MendedProblems.{low-holds, high-holds}
 use Rattle.summary.proofs.Spelled.{reading_as, reading-through}
 use Rattle.summary.proofs.OneFile.{contents_length_lem, accepted_rooms, accepted-problem, accepted-back, problem-there, whole-read}
@@ -147,7 +148,8 @@ fields_within p r =
 
 pub fields_of_lem : (p : Problem) → first_refusal (problem_checks p) ≡ Ok tt → InFields p
 unfolding bounds_checks
-fields_of_lem p e = let c = p.constraint in fields_within p (first-passed _ _ (prefix_passed (bounds_checks (problem_within p) c.order c.low c.high) _ e))
+fields_of_lem p e =
+    let c = p.constraint in fields_within p (first-passed _ _ (prefix_passed (bounds_checks (problem_within p) c.order c.low c.high) _ e))
 
 -- a number that does not fit its field is refused by 3
 pub outside_range : (p : Problem) → (InFields p → ⊥) → first_refusal (problem_checks p) ≡ Err Range
@@ -243,7 +245,8 @@ content_bytes p h Kind.Limit = number_bytes w64 _ _
 content_bytes p h Kind.Centre = number_bytes w64 _ _
 content_bytes p h Kind.LinearHigh = number_bytes w64 _ _
 
-entry_bytes_lem : (c : Kind → List ℕ) → ((k : Kind) → AllBytes (c k)) → (ks : List Kind) → AllBytes (bytes_of_entries (map (entry_with c) ks))
+entry_bytes_lem : (c : Kind → List ℕ) → ((k : Kind) → AllBytes (c k)) → (ks : List Kind) →
+    AllBytes (bytes_of_entries (map (entry_with c) ks))
 unfolding bytes_of_entries entry_bytes
 entry_bytes_lem c v [] = no_bytes
 entry_bytes_lem c v (k ∷ ks) =
@@ -273,5 +276,6 @@ one-file p t =
     }
 
 -- and each file with symmetric tables that is accepted is that of its problem
-pub accepted-one : (s : List ℕ) {p : Problem} → AllBytes s → SymmetricTables (spelled_by s) → reading s ≡ Ok p → LetThrough p × (s ≡ file_of p)
+pub accepted-one : (s : List ℕ) {p : Problem} → AllBytes s → SymmetricTables (spelled_by s) → reading s ≡ Ok p →
+    LetThrough p × (s ≡ file_of p)
 accepted-one s v h e = (reading-through s e, sym (accepted-file s v e h))

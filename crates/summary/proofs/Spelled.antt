@@ -13,10 +13,10 @@ use borrow.Author.Tests.{le-leb, lt-leb, eqb-true}
 use Rattle.words.specs.Numbers.{numbers_of, padded_numbers_of}
 use Rattle.words.proofs.Laws.{length-numbers_of, length-padded_numbers_of}
 use Rattle.tables.specs.Ranges.{greatest_order, table_room}
-use Rattle.tables.specs.Checks.{order_ok, first_refusal}
+use Rattle.tables.specs.Checks.{bounds_checks, order_ok, first_refusal}
 use Rattle.tables.specs.declared.problem.Problem.{Problem}
 use Rattle.tables.specs.Entering.{Mended}
-use Rattle.tables.specs.Problem.{problem_of, problem_checks, mended_problem}
+use Rattle.tables.specs.Problem.{problem_of, problem_within, constraint_ends, problem_checks, mended_problem}
 use Rattle.tables.specs.declared.Refusal.{Refusal}
 use Rattle.tables.specs.declared.Refusal.TheVariants.{Long}
 use Rattle.tables.specs.Checks.{Checked}
@@ -24,15 +24,16 @@ use Rattle.tables.specs.Answers.{after}
 use Rattle.std.specs.Prelude.{Ok, Err}
 use Rattle.tables.proofs.Matrix.{table_fits}
 use Rattle.tables.proofs.Answers.{after-passed, after-refused, after_ok}
-use Rattle.tables.proofs.Checks.{all-at, first-passed, rest-passed, order-of}
+use Rattle.tables.proofs.Checks.{more-checks, no-more-checks, all-at, first-passed, rest-passed, order-of}
 use Rattle.fields.specs.declared.field.Kind.{Kind}
 use Rattle.fields.specs.declared.layout.Layout.{Layout}
 use Rattle.fields.specs.Fields.{kind_count, place_of}
 use Rattle.fields.specs.Layouts.{part_of, length_of, content, Inside, Walked, walked, layout_of}
 use Rattle.fields.proofs.Finding.{place-below}
 use Rattle.fields.proofs.Parts.{layout_is}
-use Rattle.summary.proofs.MendedProblems.{mended_together, mended-through}
-use Rattle.summary.specs.Problems.{longest, order_in, length_for, lengths_for, lengths_ok, field_checks, padded_to, padded, problem_in, checked_of, reading_of, read_in, read_walked, reading, ProblemRooms, FieldsFit, LetThrough, spelled_by}
+use Rattle.summary.proofs.MendedProblems.{mended-through}
+use Rattle.summary.specs.Problems.{longest, order_in, length_for, lengths_for, lengths_ok, field_checks, padded_to, padded, problem_in}
+use Rattle.summary.specs.Problems.{checked_of, reading_of, read_in, read_walked, reading, ProblemRooms, FieldsFit, LetThrough, spelled_by}
 
 -- ---- the lengths of the fields
 pub called_for : (n : ℕ) (k : Kind) → get_or (lengths_for n) (place_of k) 0 ≡ length_for n k
@@ -83,9 +84,11 @@ problem_rooms s l h =
     }
 
 -- zeros stand behind its numbers
-pub padded-numbers : (w : Width) (room : ℕ) (t : List ℕ) (k : ℕ) → padded_to room k (padded_numbers_of w room t k) ≡ padded_numbers_of w room t k
+pub padded-numbers : (w : Width) (room : ℕ) (t : List ℕ) (k : ℕ) →
+    padded_to room k (padded_numbers_of w room t k) ≡ padded_numbers_of w room t k
 unfolding padded_numbers_of
-padded-numbers w room t k = ap (λ (x : List ℤ). x ++ replicate (room - k) (pos 0)) (take_at (numbers_of w t k) _ k (length-numbers_of w t k))
+padded-numbers w room t k =
+    ap (λ (x : List ℤ). x ++ replicate (room - k) (pos 0)) (take_at (numbers_of w t k) _ k (length-numbers_of w t k))
 
 pub problem-padded : (s : List ℕ) (l : Layout) → padded (problem_in s l) ≡ problem_in s l
 unfolding problem_in
@@ -104,15 +107,25 @@ pub reading_as : (p : Problem) {k : Checked} → first_refusal (problem_checks p
 unfolding reading_of
 reading_as p e = ap (λ (k : Checked). after Err k (Ok (mended_problem p))) e
 
--- by tables that were mended in their place, or were refused
-module _ (p : Problem) {r : Checked} {l u : List ℤ} (m : let c = p.constraint in Mended (problem_checks p) c.order c.low c.high r l u) where
-  pub reading-mended : r ≡ Ok tt → let c = p.constraint in Ok (problem_of c.order l u c.linear.low c.linear.high c.limit p.centre) ≡ reading_of p
-  unfolding after
-  reading-mended e = ap Ok (mended_together p refl m e) ∙ sym (reading_as p (sym m.answered ∙ e))
+-- 3, 4 and 5, with the tables mended in their place, and then 16
+module _ (p : Problem) {r : Checked} {l u : List ℤ}
+    (m : let c = p.constraint in Mended (bounds_checks (problem_within p) c.order c.low c.high) c.order c.low c.high r l u) where
+  reading-behind : {k : Checked} → r ≡ Ok tt → first_refusal (constraint_ends p.constraint) ≡ k →
+      reading_of p ≡ after Err k (Ok (mended_problem p))
+  reading-behind q e = reading_as p (more-checks _ _ (sym m.answered ∙ q) ∙ e)
 
   pub reading-refused : {k : Refusal} → r ≡ Err k → Err k ≡ reading_of p
   unfolding after
-  reading-refused e = sym (reading_as p (sym m.answered ∙ e))
+  reading-refused e = sym (reading_as p (no-more-checks _ _ _ (sym m.answered ∙ e)))
+
+  pub reading-reversed : {k : Refusal} → r ≡ Ok tt → first_refusal (constraint_ends p.constraint) ≡ Err k → Err k ≡ reading_of p
+  unfolding after
+  reading-reversed q e = sym (reading-behind q e)
+
+  pub reading-mended : r ≡ Ok tt → first_refusal (constraint_ends p.constraint) ≡ Ok tt → let c = p.constraint in
+      Ok (problem_of c.order l u c.linear.low c.linear.high c.limit p.centre) ≡ reading_of p
+  unfolding after
+  reading-mended q e = rw (m.low q, m.high q) (sym (reading-behind q e))
 
 pub reading_checked : (p : Problem) → checked_of (reading_of p) ≡ first_refusal (problem_checks p)
 unfolding after
@@ -160,8 +173,15 @@ pub record Accepted (s : List ℕ) : Type 0 where
 pub accepted : (s : List ℕ) {p : Problem} → reading s ≡ Ok p → Accepted s
 accepted s {p} e = go (dec_le (length s) longest) (walked s) refl
   where
-    fields : (l : Layout) → walked s ≡ Ok l → layout_of s ≡ l → reading s ≡ read_in s l → (c : Checked) → first_refusal (field_checks s l) ≡ c → Accepted s
-    fields l w m q (Ok tt) f = record { passed = w ∙ ap Ok (sym m); checked = rw m f; read = q ∙ read_in_passed s l f ∙ ap (λ (l : Layout). reading_of (problem_in s l)) (sym m) }
+    fields : (l : Layout) → walked s ≡ Ok l → layout_of s ≡ l → reading s ≡ read_in s l → (c : Checked) →
+        first_refusal (field_checks s l) ≡ c → Accepted s
+    fields l w m q (Ok tt) f =
+        record {
+          passed = w ∙ ap Ok (sym m);
+          checked = rw m f;
+          read = q ∙ read_in_passed s l f
+              ∙ ap (λ (l : Layout). reading_of (problem_in s l)) (sym m);
+        }
     fields l w m q (Err r) f = cc (e, q, read_in_refused s l r f)
 
     go : Dec (length s ≤ longest) → (w : Walked) → walked s ≡ w → Accepted s

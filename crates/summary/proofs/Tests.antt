@@ -22,9 +22,11 @@ unfolding all
 all-list_all d test [] = refl
 all-list_all d test (x ∷ xs) = rw (all_first (length xs) (λ k. test (get_or (x ∷ xs) k d)), all-list_all d test xs)
 
-pub all-pointwise : (xs ys : List ℕ) → length xs ≡ length ys → pointwise eqb xs ys ≡ all (length xs) (λ k. eqb (get_or xs k 0) (get_or ys k 0))
+pub all-pointwise : (xs ys : List ℕ) → length xs ≡ length ys →
+    pointwise eqb xs ys ≡ all (length xs) (λ k. eqb (get_or xs k 0) (get_or ys k 0))
 unfolding all
 all-pointwise [] [] e = refl
 all-pointwise [] (y ∷ ys) e = absurd (omega arith)
 all-pointwise (x ∷ xs) [] e = absurd (omega arith)
-all-pointwise (x ∷ xs) (y ∷ ys) e = rw (all_first (length xs) (λ k. eqb (get_or (x ∷ xs) k 0) (get_or (y ∷ ys) k 0)), all-pointwise xs ys (omega arith))
+all-pointwise (x ∷ xs) (y ∷ ys) e =
+    rw (all_first (length xs) (λ k. eqb (get_or (x ∷ xs) k 0) (get_or (y ∷ ys) k 0)), all-pointwise xs ys (omega arith))

@@ -1,5 +1,6 @@
 -- R17 and R5.11 of docs/RULES.md: the problem that a file spells, or the refusal that it gets.
-use Rattle.std.specs.Prelude.{◌≡◌, Bool, true, false, List, [], ◌∷◌, ◌++◌, map, ℕ, ◌+◌, ◌*◌, ◌-◌, ◌≤◌, leb, eqb, ℤ, pos, length, get_or, take, replicate}
+use Rattle.std.specs.Prelude.{◌≡◌, Bool, true, false, List, [], ◌∷◌, ◌++◌, map, ℕ, ◌+◌, ◌*◌, ◌-◌, ◌≤◌, leb, eqb, ℤ, pos, length, get_or}
+use Rattle.std.specs.Prelude.{take, replicate}
 use Rattle.std.specs.Int.{w32, w64}
 use mir.Val.{bytes}
 use Rattle.words.specs.Numbers.{signed_at, padded_numbers_of, bytes_of}

@@ -5,8 +5,6 @@ ghost use mir.Val.{bytes};
 ghost use Rattle.words.specs.Numbers.{signed_at, padded_numbers_of};
 ghost use Rattle.tables.specs.Ranges.{greatest_order, table_room};
 ghost use Rattle.tables.specs.Checks.{first_refusal};
-ghost use Rattle.tables.specs.Entering.{Mended};
-ghost use Rattle.tables.specs.Problem.{problem_of, problem_checks};
 ghost use Rattle.fields.specs.Layouts.{length_of, content, Inside};
 ghost use Rattle.summary.specs.Problems.{all_present, order_in, lengths_for, lengths_ok, FieldsFit, field_checks, problem_in};
 ghost use Rattle.summary.specs.Problems.{ProblemRooms, reading_of, read_in, reading, ReadingMeaning};
@@ -46,6 +44,7 @@ fn lengths_ok(layout: Layout, n: usize) -> bool
 }
 
 // n, the first byte in the content of tag 01, and 0 where that is empty.
+#[tactic(auto, unfolding(crate::specs::Problems::order_in))]
 fn order_in(file: &[u8], layout: Layout) -> u8
     requires { Inside file.now layout }
     ensures { result ≡ order_in file.now layout }
@@ -57,6 +56,7 @@ fn order_in(file: &[u8], layout: Layout) -> u8
 }
 
 // The checks of R5.11 from 13 to the second 14.
+#[tactic(auto, unfolding(crate::specs::Problems::field_checks, tables::specs::Checks::first_refusal))]
 fn check_fields(file: &[u8], layout: Layout) -> Result<(), Refusal>
     requires { Inside file.now layout }
     ensures { result ≡ first_refusal (field_checks file.now layout) }
@@ -113,6 +113,7 @@ fn number_in(file: &[u8], layout: Layout, kind: Kind) -> i64
 }
 
 // The problem in fields of the lengths that n calls for, with its tables as they stand there.
+#[tactic(auto, unfolding(crate::specs::Problems::problem_in))]
 fn problem_in(file: &[u8], layout: Layout) -> Problem
     requires { FieldsFit file.now layout }
     ensures { result ≡ problem_in file.now layout }
@@ -135,42 +136,26 @@ fn problem_in(file: &[u8], layout: Layout) -> Problem
     }
 }
 
-// 3, 4, 5 and 16 of a problem of order n with bounds low and high, and where nothing is refused these bounds mended in their place.
-pub fn mend_problem(
-    n: usize,
-    low: &mut Table,
-    high: &mut Table,
-    from: &Vector,
-    to: &Vector,
-    limit: i64,
-    centre: &Vector,
-) -> Result<(), Refusal>
-    requires { ProblemRooms (problem_of n low.old high.old from.now to.now limit centre.now) }
-    ensures { Mended (problem_checks (problem_of n low.old high.old from.now to.now limit
-        centre.now)) n low.old high.old result low.new high.new }
-{
-    let within = tables::sized_within(n, true, from, to, limit, centre);
-    check_laid(n, within, low, high)?;
-    tables::check_ends(n, from, to)
-}
-
-// The mended problem where nothing is refused, or the first refusal.
-fn reading_of(problem: Problem) -> Result<Problem, Refusal>
+// 3, 4, 5 and 16 of a problem, and where nothing is refused the problem with its bounds mended.
+#[tactic(auto, unfolding(crate::specs::Problems::reading_of, tables::specs::Answers::after))]
+pub fn mend_problem(problem: Problem) -> Result<Problem, Refusal>
     requires { ProblemRooms problem }
     ensures { result ≡ reading_of problem }
 {
     let mut constraint = problem.constraint;
+    let n = constraint.order;
     let linear = constraint.linear;
-    let limit = constraint.limit;
-    mend_problem(
-        constraint.order,
-        &mut constraint.low,
-        &mut constraint.high,
+    let centre = problem.centre;
+    let within = tables::sized_within(
+        n,
+        true,
         &linear.low,
         &linear.high,
-        limit,
-        &problem.centre,
-    )?;
+        constraint.limit,
+        &centre,
+    );
+    check_laid(n, within, &mut constraint.low, &mut constraint.high)?;
+    tables::check_ends(n, &linear.low, &linear.high)?;
     Ok(Problem {
         constraint,
         ..problem
@@ -178,16 +163,18 @@ fn reading_of(problem: Problem) -> Result<Problem, Refusal>
 }
 
 // The problem in the fields that the walk found, or the first refusal.
+#[tactic(auto, unfolding(crate::specs::Problems::read_in, tables::specs::Answers::after))]
 fn read_in(file: &[u8], layout: Layout) -> Result<Problem, Refusal>
     requires { Inside file.now layout }
     ensures { result ≡ read_in file.now layout }
 {
     check_fields(file, layout)?;
-    reading_of(problem_in(file, layout))
+    mend_problem(problem_in(file, layout))
 }
 
 // The problem of a summary file, of any bytes at all: 15; then field by field 10, 11, 12, 19; then 13; 14 for tag 01; 1; 14 for the other
 // tags; 3, 4, 5, 16. What passes is handed out mended.
+#[tactic(auto, unfolding(crate::specs::Problems::reading, crate::specs::Problems::read_walked))]
 pub fn read(file: &[u8]) -> Result<Problem, Refusal>
     ensures exact { result ≡ reading file.now }
     ensures meaning { ReadingMeaning file.now result }

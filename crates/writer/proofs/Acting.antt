@@ -1,5 +1,5 @@
--- Laws of the writer's act: where n is an order and the buffers have their sizes 3, 4, 5 and 16 are all that is left to ask, of the numbers as they
--- are handed in or in arrays; what is written is read back; and a problem is refused by the number that its file would get.
+-- Laws of the writer's act: where n is an order and the buffers have their sizes 3, 4, 5 and 16 are all that is left to ask, of the numbers
+-- as they are handed in or in arrays; what is written is read back; and a problem is refused by the number that its file would get.
 use mathlib.Core.Path.{◌≡◌, refl, sym, ap, ap₂, subst, ◌∙◌}
 use mathlib.Core.Bool.{Bool, true, false}
 use mathlib.Core.List.{List, ◌++◌}
@@ -68,7 +68,8 @@ writing-sized n sized p s o z e = sym (constraint_sized_lem (kept s) n sized (pr
 pub writing-padded : (p : Problem) (s : List ℕ) → Sized p → checked_writing (padded p) s ≡ checked_writing p s
 unfolding checked_writing
 writing-padded p s z =
-    ap₂ (λ (checks : List Check) (f : List ℕ). after (kept s) (first_refusal checks) (record { answer = Ok tt; file = f })) (padded-checks p z)
+    ap₂ (λ (checks : List Check) (f : List ℕ). after (kept s) (first_refusal checks) (record { answer = Ok tt; file = f }))
+    (padded-checks p z)
     (ap file_of (sym (padded-mending p z)) ∙ padded-file (mended_problem p))
 
 -- ---- what an answer means
@@ -79,7 +80,8 @@ order_ok_lem (negsuc k) e = absurd (order-of e).0.le
 abbrev pub Means : Problem → Written → Type 0
 Means p w = Meaning w.answer p w.file
 
-pub writing-means : (n : ℤ) (sized : Bool) (p : Problem) (s : List ℕ) → p.constraint.order ≡ order_of n → (sized ≡ true → Sized p) → Means p (writing n sized p s)
+pub writing-means : (n : ℤ) (sized : Bool) (p : Problem) (s : List ℕ) → p.constraint.order ≡ order_of n → (sized ≡ true → Sized p) →
+    Means p (writing n sized p s)
 unfolding writing
 writing-means n sized p s e z =
     let checks = entry_checks n sized ++ problem_checks p in
@@ -105,7 +107,8 @@ answered p s = go (first_refusal (problem_checks p))
     go (Ok tt) = refl
     go (Err r) = refl
 
-module _ (n : ℤ) (sized : Bool) (p : Problem) (s : List ℕ) (o : order_ok n ≡ true) (y : sized ≡ true) (e : p.constraint.order ≡ order_of n) where
+module _ (n : ℤ) (sized : Bool) (p : Problem) (s : List ℕ) (o : order_ok n ≡ true) (y : sized ≡ true)
+    (e : p.constraint.order ≡ order_of n) where
   asked : (writing n sized p s).answer ≡ first_refusal (problem_checks p)
   asked = ap (λ (w : Written). w.answer) (sym (writing-sized n sized p s o y e)) ∙ answered p s
 

@@ -1,5 +1,5 @@
--- R24.3 of docs/RULES.md: a file that is accepted, written again from the numbers of its problem: the one file of that problem, and the same bytes
--- where the tables of the file are symmetric.
+-- R24.3 of docs/RULES.md: a file that is accepted, written again from the numbers of its problem: the one file of that problem, and the
+-- same bytes where the tables of the file are symmetric.
 use mathlib.Core.Path.{◌≡◌, sym, ap, ◌∙◌}
 use mathlib.Core.Bool.{true}
 use mathlib.Core.List.{List}
@@ -99,10 +99,12 @@ module _ (p : Problem) (t : LetThrough p) where
 
   fronts-written : (s : List ℕ) → checked_writing fronts s ≡ record { answer = Ok tt; file = file_of p }
   unfolding checked_writing
-  fronts-written s = sym (after-passed (kept s) (written fronts) fronts-checks) ∙ ap (λ (f : List ℕ). record { answer = Ok tt; file = f }) fronts-file
+  fronts-written s =
+      sym (after-passed (kept s) (written fronts) fronts-checks) ∙ ap (λ (f : List ℕ). record { answer = Ok tt; file = f }) fronts-file
 
   module _ (s : List ℕ) (h : length s ≡ file_size n) where
-    sizes : write_sizes n (record { table = n * n; vector = n }) (lengths_of (length low) (length high) (length from) (length to)) (length centre) (length s) ≡ true
+    sizes : write_sizes n (record { table = n * n; vector = n }) (lengths_of (length low) (length high) (length from) (length to))
+        (length centre) (length s) ≡ true
     unfolding write_sizes constraint_sized sizes_ok
     sizes =
         let z = fronts-sized in

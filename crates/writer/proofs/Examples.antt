@@ -12,7 +12,8 @@ use Rattle.tables.specs.Problem.{problem_of, constraint_sized, constraint_entere
 use Rattle.tables.specs.Ranges.{greatest_order, entry_range, table_room}
 use Rattle.tables.specs.Answers.{after}
 use Rattle.tables.specs.Entering.{entered}
-use Rattle.tables.specs.Checks.{all, first_refusal, order_ok, order_of, sizes_ok, within, all_within, nowhere_crossed, tables_within, linear_within, terms_within, entry_checks, bounds_checks, ends_checks}
+use Rattle.tables.specs.Checks.{all, first_refusal, order_ok, order_of, sizes_ok, within, all_within, nowhere_crossed, tables_within}
+use Rattle.tables.specs.Checks.{linear_within, terms_within, entry_checks, bounds_checks, ends_checks}
 use Rattle.tables.specs.declared.Refusal.{Refusal}
 use Rattle.tables.specs.declared.Refusal.TheVariants.{Order, Length, Range, Crossed, Lopsided, Reversed}
 use Rattle.std.specs.Prelude.{Ok}
@@ -44,12 +45,30 @@ refused r c = record { call = c; expected = kept (before c.size) r }
 -- case P (W21 of docs/RULES.md), with other numbers
 abbrev case_p : ℤ → ℤ → ℤ → ℤ → ℕ → Call
 case_p n l b c k =
-    record { order = n; low = l ∷ []; high = pos 4 ∷ []; linear_low = negsuc 7 ∷ []; linear_high = b ∷ []; limit = pos 0; centre = c ∷ []; size = k }
+    record {
+      order = n;
+      low = l ∷ [];
+      high = pos 4 ∷ [];
+      linear_low = negsuc 7 ∷ [];
+      linear_high = b ∷ [];
+      limit = pos 0;
+      centre = c ∷ [];
+      size = k;
+    }
 
 -- M = [m], a = −8 and c = 2: W34 to W37
 abbrev worked : ℤ → ℤ → ℤ → ℕ → Call
 worked n m α k =
-    record { order = n; low = m ∷ []; high = m ∷ []; linear_low = negsuc 7 ∷ []; linear_high = negsuc 7 ∷ []; limit = α; centre = pos 2 ∷ []; size = k }
+    record {
+      order = n;
+      low = m ∷ [];
+      high = m ∷ [];
+      linear_low = negsuc 7 ∷ [];
+      linear_high = negsuc 7 ∷ [];
+      limit = α;
+      centre = pos 2 ∷ [];
+      size = k;
+    }
 
 -- the file of W34, case P
 abbrev file_p : List ℕ
@@ -124,7 +143,8 @@ done : Call → Written
 done c = write c.order c.low c.high c.linear_low c.linear_high c.limit c.centre (before c.size)
 
 as_worked_out : map (λ (l : Line). done l.call) lines ≡ map (λ (l : Line). l.expected) lines
-unfolding done write writing write_sizes constraint_sized sizes_ok constraint_entered entered after first_refusal entry_checks bounds_checks ends_checks
+unfolding done write writing write_sizes constraint_sized sizes_ok constraint_entered entered after first_refusal entry_checks
+    bounds_checks ends_checks
     all order_ok order_of within all_within nowhere_crossed tables_within linear_within terms_within mended_by table tabulate at min_ℤ max_ℤ
     file_of whole_file bytes_of_entries entry_bytes bytes_of to_le_bytes
 as_worked_out = refl

@@ -13,10 +13,6 @@ use Rattle.fields.specs.Entries.{Entry, entry_bytes, bytes_of_entries}
 use Rattle.text.specs.Putting.{with_text, Put}
 use Rattle.text.proofs.Puts.{put_then}
 
--- of equal bytes
-pub put_by : {t t' : List ℕ} {s a : List ℕ} {at m r : ℕ} → t ≡ t' → Put s at t m r a → Put s at t' m r a
-put_by e p = rw (← e) p
-
 -- a tag, and a size of two bytes
 pub head-put : (s : List ℕ) (at tag size : ℕ) {t : ℕ} → at + head ≤ length s → size < 256 ^ 2 → t ≡ tag →
     Put s at (tag ∷ to_le_bytes 2 size) head (at + head) (set (set (set s at t) (at + 1) (size % 256)) (at + 2) (size / 256))
@@ -45,7 +41,8 @@ part-put s at t d k e f h q =
 
 -- a field: its head, and its content behind it
 pub field_put : (k : Kind) (t : List ℕ) {s a d : List ℕ} {at r q n m : ℕ} → length t ≡ n → at ≤ length s →
-    Put s at (tag_of k ∷ to_le_bytes 2 n) head r a → Put a r t m q d → Put s at (entry_bytes (record { kind = k; bytes = t })) (head + m) q d
+    Put s at (tag_of k ∷ to_le_bytes 2 n) head r a → Put a r t m q d →
+    Put s at (entry_bytes (record { kind = k; bytes = t })) (head + m) q d
 unfolding entry_bytes
 field_put k t e h p o = rw e (put_then p h o)
 
@@ -53,7 +50,9 @@ field_put k t e h p o = rw e (put_then p h o)
 entries-joined : (es ds : List Entry) → bytes_of_entries (es ++ ds) ≡ bytes_of_entries es ++ bytes_of_entries ds
 unfolding bytes_of_entries
 entries-joined [] ds = refl
-entries-joined (e ∷ es) ds = ap (λ (r : List ℕ). entry_bytes e ++ r) (entries-joined es ds) ∙ sym (append_assoc (entry_bytes e) (bytes_of_entries es) (bytes_of_entries ds))
+entries-joined (e ∷ es) ds =
+    ap (λ (r : List ℕ). entry_bytes e ++ r) (entries-joined es ds)
+    ∙ sym (append_assoc (entry_bytes e) (bytes_of_entries es) (bytes_of_entries ds))
 
 pub one-put : (e : Entry) {s a : List ℕ} {at m r : ℕ} → Put s at (entry_bytes e) m r a → Put s at (bytes_of_entries (e ∷ [])) m r a
 unfolding bytes_of_entries

@@ -2,7 +2,8 @@
 use Rattle.std.specs.Prelude.{◌≡◌, Bool, ◌&&◌, List, ℕ, ◌*◌, eqb, ℤ, length, Ok, Err}
 use Rattle.tables.specs.Checks.{Checked, order_of, first_refusal}
 use Rattle.tables.specs.Answers.{after}
-use Rattle.tables.specs.Problem.{problem_of, lengths_of, constraint_sized, problem_within, problem_checks, constraint_entered, mended_problem}
+use Rattle.tables.specs.Problem.{problem_of, lengths_of, constraint_sized, problem_within, problem_checks, constraint_entered}
+use Rattle.tables.specs.Problem.{mended_problem}
 use Rattle.tables.specs.declared.Refusal.{Refusal}
 use Rattle.tables.specs.declared.problem.Problem.{Problem}
 use Rattle.tables.specs.declared.problem.Sizes.{Sizes}

@@ -2,8 +2,6 @@
 ghost use Rattle.std.specs.Prelude.{◌≡◌, [], ◌∷◌, ◌+◌, ◌*◌, ◌^◌, ◌≤◌, ◌<◌, length};
 ghost use mir.Val.{bytes};
 ghost use Rattle.words.specs.Numbers.{width_of, to_le_bytes, bytes_of};
-ghost use Rattle.tables.specs.Ranges.{greatest_order};
-ghost use Rattle.tables.specs.Problem.{problem_of};
 ghost use Rattle.fields.specs.declared.field.Kind.TheVariants as Kind;
 ghost use Rattle.fields.specs.Fields.{tag_of, head};
 ghost use Rattle.fields.specs.Entries.{entry_bytes, bytes_of_entries};
@@ -12,7 +10,7 @@ ghost use Rattle.text.specs.Putting.{Put};
 ghost use Rattle.writer.specs.Required.{bounds_entries, bounds_size, terms_entries, terms_size};
 
 use fields::field::{HEAD, Kind};
-use tables::{Table, Vector};
+use tables::problem::Problem;
 use words::{SHORT_SIZE, SIZE};
 
 // Puts the head of a field at a place of the file: the kind's tag, and the size of its content, low byte first. Returns the place behind
@@ -60,54 +58,37 @@ fn put_numbers(
 }
 
 // Puts the fields of the order and of both tables.
-fn put_bounds(file: &mut [u8], n: usize, low: &[i64], high: &[i64]) -> usize
-    requires { (n ≤ greatest_order) × (n * n ≤ length low.now) × (n * n ≤ length high.now)
-        × (bounds_size n ≤ length file.old) }
-    ensures { Put file.old 0 (bytes_of_entries (bounds_entries n low.now high.now)) (bounds_size
-        n) result file.new }
+fn put_bounds(file: &mut [u8], problem: &Problem) -> usize
+    requires { ProblemRooms problem.now × (bounds_size problem.now.constraint.order ≤ length file.old) }
+    ensures { Put file.old 0 (bytes_of_entries (bounds_entries problem.now)) (bounds_size problem.now.constraint.order) result file.new }
 {
+    let constraint = &problem.constraint;
+    let n = constraint.order;
     let at = put_order(file, 0, n);
-    let next = put_numbers(file, at, Kind::Low, low, n * n, SHORT_SIZE);
-    put_numbers(file, next, Kind::High, high, n * n, SHORT_SIZE)
+    let next = put_numbers(file, at, Kind::Low, &constraint.low, n * n, SHORT_SIZE);
+    put_numbers(file, next, Kind::High, &constraint.high, n * n, SHORT_SIZE)
 }
 
 // Puts those of the linear terms, of the limit and of the centre behind them.
-fn put_terms(
-    file: &mut [u8],
-    at: usize,
-    n: usize,
-    from: &[i64],
-    to: &[i64],
-    limit: i64,
-    centre: &[i64],
-) -> usize
-    requires { (n ≤ greatest_order) × (n ≤ length from.now) × (n ≤ length to.now) × (n ≤ length centre.now)
-        × (at + terms_size n ≤ length file.old) }
-    ensures { Put file.old at (bytes_of_entries (terms_entries n from.now to.now limit centre.now)) (terms_size n) result file.new }
+fn put_terms(file: &mut [u8], at: usize, problem: &Problem) -> usize
+    requires { ProblemRooms problem.now × (at + terms_size problem.now.constraint.order ≤ length file.old) }
+    ensures { Put file.old at (bytes_of_entries (terms_entries problem.now)) (terms_size problem.now.constraint.order) result file.new }
 {
-    let one = [limit];
-    let at_limit = put_numbers(file, at, Kind::LinearLow, from, n, SIZE);
+    let constraint = &problem.constraint;
+    let n = constraint.order;
+    let linear = &constraint.linear;
+    let one = [constraint.limit];
+    let at_limit = put_numbers(file, at, Kind::LinearLow, &linear.low, n, SIZE);
     let at_centre = put_numbers(file, at_limit, Kind::Limit, &one, 1, SIZE);
-    let at_high = put_numbers(file, at_centre, Kind::Centre, centre, n, SIZE);
-    put_numbers(file, at_high, Kind::LinearHigh, to, n, SIZE)
+    let at_high = put_numbers(file, at_centre, Kind::Centre, &problem.centre, n, SIZE);
+    put_numbers(file, at_high, Kind::LinearHigh, &linear.high, n, SIZE)
 }
 
-// The file of a problem of order n into a buffer of its size.
-pub fn write_file(
-    n: usize,
-    low: &Table,
-    high: &Table,
-    from: &Vector,
-    to: &Vector,
-    limit: i64,
-    centre: &Vector,
-    file: &mut [u8],
-)
-    requires { ProblemRooms (problem_of n low.now high.now from.now to.now limit centre.now)
-        × (length file.old ≡ file_size n) }
-    ensures { file.new ≡ file_of (problem_of n low.now high.now from.now to.now
-        limit centre.now) }
+// The file of a problem into a buffer of its size.
+pub fn write_file(problem: &Problem, file: &mut [u8])
+    requires { ProblemRooms problem.now × (length file.old ≡ file_size problem.now.constraint.order) }
+    ensures { file.new ≡ file_of problem.now }
 {
-    let at = put_bounds(file, n, low, high);
-    put_terms(file, at, n, from, to, limit, centre);
+    let at = put_bounds(file, problem);
+    put_terms(file, at, problem);
 }

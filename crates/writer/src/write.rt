@@ -23,6 +23,7 @@ pub fn file_size(n: usize) -> usize
 }
 
 // Whether the buffers of a call have their sizes: those of the constraint, the centre of a vector, and the file that of a file of order n.
+#[tactic(auto, unfolding(crate::specs::Writing::write_sizes))]
 pub fn write_sized(n: usize, sizes: Sizes, lengths: Lengths, centre: usize, file: usize) -> bool
     requires { n ≤ greatest_order }
     ensures { result ≡ write_sizes n sizes lengths centre file }
@@ -33,6 +34,7 @@ pub fn write_sized(n: usize, sizes: Sizes, lengths: Lengths, centre: usize, file
 }
 
 // The first numbers of x, count of them, as a table, and zeros.
+#[tactic(auto, using(summary::proofs::Padding::over_zeros))]
 fn table_of(x: &[i64], count: usize) -> Table
     requires { (count ≤ length x.now) × (count ≤ table_room) }
     ensures { result ≡ padded_to table_room count x.now }
@@ -43,6 +45,7 @@ fn table_of(x: &[i64], count: usize) -> Table
 }
 
 // The same as a vector.
+#[tactic(auto, using(summary::proofs::Padding::over_zeros))]
 fn vector_of(x: &[i64], count: usize) -> Vector
     requires { (count ≤ length x.now) × (count ≤ greatest_order) }
     ensures { result ≡ padded_to greatest_order count x.now }
@@ -85,34 +88,13 @@ fn problem_of(
 }
 
 // Checks 3, 4, 5 and 16 of a problem, and the file of the mended one into a buffer of its size, which a refusal keeps.
+#[tactic(auto, unfolding(crate::specs::Writing::checked_writing, summary::specs::Problems::reading_of, tables::specs::Answers::after))]
 pub fn write_checked(problem: Problem, file: &mut [u8]) -> Result<(), Refusal>
     requires { ProblemRooms problem × (length file.old ≡ file_size problem.constraint.order) }
     ensures { ◌≡◌ {A = Written} (record { answer = result; file = file.new }) (checked_writing problem file.old) }
 {
-    let mut constraint = problem.constraint;
-    let n = constraint.order;
-    let linear = constraint.linear;
-    let limit = constraint.limit;
-    let centre = problem.centre;
-    mend_problem(
-        n,
-        &mut constraint.low,
-        &mut constraint.high,
-        &linear.low,
-        &linear.high,
-        limit,
-        &centre,
-    )?;
-    write_file(
-        n,
-        &constraint.low,
-        &constraint.high,
-        &linear.low,
-        &linear.high,
-        limit,
-        &centre,
-        file,
-    );
+    let mended = mend_problem(problem)?;
+    write_file(&mended, file);
     Ok(())
 }
 
@@ -128,7 +110,8 @@ pub fn write(
     centre: &[i64],
     file: &mut [u8],
 ) -> Result<(), Refusal>
-    ensures exact { ◌≡◌ {A = Written} (record { answer = result; file = file.new }) (write n low.now high.now linear_low.now linear_high.now limit centre.now file.old) }
+    ensures exact { ◌≡◌ {A = Written} (record { answer = result; file = file.new })
+        (write n low.now high.now linear_low.now linear_high.now limit centre.now file.old) }
     ensures meaning { Meaning result (problem_of (order_of n) low.now high.now linear_low.now linear_high.now limit centre.now) file.new }
 {
     let m = order(n)?;

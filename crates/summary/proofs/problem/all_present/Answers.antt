@@ -15,6 +15,8 @@ pub returns : goal.returns
 unfolding all_present
 returns c =
     let parts = c.args.layout.parts in
-    let r = all_from_yields_List is_some _ _ c.all.result c.all.ensures.ran (YieldsList-from_slice parts cc) (λ x b q k. search (rules, tests)) in
+    let r =
+    all_from_yields_List is_some _ _ c.all.result c.all.ensures.ran (YieldsList-from_slice parts cc)
+    (λ x b q k. search (rules, tests)) in
     let l : length parts ≡ kind_count = omega arith in
     r ∙ all-list_all None is_some parts ∙ ap (λ n. all n (λ k. is_some (get_or parts k None))) l

@@ -1,11 +1,10 @@
 use Rattle.std.proofs.Common.{◌≡◌, ℕ, ◌≤◌, List, arith}
-use Rattle.integers.proofs.Machine.{clean_element}
 use Rattle.tables.specs.Ranges.{greatest_order}
 use Rattle.tables.proofs.Matrix.{table_fits}
 use Rattle.fields.specs.declared.field.Kind.{Kind}
 use Rattle.fields.specs.declared.layout.Layout.{Layout}
 use Rattle.fields.specs.Layouts.{length_of}
-use Rattle.summary.specs.Problems.{order_in, length_for, problem_in, FieldsFit}
+use Rattle.summary.specs.Problems.{order_in, length_for, FieldsFit}
 use Rattle.summary.proofs.Spelled.{length_is}
 use Rattle.summary.proofs.problem.problem_in.Goals as goal
 
@@ -27,16 +26,10 @@ vector_in-requires-2 c =
     let e = c.order_in-n.ensures in
     (c.requires.inside, omega (arith, called c.requires e Kind.LinearHigh), small c.requires e)
 
-pub overflow_mul-n : goal.overflow_mul-n
-overflow_mul-n c = omega (arith, table_fits (small c.requires c.order_in-n.ensures))
-
 pub table_in-requires : goal.table_in-requires
 table_in-requires c =
     let e = c.order_in-n.ensures in
     (c.requires.inside, omega (arith, called c.requires e Kind.Low), table_fits (small c.requires e))
-
-pub overflow_mul-n-2 : goal.overflow_mul-n-2
-overflow_mul-n-2 c = omega (arith, table_fits (small c.requires c.order_in-n.ensures))
 
 pub table_in-requires-2 : goal.table_in-requires-2
 table_in-requires-2 c =
@@ -50,17 +43,3 @@ pub vector_in-requires-3 : goal.vector_in-requires-3
 vector_in-requires-3 c =
     let e = c.order_in-n.ensures in
     (c.requires.inside, omega (arith, called c.requires e Kind.Centre), small c.requires e)
-
-pub returns : goal.returns
-unfolding problem_in
-returns c =
-    rw (
-      clean_element c.number_in.result c.number_in.type_inv,
-      c.vector_in.ensures,
-      c.vector_in-2.ensures,
-      c.table_in.ensures,
-      c.table_in-2.ensures,
-      c.number_in.ensures,
-      c.vector_in-3.ensures,
-      c.order_in-n.ensures,
-    )

@@ -5,9 +5,6 @@ use Rattle.tables.specs.Ranges.{greatest_order}
 use Rattle.fields.proofs.Parts.{length-content}
 use Rattle.summary.proofs.problem.vector_in.Goals as goal
 
-pub content-requires : goal.content-requires
-content-requires c = c.requires.0.ends _
-
 pub load_numbers-requires : goal.load_numbers-requires
 load_numbers-requires c = let p = c.requires in (refl, rw (c.content.ensures, length-content _ _ _ p.0) p.1, p.2)
 

@@ -10,4 +10,5 @@ use Rattle.writer.proofs.storing.put_order.Goals as goal
 pub returns : goal.returns
 returns c =
     let n = c.args.n in
-    field_put Kind.Order (n ∷ []) refl (omega (arith, c.requires.0)) c.put_head-start.ensures (put_byte n (put_room c.put_head-start.ensures 1 c.requires.0))
+    field_put Kind.Order (n ∷ []) refl (omega (arith, c.requires.0)) c.put_head-start.ensures
+    (put_byte n (put_room c.put_head-start.ensures 1 c.requires.0))

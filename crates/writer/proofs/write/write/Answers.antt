@@ -14,7 +14,8 @@ use Rattle.tables.proofs.Admission.{order_small, order_fits, order-positive, ord
 use Rattle.summary.specs.Problems.{file_size, padded, ProblemRooms}
 use Rattle.summary.proofs.Padding.{Sized, padded_rooms}
 use Rattle.writer.specs.Writing.{Written, checked_writing, write_sizes, write}
-use Rattle.writer.proofs.Acting.{WriteSized, write-sizes-of, writing-no-order, writing-no-sizes, writing-sized, writing-padded, Means, writing-means}
+use Rattle.writer.proofs.Acting.{WriteSized, write-sizes-of, writing-no-order, writing-no-sizes, writing-sized, writing-padded, Means}
+use Rattle.writer.proofs.Acting.{writing-means}
 use Rattle.writer.proofs.write.write.Goals as goal
 
 -- a call's numbers and its buffer
@@ -25,14 +26,17 @@ module _ (n : ℤ) (l u a b : List ℤ) (α : ℤ) (c : List ℤ) (s : List ℕ)
 
   -- what check 2 finds
   abbrev sizes : ℕ → Bool
-  sizes k = write_sizes k (record { table = k * k; vector = k }) (lengths_of (length l) (length u) (length a) (length b)) (length c) (length s)
+  sizes k =
+      write_sizes k (record { table = k * k; vector = k }) (lengths_of (length l) (length u) (length a) (length b)) (length c) (length s)
 
   lent : sizes (order_of n) ≡ true →
-      WriteSized (order_of n) (record { table = order_of n * order_of n; vector = order_of n }) (lengths_of (length l) (length u) (length a) (length b)) (length c) (length s)
+      WriteSized (order_of n) (record { table = order_of n * order_of n; vector = order_of n })
+      (lengths_of (length l) (length u) (length a) (length b)) (length c) (length s)
   lent e = write-sizes-of _ _ _ _ _ e
 
   exact_sizes : sizes (order_of n) ≡ true → Sized posed
-  exact_sizes e = let z = lent e in record { low = z.low; high = z.high; linear_low = z.linear_low; linear_high = z.linear_high; centre = z.centre }
+  exact_sizes e =
+      let z = lent e in record { low = z.low; high = z.high; linear_low = z.linear_low; linear_high = z.linear_high; centre = z.centre }
 
   -- what an answer means
   shown : Means posed (write n l u a b α c s)
@@ -41,7 +45,11 @@ module _ (n : ℤ) (l u a b : List ℤ) (α : ℤ) (c : List ℤ) (s : List ℕ)
 
   -- of an answer r, with the buffer as it is left
   abbrev Right : Checked → List ℕ → Type 0
-  Right r f = record { exact : ◌≡◌ {A = Written} (record { answer = r; file = f }) (write n l u a b α c s); meaning : Means posed (record { answer = r; file = f }) }
+  Right r f =
+      record {
+        exact : ◌≡◌ {A = Written} (record { answer = r; file = f }) (write n l u a b α c s);
+        meaning : Means posed (record { answer = r; file = f });
+      }
 
   right : {r : Checked} {f : List ℕ} → ◌≡◌ {A = Written} (record { answer = r; file = f }) (write n l u a b α c s) → Right r f
   right e = exactly (Means posed) shown _ e
@@ -66,7 +74,14 @@ module _ (n : ℤ) (l u a b : List ℤ) (α : ℤ) (c : List ℤ) (s : List ℕ)
         (m ≤ greatest_order) × (m * m ≤ length l) × (m * m ≤ length u) × (m ≤ length a) × (m ≤ length b) × (m ≤ length c)
     sizes_fit e =
         let z = lent e in
-        rw o (order_small n, omega (arith, z.low), omega (arith, z.high), omega (arith, z.linear_low), omega (arith, z.linear_high), omega (arith, z.centre))
+        rw o (
+          order_small n,
+          omega (arith, z.low),
+          omega (arith, z.high),
+          omega (arith, z.linear_low),
+          omega (arith, z.linear_high),
+          omega (arith, z.centre),
+        )
 
     file_fits : sizes (order_of n) ≡ true → {p : Problem} → p ≡ padded posed → ProblemRooms p × (length s ≡ file_size p.constraint.order)
     file_fits e q = rw q (padded_rooms posed (exact_sizes e) (order_small n), (lent e).file)
@@ -95,7 +110,8 @@ problem_of-problem-requires c =
     let a = c.args in
     let order = (order-passed c.ranges.n c.in_ok-m.ensures).0 in
     let sized = rw (c.lengths_of-lengths.ensures, order) at c.write_sized.ensures in
-    sizes_fit a.n a.low.now a.high.now a.linear_low.now a.linear_high.now a.limit a.centre.now a.file.now order (sym sized ∙ c.if-not-write_sized.false)
+    sizes_fit a.n a.low.now a.high.now a.linear_low.now a.linear_high.now a.limit a.centre.now a.file.now order (sym sized
+    ∙ c.if-not-write_sized.false)
 
 pub write_checked-requires : goal.write_checked-requires
 write_checked-requires c =
@@ -103,7 +119,8 @@ write_checked-requires c =
     let order = (order-passed c.ranges.n c.in_ok-m.ensures).0 in
     let sized = rw (c.lengths_of-lengths.ensures, order) at c.write_sized.ensures in
     let made = rw (order, clean c.ranges.limit) at c.problem_of-problem.ensures in
-    file_fits a.n a.low.now a.high.now a.linear_low.now a.linear_high.now a.limit a.centre.now a.file.now order (sym sized ∙ c.if-not-write_sized.false) made
+    file_fits a.n a.low.now a.high.now a.linear_low.now a.linear_high.now a.limit a.centre.now a.file.now order (sym sized
+    ∙ c.if-not-write_sized.false) made
 
 pub returns : goal.returns
 returns c =
@@ -111,5 +128,6 @@ returns c =
     let order = (order-passed c.ranges.n c.in_ok-m.ensures).0 in
     let sized = rw (c.lengths_of-lengths.ensures, order) at c.write_sized.ensures in
     let made = rw (order, clean c.ranges.limit) at c.problem_of-problem.ensures in
-    checked a.n a.low.now a.high.now a.linear_low.now a.linear_high.now a.limit a.centre.now a.file.now (order-passed c.ranges.n c.in_ok-m.ensures).1
+    checked a.n a.low.now a.high.now a.linear_low.now a.linear_high.now a.limit a.centre.now a.file.now
+    (order-passed c.ranges.n c.in_ok-m.ensures).1
     (sym sized ∙ c.if-not-write_sized.false) (rw made at c.write_checked.ensures)
