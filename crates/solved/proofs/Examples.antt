@@ -38,7 +38,8 @@ lines =
     ∷ thin 2 (pos 1 ∷ negsuc 28672 ∷ negsuc 28672 ∷ pos 1048576 ∷ []) (pos 1) []
     ∷ thin 2 (pos 100 ∷ pos 37 ∷ pos 37 ∷ pos 13 ∷ []) (pos 64) ((negsuc 23 ∷ pos 64 ∷ []) ∷ [])
     -- rows below the last one, and columns after the stopping one, are 0
-    ∷ thin 3 (pos 1 ∷ pos 0 ∷ pos 1000 ∷ pos 0 ∷ pos 1 ∷ pos 5 ∷ pos 1000 ∷ pos 5 ∷ pos 10000 ∷ []) (pos 1) ((negsuc 1142 ∷ pos 0 ∷ pos 1 ∷ []) ∷ [])
+    ∷ thin 3 (pos 1 ∷ pos 0 ∷ pos 1000 ∷ pos 0 ∷ pos 1 ∷ pos 5 ∷ pos 1000 ∷ pos 5 ∷ pos 10000 ∷ []) (pos 1)
+    ((negsuc 1142 ∷ pos 0 ∷ pos 1 ∷ []) ∷ [])
     ∷ thin 3 (pos 5 ∷ pos 1 ∷ pos 0 ∷ pos 1 ∷ pos 0 ∷ pos 0 ∷ pos 0 ∷ pos 0 ∷ pos 5 ∷ []) (pos 64) ((pos 0 ∷ pos 64 ∷ pos 0 ∷ []) ∷ [])
     -- a half: the quotient is rounded down, then the sign is put
     ∷ half (pos 1) ((negsuc 0 ∷ pos 1 ∷ []) ∷ [])
@@ -48,5 +49,6 @@ lines =
     ∷ []
 
 as_printed : map (λ (l : Line). solved l.order l.stopped l.s) lines ≡ map (λ (l : Line). l.expected) lines
-unfolding solved solved_rows solved_entry stopped_factor factoring columns_from next_column rows goes_on next_entry entries scaled_by take_off at tabulate row_width within sum only floor_div whole_root root_within
+unfolding solved solved_rows solved_entry stopped_factor factoring columns_from next_column rows goes_on next_entry entries scaled_by
+    take_off at tabulate row_width within sum only floor_div whole_root root_within
 as_printed = refl

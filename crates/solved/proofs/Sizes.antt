@@ -57,7 +57,10 @@ module _ {t x : List ℤ} {i j : ℕ} (r : Ready t x i j) where
   -- the sum before column k, and with it
   sum-within : (k : ℕ) → k ≤ j → Within (greatest_order * term_range) (row_sum t x i k)
   unfolding row_sum
-  sum-within k l = let p = r.inside in within_more (omega arith) (within-sum (k - suc i) term_range _ (λ m q. small_product (suc i + m) (omega arith) (omega arith)))
+  sum-within k l =
+      let p = r.inside in
+      within_more (omega arith)
+      (within-sum (k - suc i) term_range _ (λ m q. small_product (suc i + m) (omega arith) (omega arith)))
 
   next-within : (k : ℕ) → i < k → k ≤ j → Within sum_range (row_sum t x i k +ℤ upper t i k *ℤ nth x k)
   next-within k h l = within-+ (sum-within k l) (product_within k h l)
@@ -67,6 +70,9 @@ module _ {t x : List ℤ} {i j : ℕ} (r : Ready t x i j) where
 
   whole-within : Within sum_range (row_sum t x i (suc j))
   whole-within = rw (← row-sum_suc t x i j r.before) (next-within j r.before (omega arith))
+
+  pub sum_fits : SFits w64 (row_sum t x i (suc j))
+  sum_fits = fits_within whole-within (omega arith)
 
   twice_within : Within (2 * sum_range) (pos 2 *ℤ row_sum t x i (suc j))
   twice_within = within-* (numeral_within 2) whole-within
@@ -86,5 +92,12 @@ module _ {t x : List ℤ} {i j : ℕ} (r : Ready t x i j) where
   pub divisor_positive : pos 1 ≤ℤ (pos 2 *ℤ upper t i i)
   divisor_positive = order (upper t i i ∷ []) r.diagonal (search solver depth 40 fits 20000) (omega arith)
 
-  pub quotient_fits : SFits w64 (pos 0 -ℤ floor_div (pos 2 *ℤ row_sum t x i (suc j) +ℤ upper t i i) (pos 2 *ℤ upper t i i))
-  quotient_fits = fits_within (within-- (numeral_within 0) (within_floor (pos 2 *ℤ upper t i i) numerator_within)) (omega arith)
+  quotient_within : Within (2 * sum_range + factor_range)
+      (floor_div (pos 2 *ℤ row_sum t x i (suc j) +ℤ upper t i i) (pos 2 *ℤ upper t i i))
+  quotient_within = within_floor (pos 2 *ℤ upper t i i) numerator_within
+
+  pub quotient_fits : SFits w64 (floor_div (pos 2 *ℤ row_sum t x i (suc j) +ℤ upper t i i) (pos 2 *ℤ upper t i i))
+  quotient_fits = fits_within quotient_within (omega arith)
+
+  pub opposite_fits : SFits w64 (pos 0 -ℤ floor_div (pos 2 *ℤ row_sum t x i (suc j) +ℤ upper t i i) (pos 2 *ℤ upper t i i))
+  opposite_fits = fits_within (within-- (numeral_within 0) quotient_within) (omega arith)

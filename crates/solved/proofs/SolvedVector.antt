@@ -37,7 +37,9 @@ not_none : {v : List ℤ} → ◌≡◌ {A = List (List ℤ)} [] (v ∷ []) → 
 not_none e = let q : false ≡ true = cc e in false≢true q
 
 prolongs_none : {xs v : List ℤ} → xs ≡ v → Prolongs 0 xs v
-prolongs_none e = rw e (record { size = omega arith; kept = λ k. let f : 0 + k ≡ k = omega arith in rw f; small = λ k h. absurd (omega arith) })
+prolongs_none e =
+    rw e
+    (record { size = omega arith; kept = λ k. let f : 0 + k ≡ k = omega arith in rw f; small = λ k h. absurd (omega arith) })
 
 prolongs_more : {i : ℕ} {x : ℤ} {xs v : List ℤ} → Within vector_range x → Prolongs i (x ∷ xs) v → Prolongs (suc i) xs v
 prolongs_more {i} {x} {xs} {v} w p =
@@ -52,7 +54,9 @@ unfolding solved_rows
 prolongs R zero xs v e = prolongs_none (one_only e)
 prolongs R (suc i) xs v e =
     cases (within vector_range (solved_entry R i xs))
-    (λ q. prolongs_more (within_of vector_range (solved_entry R i xs) q) (prolongs R i (solved_entry R i xs ∷ xs) v (sym (rows_on R i xs q) ∙ e)))
+    (λ q.
+    prolongs_more (within_of vector_range (solved_entry R i xs) q)
+    (prolongs R i (solved_entry R i xs ∷ xs) v (sym (rows_on R i xs q) ∙ e)))
     (λ q. absurd (not_none (sym (rows_none R i xs q) ∙ e)))
 
 -- ---- a vector of order n

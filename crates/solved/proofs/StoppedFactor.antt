@@ -31,7 +31,9 @@ module _ (t : List ℤ) (j m : ℕ) where
 
   factor-before : (i k : ℕ) → i ≤ k → k < j → factor i k ≡ upper t i k
   unfolding stopped_factor stopped_at
-  factor-before i k h l = entries-before (columns_of t j) (column_of t j m) i k (omega (arith, length-columns_of t j)) ∙ entries-columns_of t j i k h l
+  factor-before i k h l =
+      entries-before (columns_of t j) (column_of t j m) i k (omega (arith, length-columns_of t j))
+      ∙ entries-columns_of t j i k h l
 
   factor-last : (i : ℕ) → i < m → factor i j ≡ upper t i j
   unfolding stopped_factor stopped_at

@@ -1,4 +1,5 @@
--- Where factoring stops: the columns that were done are those of a factor, and the entries of the column that it stopped in are within stop_range.
+-- Where factoring stops: the columns that were done are those of a factor, and the entries of the column that it stopped in are within
+-- stop_range.
 use mathlib.Core.Path.{◌≡◌, refl, sym, ap, subst}
 use mathlib.Core.Bool.{Bool, true, false, not}
 use mathlib.Core.Logic.{by_cases}
@@ -72,7 +73,8 @@ module _ (n : ℕ) (H : Matrix) (o : n ≤ greatest_order) (off : (i j : ℕ) �
         (within-sum (length c) product_range _
         (λ k p. within-* {x = entries cs k (length c)} (record { size = (d.off k (length c) p h).small }) (a.each k p)))))
 
-    rows_cut : (k : ℕ) (rest : ℤ) (c : List ℤ) → length c + k ≡ j → AllWithin factor_range c → T (not (rows H cs j k rest c).done) → Cut cs (rows H cs j k rest c).column
+    rows_cut : (k : ℕ) (rest : ℤ) (c : List ℤ) → length c + k ≡ j → AllWithin factor_range c →
+        T (not (rows H cs j k rest c).done) → Cut cs (rows H cs j k rest c).column
     unfolding rows
     rows_cut zero rest c h a t = absurd t
     rows_cut (suc k) rest c h a t =
@@ -82,21 +84,28 @@ module _ (n : ℕ) (H : Matrix) (o : n ≤ greatest_order) (off : (i j : ℕ) �
         (λ g t. record { rows = omega (arith, more); near = one_more (wider (omega arith) a) (entry-within c (omega arith) a) }) t
 
     column-cut : T (not (next_column H cs).done) → Cut cs (next_column H cs).column
-    column-cut = column_ind H cs (λ q. T (not q.done) → Cut cs q.column) (λ h. rows_cut j (H j j) [] (omega arith) none_within) (λ g t. record { rows = omega arith; near = none_within })
+    column-cut =
+        column_ind H cs (λ q. T (not q.done) → Cut cs q.column) (λ h. rows_cut j (H j j) [] (omega arith) none_within)
+        (λ g t. record { rows = omega arith; near = none_within })
 
   -- ---- all columns
   module _ (top : (j : ℕ) → j < n → H j j ≤ℤ (ρ *ℤ ρ)) where
-    columns-cut : (k : ℕ) (cs : List (List ℤ)) → length cs + k ≡ n → Done H cs → T (not (columns_from H k cs).ends) → Stop n H (columns_from H k cs)
+    columns-cut : (k : ℕ) (cs : List (List ℤ)) → length cs + k ≡ n → Done H cs → T (not (columns_from H k cs).ends) →
+        Stop n H (columns_from H k cs)
     unfolding columns_from
     columns-cut zero cs h d t = absurd t
     columns-cut (suc k) cs h d t =
         columns_by H k cs (λ q. T (not q.ends) → Stop n H q)
-        (λ g. columns-cut k _ (omega (arith, length_snoc cs (next_column H cs).column)) (column_step H cs d (top (length cs) (omega arith)) g))
+        (λ g.
+        columns-cut k _ (omega (arith, length_snoc cs (next_column H cs).column))
+        (column_step H cs d (top (length cs) (omega arith)) g))
         (λ g t. record { inside = omega arith; done = d; cut = column-cut cs (omega arith) d g }) t
 
     stop : T (not (factoring n H).ends) → Stop n H (factoring n H)
     unfolding factoring
-    stop = columns-cut n [] (omega arith) (record { lengths = λ l k. absurd (omega arith); off = λ a b k l. absurd (omega arith); on = λ b k. absurd (omega arith) })
+    stop =
+        columns-cut n [] (omega arith)
+        (record { lengths = λ l k. absurd (omega arith); off = λ a b k l. absurd (omega arith); on = λ b k. absurd (omega arith) })
 
 -- ---- where factoring of bounds does not end, it stops so
 pub bounds_stop : {n : ℕ} {L U : Matrix} → Bounds n L U → n ≤ greatest_order → (factored n L U).ends ≡ false →
@@ -117,9 +126,13 @@ stopped_in : (f : Factoring) (j m : ℕ) → Stops j m ≡ outcome_of f → Stop
 unfolding outcome_of
 stopped_in f j m e = go f.ends refl e
   where
-    go : (b : Bool) → f.ends ≡ b → ◌≡◌ {A = Outcome} (Stops j m) (elim b [ true ↦ Ends | false ↦ Stops (length f.columns) (length f.stopped) ]) → StoppedIn f j m
+    go : (b : Bool) → f.ends ≡ b →
+        ◌≡◌ {A = Outcome} (Stops j m) (elim b [ true ↦ Ends | false ↦ Stops (length f.columns) (length f.stopped) ]) →
+        StoppedIn f j m
     go true q e = record { ends = cc; column = cc; rows = cc }
-    go false q e = let s = sym (one_stop e) in record { ends = q; column = ap (λ (s : StopPlace). s.column) s; rows = ap (λ (s : StopPlace). s.rows) s }
+    go false q e =
+        let s = sym (one_stop e) in
+        record { ends = q; column = ap (λ (s : StopPlace). s.column) s; rows = ap (λ (s : StopPlace). s.rows) s }
 
 -- the factoring is the one of the table
 pub stopped-at : {f : Factoring} {j m : ℕ} {t : List ℤ} → Stored f (Stops j m) t → f ≡ stopped_at t j m

@@ -1,7 +1,10 @@
-use mathlib.Core.Path.{◌∙◌}
 use native.Mathlib.Omega.{arith}
 use native.Mathlib.Numerals.{add-one}
-use Rattle.integers.proofs.Machine.{clean, clean_element}
+use mir.Syntax.{w64}
+use mir.Val.{SFits}
+use Rattle.std.proofs.Common.{rules}
+use Rattle.std.proofs.lemmas.Int.{to_z-of_z}
+use Rattle.tables.specs.Matrix.{nth}
 use Rattle.cholesky.specs.Store.{upper}
 use Rattle.solved.proofs.Sizes.{row-sum-none, row-sum_suc, product_fits, next_fits}
 use Rattle.solved.proofs.row_sum.Goals as goal
@@ -10,16 +13,18 @@ pub overflow_mul-s-in-loop-k : goal.overflow_mul-s-in-loop-k
 unfolding upper
 overflow_mul-s-in-loop-k c =
     let l = c.loop-k in
-    let a = c.args in
-    rw (clean_element (upper a.t.now a.i l.k) c.s-1.given, clean_element _ c.s-in-loop-k-1.given) (product_fits c.requires l.k (omega arith) (omega arith))
+    let r : SFits w64 (upper c.args.t.now c.args.i l.k) = search rules in
+    let x : SFits w64 (nth c.args.x.now l.k) = search rules in
+    simp to_z-of_z (product_fits c.requires l.k (omega arith) (omega arith))
 
 pub overflow_add-s-in-loop-k : goal.overflow_add-s-in-loop-k
 unfolding upper
 overflow_add-s-in-loop-k c =
     let l = c.loop-k in
-    let a = c.args in
-    rw (clean (overflow_mul-s-in-loop-k c), clean_element (upper a.t.now a.i l.k) c.s-1.given, clean_element _ c.s-in-loop-k-1.given, l.invariant)
-    (next_fits c.requires l.k (omega arith) (omega arith))
+    let r : SFits w64 (upper c.args.t.now c.args.i l.k) = search rules in
+    let x : SFits w64 (nth c.args.x.now l.k) = search rules in
+    let p = product_fits c.requires l.k (omega arith) (omega arith) in
+    simp (to_z-of_z, l.invariant) (next_fits c.requires l.k (omega arith) (omega arith))
 
 pub loop-k-init : goal.loop-k-init
 unfolding upper
@@ -29,6 +34,8 @@ pub loop-k-preserved : goal.loop-k-preserved
 unfolding upper
 loop-k-preserved c =
     let l = c.loop-k in
-    let a = c.args in
-    clean (overflow_add-s-in-loop-k c)
-    ∙ rw (clean (overflow_mul-s-in-loop-k c), clean_element (upper a.t.now a.i l.k) c.s-1.given, clean_element _ c.s-in-loop-k-1.given, l.invariant, add-one) (row-sum_suc a.t.now a.x.now a.i l.k (omega arith))
+    let r : SFits w64 (upper c.args.t.now c.args.i l.k) = search rules in
+    let x : SFits w64 (nth c.args.x.now l.k) = search rules in
+    let p = product_fits c.requires l.k (omega arith) (omega arith) in
+    let n = next_fits c.requires l.k (omega arith) (omega arith) in
+    simp (to_z-of_z, l.invariant, add-one) (row-sum_suc c.args.t.now c.args.x.now c.args.i l.k (omega arith))

@@ -1,4 +1,4 @@
-use mathlib.Core.Path.{◌≡◌, subst}
+use mathlib.Core.Path.{◌≡◌, sym, subst, ◌∙◌}
 use mathlib.Core.Bool.{true, false}
 use Prim.Native.Nat.{suc, ◌-◌, ◌<◌}
 use native.Mathlib.Omega.{arith}
@@ -7,7 +7,6 @@ use mir.Val.{to_z, of_z}
 use Rattle.integers.proofs.Machine.{clean, clean_result}
 use Rattle.tables.specs.Ranges.{vector_range}
 use Rattle.tables.specs.Checks.{within}
-use Rattle.tables.proofs.Checks.{call_false, call_true}
 use Rattle.solved.specs.Stopped.{entry_of}
 use Rattle.solved.proofs.Solving.{Solving, solving_start, solving_ready, solving_row, solving_none, solving_end}
 use Rattle.solved.proofs.solve.Lts as lts
@@ -43,14 +42,14 @@ passed : (c : Else1) →
     within vector_range (entry_of a.t.now c.loop-i.x (c.loop-i.i - 1) a.stop.column) ≡ true)
 passed c =
     let e = c.entry-e in
-    rw (clean_result e, e.ensures) at (call_true c.within.ensures c.if-not-within.false-raw)
+    rw (clean_result e, e.ensures) at (sym c.within.ensures ∙ c.if-not-within.false)
 
 failed : (c : Then1) →
     (let a = c.args in
     within vector_range (entry_of a.t.now c.loop-i.x (c.loop-i.i - 1) a.stop.column) ≡ false)
 failed c =
     let e = c.entry-e in
-    rw (clean_result e, e.ensures) at (call_false c.within.ensures c.if-not-within.true-raw)
+    rw (clean_result e, e.ensures) at (sym c.within.ensures ∙ c.if-not-within.true)
 
 pub loop-i-init : goal.loop-i-init
 loop-i-init c = rw (clean c.ranges.s) (solving_start c.requires.0 c.requires.1)
