@@ -60,13 +60,19 @@ module _ (n : ℕ) (R : Matrix) (t : T (factor_shape n R)) where
   unfolding factor_shape
   factor-small i j h k =
       entry_by i j (R i j) (λ b. b ≡ true → Within factor_range (R i j)) (λ m e. within_of factor_range (R i j) e)
-      (λ m e. within_in (≤ℤ_trans (le_z_yes tt) (le_of (pos 1) (R i j) (and_left _ _ e))) (le_of (R i j) (pos factor_range) (and_right (le_z (pos 1) (R i j)) _ e)))
-      (λ m e. rw (same_of (R i j) (pos 0) e) (record { size = omega arith })) (all-at _ n (all-at _ n (true_of (factor_shape n R) t) i h) j k)
+      (λ m e.
+      within_in (≤ℤ_trans (le_z_yes tt) (le_of (pos 1) (R i j) (and_left _ _ e)))
+      (le_of (R i j) (pos factor_range) (and_right (le_z (pos 1) (R i j)) _ e)))
+      (λ m e. rw (same_of (R i j) (pos 0) e) (record { size = omega arith }))
+      (all-at _ n (all-at _ n (true_of (factor_shape n R) t) i h) j k)
 
   factor-sized : Small (n * n) factor_range (table n R)
   factor-sized =
       sized (length-table n R)
-      (λ k h. let p = row_inside n k h in let q = column_inside n k h in rw (nth-at n k (table n R), at_table n R (k / n) (k % n) p q) (factor-small (k / n) (k % n) p q))
+      (λ k h.
+      let p = row_inside n k h in
+      let q = column_inside n k h in
+      rw (nth-at n k (table n R), at_table n R (k / n) (k % n) p q) (factor-small (k / n) (k % n) p q))
 
 -- ---- lists of vectors
 module _ (P : List ℤ → Type 0) where
@@ -96,7 +102,8 @@ module _ (n : ℕ) (o : n ≤ greatest_order) (L U : Matrix) (b : Bounds n L U) 
     unfolding listed
     listed-sized =
         every_append _ (tried n) _ (tried-sized vector_range (omega arith) n)
-        (every_append _ (solved n (factored n L U) (pos 1)) _ (solved-sized (pos 1) (record { size = omega arith })) (solved-sized (pos 64) (record { size = omega arith })))
+        (every_append _ (solved n (factored n L U) (pos 1)) _ (solved-sized (pos 1) (record { size = omega arith }))
+        (solved-sized (pos 64) (record { size = omega arith })))
 
   -- ---- the verdict
   first_fitting : (p : List ℤ → Bool) (l : List (List ℤ)) → Every (Small n vector_range) l → Fitting n (shown_by (first p l))
@@ -104,7 +111,8 @@ module _ (n : ℕ) (o : n ≤ greatest_order) (L U : Matrix) (b : Bounds n L U) 
   first_fitting p [] h = tt
   first_fitting p (x ∷ l) h = go (p x) (first p l) (first_fitting p l h.1)
     where
-      go : (b : Bool) (q : Option (List ℤ)) → Fitting n (shown_by q) → Fitting n (shown_by (elim b as (λ z. Option (List ℤ)) [ true ↦ some x | false ↦ q ]))
+      go : (b : Bool) (q : Option (List ℤ)) → Fitting n (shown_by q) →
+          Fitting n (shown_by (elim b as (λ z. Option (List ℤ)) [ true ↦ some x | false ↦ q ]))
       go true q k = h.0
       go false q k = k
 
@@ -124,4 +132,5 @@ pub judging_fitting : (n : ℤ) (sized : Bool) (l u : List ℤ) → Fitting (ord
 unfolding judging
 judging_fitting n sized l u =
     let k = order_of n in
-    entered-means n sized true l u refused _ (Fitting k) (λ r. tt) (λ b. judged_fitting k (order_small n) (low_bounds k l) (high_bounds k u) (passed-bounds k l u b.tables))
+    entered-means n sized true l u refused _ (Fitting k) (λ r. tt)
+    (λ b. judged_fitting k (order_small n) (low_bounds k l) (high_bounds k u) (passed-bounds k l u b.tables))

@@ -15,7 +15,7 @@ use Rattle.tables.specs.Matrix.{Matrix, nth, tabulate}
 use Rattle.tables.specs.Checks.{all, same}
 use Rattle.tables.proofs.Matrix.{nth-tabulate}
 use Rattle.tables.specs.Ranges.{greatest_order}
-use Rattle.vectors.specs.Least.{least_value, nonzero, shows}
+use Rattle.vectors.specs.Least.{nonzero, shows}
 use Rattle.vectors.specs.LeastShares.{VectorEntries}
 use Rattle.vectors.proofs.Showing.{least_ext}
 use Rattle.tried.specs.Tried.{first, listed}
@@ -25,17 +25,7 @@ use Rattle.solved.specs.Solved.{solved}
 use Rattle.solved.specs.Stopped.{stopped_at, Stopped, start_range, solved_of}
 use Rattle.solved.proofs.SolvedVector.{stopped-vector}
 
--- ---- whether a vector shows it
-module _ (n : ℕ) (L U : Matrix) (x : ℕ → ℤ) where
-  pub shows_zero : nonzero n x ≡ false → false ≡ shows n L U x
-  unfolding shows
-  shows_zero e = rw e
-
-  pub shows_value : nonzero n x ≡ true → le_z (least_value n L U x) (pos 0) ≡ shows n L U x
-  unfolding shows
-  shows_value e = rw e
-
--- it rests on the first n entries
+-- ---- whether a vector shows it rests on its first n entries
 module _ (n : ℕ) (L U : Matrix) (x y : ℕ → ℤ) (h : (i : ℕ) → i < n → x i ≡ y i) where
   zero_ext : (m : ℕ) → m ≤ n → all m (λ i. same (x i) (pos 0)) ≡ all m (λ i. same (y i) (pos 0))
   unfolding all

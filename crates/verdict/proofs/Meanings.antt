@@ -79,13 +79,16 @@ module _ (n : ℤ) (sized : Bool) (l u : List ℤ) (b : Behind n sized true l u)
       let same = at_table k R in
       let shape = shape_ext k (at k (table k R)) R same ∙ true_of _ (ends_shape_take_off k (order_small n) L U bounds t) in
       sym (behind-entered n true true l u Err _ open_door) ∙ sym (after-passed Err _ (first_passes _ _ shape ∙ first-none))
-      ∙ ap₂ (λ b v. Ok (tested b v)) (accepts_ext k (at k (table k R)) R L U same ∙ true_of _ (ends-accepted-take_off k (order_small n) L U bounds t)) (over_ext k (at k (table k R)) R L U same)
+      ∙ ap₂ (λ b v. Ok (tested b v))
+      (accepts_ext k (at k (table k R)) R L U same ∙ true_of _ (ends-accepted-take_off k (order_small n) L U bounds t))
+      (over_ext k (at k (table k R)) R L U same)
 
   -- the vector test says yes of a vector in its range that shows it
   vector-confirmed : (x : List ℤ) → Small k vector_range x → shows k L U (nth x) ≡ true → vector_tested n true l u x ≡ Ok true
   unfolding vector_tested vector_answer vector_shape shows
   vector-confirmed x z e =
-      let shape = and_of (and_left (nonzero k (nth x)) _ e) (all_of (λ i. within vector_range (nth x i)) k (λ i h. within_true (z.small i))) in
+      let small = all_of (λ i. within vector_range (nth x i)) k (λ i h. within_true (z.small i)) in
+      let shape = and_of (and_left (nonzero k (nth x)) _ e) small in
       sym (behind-entered n true true l u Err _ open_door) ∙ sym (after-passed Err _ (first_passes _ _ shape ∙ first-none)) ∙ ap Ok e
 
   abbrev Means : Judgement → List ℤ → List ℤ → Type 0
@@ -112,7 +115,8 @@ module _ (n : ℤ) (sized : Bool) (l u : List ℤ) (b : Behind n sized true l u)
           margin = λ a m. record { over = over k R L U; verdict = refl };
         }
 
-    stops-means : (factored k L U).ends ≡ false → (q : Option (List ℤ)) → Picks (λ x. shows k L U (nth x)) (listed k L U) q → Fitting k (shown_by q) → Means (shown_by q) f v
+    stops-means : (factored k L U).ends ≡ false → (q : Option (List ℤ)) → Picks (λ x. shows k L U (nth x)) (listed k L U) q →
+        Fitting k (shown_by q) → Means (shown_by q) f v
     stops-means s (some x) h z = record {
       definite = λ w e. absurd (false≢true cc);
       accepted = λ w e. absurd (false≢true cc);
@@ -141,7 +145,8 @@ module _ (n : ℤ) (sized : Bool) (l u : List ℤ) (b : Behind n sized true l u)
         cases (factored k L U).ends
         (λ e. subst (λ (g : Judgement). Means g f v) (sym (judged-ends k L U e)) (ends-means (of_true e)))
         (λ e. subst (λ (g : Judgement). Means g f v) (sym (judged_stops k L U e))
-        (stops-means e (first (λ x. shows k L U (nth x)) (listed k L U)) (first_picks (λ x. shows k L U (nth x)) (listed k L U)) (stops_fitting k (order_small n) L U bounds e)))
+        (stops-means e (first (λ x. shows k L U (nth x)) (listed k L U)) (first_picks (λ x. shows k L U (nth x)) (listed k L U))
+        (stops_fitting k (order_small n) L U bounds e)))
 
 -- ---- of any call at all
 refused-means : (n : ℤ) (l u f v : List ℤ) (r : Refusal) → Meaning n l u (Err r) f v
@@ -157,7 +162,8 @@ refused-means n l u f v r = record {
   margin = λ a m. absurd (a r refl);
 }
 
-pub judging-means : (n : ℤ) (sized : Bool) (l u f v : List ℤ) → (let j = written (judging n sized l u) f v in Meaning n l u j.verdict j.factor j.vector)
+pub judging-means : (n : ℤ) (sized : Bool) (l u f v : List ℤ) →
+    (let j = written (judging n sized l u) f v in Meaning n l u j.verdict j.factor j.vector)
 unfolding judging
 judging-means n sized l u f v =
     entered-means n sized true l u refused _ (λ (g : Judgement). let j = written g f v in Meaning n l u j.verdict j.factor j.vector)

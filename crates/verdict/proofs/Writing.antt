@@ -20,7 +20,8 @@ use Rattle.verdict.specs.FactorTable.{Written}
 entries_past : (t : List ℤ) (n i j : ℕ) → j < i → j < n → entries (columns_of t n) i j ≡ pos 0
 unfolding entries columns_of
 entries_past t n i j k h =
-    ap (λ (c : List ℤ). nth c i) (get_d_tabulate n _ [] j h) ∙ nth_past (column_of t j (suc j)) i (omega (arith, length-column_of t j (suc j)))
+    ap (λ (c : List ℤ). nth c i) (get_d_tabulate n _ [] j h)
+    ∙ nth_past (column_of t j (suc j)) i (omega (arith, length-column_of t j (suc j)))
 
 -- they are those that factoring left in the table's columns
 pub triangle-entries : (t : List ℤ) (n i j : ℕ) → j < n → triangle t i j ≡ entries (columns_of t n) i j
@@ -33,11 +34,14 @@ module _ {n : ℕ} {M : Matrix} {f : List ℤ} where
   pub written_none : Written n M f 0
   written_none = record { entries = λ i j h k. absurd (omega arith) }
 
-  pub written-more : (i j : ℕ) → j < n → i * n + j < length f → Written n M f (i * n + j) → Written n M (set f (i * n + j) (M i j)) (suc (i * n + j))
+  pub written-more : (i j : ℕ) → j < n → i * n + j < length f → Written n M f (i * n + j) →
+      Written n M (set f (i * n + j) (M i j)) (suc (i * n + j))
   unfolding at
   written-more i j h l w = record {
     entries = λ a b k m.
         by_cases (ℕ_discrete (a * n + b) (i * n + j))
-        (λ e. rw e (get_or-set_same f (i * n + j) (M i j) (pos 0) l) ∙ ap₂ M (sym (same_row i j a b h k e)) (sym (same_column i j a b h k e)))
+        (λ e.
+        rw e (get_or-set_same f (i * n + j) (M i j) (pos 0) l)
+        ∙ ap₂ M (sym (same_row i j a b h k e)) (sym (same_column i j a b h k e)))
         (λ d. get_or-set_other f (i * n + j) (a * n + b) (M i j) (pos 0) d ∙ w.entries a b k (omega arith));
   }

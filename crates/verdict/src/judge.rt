@@ -47,6 +47,7 @@ pub enum Decision {
 }
 
 // The decision after a factoring that stopped, by the listed vector that shows 'not definite', if one was found.
+#[tactic(auto, unfolding(crate::specs::Deciding::shown_decision))]
 fn shown(found: Option<Vector>) -> Decision
     ensures { result ≡ shown_decision found }
 {
@@ -109,6 +110,7 @@ fn judge_bounds(
 }
 
 // Whether the buffers of a call have their sizes: that of a table, or that of a vector.
+#[tactic(auto, unfolding(crate::specs::Judge::judge_sizes))]
 pub fn sizes_ok(
     table: usize,
     entries: usize,

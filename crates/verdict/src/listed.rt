@@ -17,6 +17,7 @@ use vectors::least::least_value;
 use vectors::vector_test::nonzero;
 
 // Whether x shows 'not definite'.
+#[tactic(auto, unfolding(vectors::specs::Least::shows))]
 fn shows(bounds: Bounded, x: &Vector) -> bool
     requires { VectorEntries bounds.order x.now }
     ensures { result ≡ shows bounds.entry.order (low_of bounds.entry) (high_of bounds.entry) (nth x.now) }

@@ -11,7 +11,11 @@ over-requires c =
     let w = c.write_factor in
     let p = c.requires in (
       record {
-        factor = record { order = p.0.order; size = omega (arith, p.4, w.auto.factor); shape = factor_shaped _ _ _ _ _ p.3 w.ensures p.0.order p.0.bounds };
+        factor = record {
+          order = p.0.order;
+          size = omega (arith, p.4, w.auto.factor);
+          shape = factor_shaped _ _ _ _ _ p.3 w.ensures p.0.order p.0.bounds;
+        };
         rooms = p.1;
         tables = p.0;
       },

@@ -30,7 +30,7 @@ pub returns-in-Ok : goal.returns-in-Ok
 unfolding stated left_by
 returns-in-Ok c =
     record {
-      verdict = rw (clean_element c.certify.result c.certify.type_inv) c.certify.ensures;
+      verdict = rw (← clean_element c.certify.result c.certify.type_inv) at c.certify.ensures;
       left = refl;
       room = c.certify.auto.factor;
     }

@@ -7,7 +7,8 @@ use Rattle.integers.proofs.Machine.{clean}
 use Rattle.tables.specs.Checks.{order_of}
 use Rattle.tables.specs.Entering.{Entered}
 use Rattle.tables.proofs.Answers.{exactly, handed_on}
-use Rattle.tables.proofs.Admission.{order_fits, order-positive, no-order, order-passed, order-refused, came-through, entered-refused, entered-passed}
+use Rattle.tables.proofs.Admission.{order_fits, order-positive, no-order, order-passed, order-refused}
+use Rattle.tables.proofs.Admission.{came-through, entered-refused, entered-passed}
 use Rattle.verdict.specs.Judge.{Judgement, refused, Judged, written, judge_sizes, judging, judge, Meaning}
 use Rattle.verdict.proofs.Decisions.{judge-sizes-of}
 use Rattle.verdict.proofs.Meanings.{judging-means}
@@ -21,7 +22,8 @@ sized c = rw (order-passed c.ranges.n c.in_ok-m.ensures).0 at c.sizes_ok-sized.e
 
 -- the door, with what it found
 came : (c : After-enter) → let a = c.args in let k = order_of a.n in
-    Entered a.n (judge_sizes (k * k) k (length a.low.now) (length a.high.now) (length a.factor.now) (length a.vector.now)) true a.low.now a.high.now
+    Entered a.n (judge_sizes (k * k) k (length a.low.now) (length a.high.now) (length a.factor.now) (length a.vector.now)) true
+    a.low.now a.high.now
     c.enter.result c.enter.new.l c.enter.new.u
 came c = rw (clean c.ranges.n, c.sizes_ok-sized.ensures, (order-passed c.ranges.n c.in_ok-m.ensures).0) at c.enter.ensures
 
@@ -31,7 +33,10 @@ given s g = written g s.args.factor.now s.args.vector.now
 
 -- what an answer means
 means : (s : Start) → let a = s.args in (j : Judged) → j ≡ judge a.n a.low.now a.high.now a.factor.now a.vector.now →
-    record { exact : j ≡ judge a.n a.low.now a.high.now a.factor.now a.vector.now; meaning : Meaning a.n a.low.now a.high.now j.verdict j.factor j.vector }
+    record {
+      exact : j ≡ judge a.n a.low.now a.high.now a.factor.now a.vector.now;
+      meaning : Meaning a.n a.low.now a.high.now j.verdict j.factor j.vector;
+    }
 unfolding judge
 means s =
     let a = s.args in
@@ -50,14 +55,16 @@ overflow_mul-m c = record { fits = omega (arith, order_fits _ (order-passed c.ra
 
 pub enter-requires : goal.enter-requires
 enter-requires c =
-    ((λ s. rw (clean c.ranges.n) (let z = judge-sizes-of _ _ _ _ _ _ (sym (sized (goal.at.enter-requires c).After-sizes_ok-sized) ∙ s) in (z.0, z.1))), refl, refl)
+    let e = sym (sized (goal.at.enter-requires c).After-sizes_ok-sized) in
+    ((λ s. rw (clean c.ranges.n) (let z = judge-sizes-of _ _ _ _ _ _ (e ∙ s) in (z.0, z.1))), refl, refl)
 
 pub returns-in_err-enter : goal.returns-in_err-enter
 unfolding judge judging
 returns-in_err-enter c =
     let d = came (goal.at.returns-in_err-enter c).After-enter in
     let s = (goal.at.returns-in_err-enter c).Start in
-    means s _ (rw (handed_on c.from_residual-in_err-enter.ensures.1) (ap (given s) (entered-refused _ _ _ _ _ refused _ d c.in_err-enter.was)))
+    means s _
+    (rw (handed_on c.from_residual-in_err-enter.ensures.1) (ap (given s) (entered-refused _ _ _ _ _ refused _ d c.in_err-enter.was)))
 
 pub judge_bounds-requires : goal.judge_bounds-requires
 judge_bounds-requires c =
@@ -75,4 +82,5 @@ returns c =
     let h = d.held q in
     let s = (goal.at.returns c).Start in
     means s _
-    ((rw ((order-passed c.ranges.n c.in_ok-m.ensures).0, h.low, h.high) at c.judge_bounds.ensures) ∙ ap (given s) (entered-passed _ _ _ _ _ refused _ d q))
+    ((rw ((order-passed c.ranges.n c.in_ok-m.ensures).0, h.low, h.high) at c.judge_bounds.ensures)
+    ∙ ap (given s) (entered-passed _ _ _ _ _ refused _ d q))
