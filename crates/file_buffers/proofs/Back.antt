@@ -27,7 +27,8 @@ use Rattle.file_buffers.specs.Parts.{parts_of, spelled, problem_in}
 wide : {z : ℤ} → SFits w32 z → SFits w64 z
 wide f = record { sfits = omega (arith, f.sfits) }
 
-problem_by : {n : ℕ} {l u a b c l' u' a' b' c' : List ℤ} {α α' : ℤ} → l ≡ l' → u ≡ u' → a ≡ a' → b ≡ b' → α ≡ α' → c ≡ c' → problem_of n l u a b α c ≡ problem_of n l' u' a' b' α' c'
+problem_by : {n : ℕ} {l u a b c l' u' a' b' c' : List ℤ} {α α' : ℤ} → l ≡ l' → u ≡ u' → a ≡ a' → b ≡ b' → α ≡ α' → c ≡ c' →
+    problem_of n l u a b α c ≡ problem_of n l' u' a' b' α' c'
 problem_by d e f g h i = rw (d, e, f, g, h, i)
 
 module _ (p : Problem) (t : LetThrough p) where
@@ -44,7 +45,8 @@ module _ (p : Problem) (t : LetThrough p) where
   in_fields = fields_of_lem p t.checks
 
   -- one of its arrays, at the front of a buffer, whatever is behind it
-  table-read : (x : List ℤ) → n * n ≤ length x → ((i : ℕ) → i < n * n → SFits w32 (nth x i)) → padded_to table_room (n * n) x ≡ x → (r : List ℕ) →
+  table-read : (x : List ℤ) → n * n ≤ length x → ((i : ℕ) → i < n * n → SFits w32 (nth x i)) → padded_to table_room (n * n) x ≡ x →
+      (r : List ℕ) →
       padded_numbers_of w64 table_room (bytes_of w64 x (n * n) ++ r) (n * n) ≡ x
   table-read x h f e r = front_read (narrow-of 8) x (n * n) h (λ i l. wide (f i l)) table_room r ∙ e
 

@@ -1,4 +1,5 @@
--- Files read into buffers and written from them: what the rules give, beside what was worked out apart from them. Two lists, each with one proof.
+-- Files read into buffers and written from them: what the rules give, beside what was worked out apart
+-- from them. Two lists, each with one proof.
 use mathlib.Core.Path.{◌≡◌, refl}
 use mathlib.Core.List.{List, [], ◌∷◌, ◌++◌, map}
 use Prim.Native.Nat.{ℕ, ◌-◌}
@@ -11,7 +12,8 @@ use Rattle.tables.specs.Mending.{mended_by}
 use Rattle.tables.specs.Problem.{constraint_sized, constraint_entered}
 use Rattle.tables.specs.Answers.{after}
 use Rattle.tables.specs.Entering.{entered}
-use Rattle.tables.specs.Checks.{all, first_refusal, order_ok, order_of, sizes_ok, within, all_within, nowhere_crossed, tables_within, linear_within, terms_within, entry_checks, bounds_checks, ends_checks}
+use Rattle.tables.specs.Checks.{all, first_refusal, order_ok, order_of, sizes_ok, within, all_within, nowhere_crossed, tables_within}
+use Rattle.tables.specs.Checks.{linear_within, terms_within, entry_checks, bounds_checks, ends_checks}
 use Rattle.tables.specs.declared.Refusal.{Refusal}
 use Rattle.tables.specs.declared.Refusal.TheVariants.{Order, Length, Crossed, Lopsided, Reversed, Tag}
 use Rattle.std.specs.Prelude.{Ok, Err}
@@ -78,7 +80,9 @@ abbrev after_P : ℕ → Handed
 after_P b =
     record {
       answer = Ok tt;
-      parts = parts (long 1) (alone 512 (long 4)) (alone 512 (long 4)) (alone 64 (minus 0xf8)) (alone 64 (minus b)) (long 0) (alone 64 (long 2));
+      parts =
+          parts (long 1) (alone 512 (long 4)) (alone 512 (long 4)) (alone 64 (minus 0xf8)) (alone 64 (minus b)) (long 0)
+          (alone 64 (long 2));
     }
 
 -- what order 2 leaves
@@ -135,10 +139,15 @@ abbrev refused_by : Refusal → ℕ → Written
 refused_by r k = kept (replicate k 170) r
 
 written_as_worked_out :
-    writes (pos 1) 4 0xf8 62 ∷ writes (pos 0) 4 0xf8 62 ∷ writes (pos 1) 5 0xf7 61 ∷ writes (pos 1) 5 0xf7 62 ∷ writes (pos 1) 4 0xf7 62 ∷ writes_two 0 ∷ writes_two 3 ∷ []
-    ≡ record { answer = Ok tt; file = file_p 4 0xf8 } ∷ refused_by Order 62 ∷ refused_by Length 61 ∷ refused_by Crossed 62 ∷ refused_by Reversed 62
+    writes (pos 1) 4 0xf8 62 ∷ writes (pos 0) 4 0xf8 62 ∷ writes (pos 1) 5 0xf7 61 ∷ writes (pos 1) 5 0xf7 62 ∷ writes
+    (pos 1) 4 0xf7 62 ∷ writes_two 0 ∷ writes_two 3 ∷ []
+    ≡ record {
+      answer = Ok tt;
+      file = file_p 4 0xf8;
+    } ∷ refused_by Order 62 ∷ refused_by Length 61 ∷ refused_by Crossed 62 ∷ refused_by Reversed 62
     ∷ record { answer = Ok tt; file = file_two 1 1 2 2 } ∷ refused_by Lopsided 110 ∷ []
-unfolding write_summary writing write_sizes constraint_sized sizes_ok constraint_entered entered after first_refusal entry_checks bounds_checks ends_checks
+unfolding write_summary writing write_sizes constraint_sized sizes_ok constraint_entered entered after first_refusal entry_checks
+    bounds_checks ends_checks
     all order_ok order_of within all_within nowhere_crossed tables_within linear_within terms_within mended_by table tabulate at min_ℤ max_ℤ
     file_of whole_file bytes_of_entries entry_bytes bytes_of to_le_bytes unsigned_at from_le_bytes signed_at numbers_of padded_numbers_of
 written_as_worked_out = refl

@@ -1,4 +1,5 @@
--- Laws of the problem that buffers spell, and of the file of the mended one: what is written is read back, number by number and byte by byte.
+-- Laws of the problem that buffers spell, and of the file of the mended one: what is written is
+-- read back, number by number and byte by byte.
 use mathlib.Core.Path.{◌≡◌, refl, sym, ap, ◌∙◌}
 use mathlib.Core.Bool.{Bool, true}
 use mathlib.Core.List.{List, ◌++◌}
@@ -47,7 +48,8 @@ module _ (n : ℤ) (sized : Bool) (p : Problem) (s : List ℕ) (e : p.constraint
   writing-door = problem-door (kept s) n sized p (written p) e
 
   pub writing-passed : order_ok n ≡ true → sized ≡ true → first_refusal (problem_checks p) ≡ Ok tt → writing n sized p s ≡ written p
-  writing-passed o z q = writing-door ∙ sym (after-passed (kept s) (written p) (more-checks (entry_checks n sized) _ (entry-passes n o z) ∙ q))
+  writing-passed o z q =
+      writing-door ∙ sym (after-passed (kept s) (written p) (more-checks (entry_checks n sized) _ (entry-passes n o z) ∙ q))
 
   -- an answer that is no refusal
   pub record Wrote : Type 0 where
@@ -70,7 +72,8 @@ module _ (n : ℤ) (sized : Bool) (p : Problem) (s : List ℕ) (e : p.constraint
             file = ap (λ (w : Written). w.file) (writing-door ∙ sym (after-passed (kept s) (written p) q));
           }
       go (Err r) q =
-          let w : (writing n sized p s).answer ≡ Err r = ap (λ (w : Written). w.answer) (writing-door ∙ sym (after-refused (kept s) r (written p) q)) in
+          let w : (writing n sized p s).answer ≡ Err r =
+          ap (λ (w : Written). w.answer) (writing-door ∙ sym (after-refused (kept s) r (written p) q)) in
           cc (h, w)
 
 -- ---- the problem that buffers spell
@@ -121,12 +124,14 @@ module _ (n : ℕ) (l u a b : List ℕ) (α : ℤ) (c : List ℕ) where
         padded-numbers w64 greatest_order c n,
       )
 
-  spelled-through : order_ok (pos n) ≡ true → first_refusal (problem_checks (spelled n l u a b α c)) ≡ Ok tt → LetThrough (mended_problem (spelled n l u a b α c))
+  spelled-through : order_ok (pos n) ≡ true → first_refusal (problem_checks (spelled n l u a b α c)) ≡ Ok tt →
+      LetThrough (mended_problem (spelled n l u a b α c))
   spelled-through o e = mended-through (spelled n l u a b α c) (spelled_rooms (order-of o).1) o e spelled-zeros
 
 -- ---- as the reader lays it out
 -- numbers that fill a buffer, and zeros behind them
-numbers-filled : (room : ℕ) (t : List ℕ) (k : ℕ) → AllBytes t → length t ≡ k * bytes w64 → in_front room k (padded_numbers_of w64 room t k) ≡ filled room t
+numbers-filled : (room : ℕ) (t : List ℕ) (k : ℕ) → AllBytes t → length t ≡ k * bytes w64 →
+    in_front room k (padded_numbers_of w64 room t k) ≡ filled room t
 unfolding padded_numbers_of
 numbers-filled room t k v h =
     let e : (room - k) * bytes w64 ≡ room * bytes w64 - length t = omega arith in
@@ -137,10 +142,12 @@ module _ (m : ℤ → ℤ → ℤ) (q : Pairing m) (k : ℕ) (t : List ℕ) wher
   abbrev mended : List ℤ
   mended = mended_by m k (table_of k t)
 
-  mended-filled : in_front table_room (k * k) (mended_by m k (padded_numbers_of w64 table_room t (k * k))) ≡ filled table_room (bytes_of w64 mended (k * k))
+  mended-filled : in_front table_room (k * k) (mended_by m k (padded_numbers_of w64 table_room t (k * k))) ≡
+      filled table_room (bytes_of w64 mended (k * k))
   mended-filled =
       let h : k * k ≤ length (table_of k t) = omega (arith, length-numbers_of w64 t (k * k)) in
-      let e : (table_room - k * k) * bytes w64 ≡ table_room * bytes w64 - length (bytes_of w64 mended (k * k)) = omega (arith, length-bytes_of w64 mended (k * k)) in
+      let e : (table_room - k * k) * bytes w64 ≡ table_room * bytes w64 - length (bytes_of w64 mended (k * k)) =
+      omega (arith, length-bytes_of w64 mended (k * k)) in
       rw (
         spelled-padded w64 table_room t (k * k),
         ← padded-mended m q table_room k (table_of k t) h,
@@ -183,7 +190,8 @@ module _ (n : ℤ) (l u a b : List ℕ) (α : ℤ) (c s : List ℕ) where
         let z = write-sizes-of _ _ _ _ _ wrote.sizes in
         parts_by (ap bytes_of_number (ap pos (order-known n wrote.order) ∙ order_pos n (order-of wrote.order).0))
         (mended-filled max_ℤ greater_pairing k l) (mended-filled min_ℤ smaller_pairing k u)
-        (numbers-filled greatest_order a k va z.linear_low) (numbers-filled greatest_order b k vb z.linear_high) refl (numbers-filled greatest_order c k vc z.centre)
+        (numbers-filled greatest_order a k va z.linear_low) (numbers-filled greatest_order b k vb z.linear_high) refl
+        (numbers-filled greatest_order c k vc z.centre)
 
   -- ---- R24.5: where n is an order and the buffers have their sizes, the problem is refused by the number that its file would get
   module _ (o : order_ok n ≡ true) (z : sized ≡ true) where
@@ -193,8 +201,10 @@ module _ (n : ℤ) (l u a b : List ℕ) (α : ℤ) (c s : List ℕ) where
         sym (writing-sized n sized problem s o z refl) ∙ ap (λ (p : Problem). checked_writing p s) (spelled-listed k l u a b α c)
         ∙ writing-padded (listed k l u a b α c) s (listed-sized k l u a b α c) ∙ writing-sized n sized (listed k l u a b α c) s o z refl
 
-    pub refused_as_file : InFields (listed k l u a b α c) → (write_summary n l u a b α c s).answer ≡ checked_of (reading (file_of (listed k l u a b α c)))
-    refused_as_file f = ap (λ (w : Written). w.answer) as-listed ∙ same_refusal n sized (listed k l u a b α c) s o z refl (listed-sized k l u a b α c) f
+    pub refused_as_file : InFields (listed k l u a b α c) →
+        (write_summary n l u a b α c s).answer ≡ checked_of (reading (file_of (listed k l u a b α c)))
+    refused_as_file f =
+        ap (λ (w : Written). w.answer) as-listed ∙ same_refusal n sized (listed k l u a b α c) s o z refl (listed-sized k l u a b α c) f
 
     -- and by 3 where a number does not fit its field
     pub refused_too_large : (InFields (listed k l u a b α c) → ⊥) → (write_summary n l u a b α c s).answer ≡ Err Range

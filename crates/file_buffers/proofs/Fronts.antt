@@ -21,7 +21,8 @@ unfolding to_le_bytes
 zero_bytes = refl
 
 -- m zeros behind k numbers
-zeros-behind : (x : List ℤ) (k m : ℕ) → ((i : ℕ) → k ≤ i → nth x i ≡ pos 0) → bytes_of w64 x (k + m) ≡ bytes_of w64 x k ++ replicate (m * bytes w64) 0
+zeros-behind : (x : List ℤ) (k m : ℕ) → ((i : ℕ) → k ≤ i → nth x i ≡ pos 0) →
+    bytes_of w64 x (k + m) ≡ bytes_of w64 x k ++ replicate (m * bytes w64) 0
 unfolding bytes_of
 zeros-behind x k zero z =
     let e : k + 0 ≡ k = omega arith in
@@ -30,7 +31,14 @@ zeros-behind x k (suc m) z =
     let e : k + suc m ≡ suc (k + m) = omega arith in
     let f : suc m * bytes w64 ≡ m * bytes w64 + bytes w64 = omega arith in
     ap (bytes_of w64 x) e
-    ∙ rw (zeros-behind x k m z, z (k + m) (omega arith), zero_bytes, append_assoc (bytes_of w64 x k), replicate-append-replicate {A = ℕ} (m * bytes w64) (bytes w64) 0, f)
+    ∙ rw (
+      zeros-behind x k m z,
+      z (k + m) (omega arith),
+      zero_bytes,
+      append_assoc (bytes_of w64 x k),
+      replicate-append-replicate {A = ℕ} (m * bytes w64) (bytes w64) 0,
+      f,
+    )
 
 -- an array with zeros behind its first k numbers
 module _ (room k : ℕ) (x : List ℤ) (h : k ≤ length x) (e : padded_to room k x ≡ x) where

@@ -13,8 +13,6 @@ use Rattle.std.specs.Prelude.{Ok, Err}
 use Rattle.words.specs.Numbers.{bytes_of}
 use Rattle.tables.specs.Ranges.{greatest_order, table_room}
 use Rattle.tables.specs.Problem.{lengths_of, constraint_sized}
-use Rattle.tables.specs.declared.Refusal.{Refusal}
-use Rattle.tables.specs.declared.Refusal.TheVariants.{Length}
 use Rattle.tables.specs.declared.problem.Problem.{Problem}
 use Rattle.tables.specs.declared.problem.Lengths.{Lengths}
 use Rattle.tables.proofs.Matrix.{table_fits}
@@ -33,7 +31,8 @@ abbrev pub stored : Problem → Parts
 stored p =
     let c = p.constraint in
     parts (bytes_of_number (pos c.order)) (bytes_of w64 c.low table_room) (bytes_of w64 c.high table_room)
-    (bytes_of w64 c.linear.low greatest_order) (bytes_of w64 c.linear.high greatest_order) (bytes_of_number c.limit) (bytes_of w64 p.centre greatest_order)
+    (bytes_of w64 c.linear.low greatest_order) (bytes_of w64 c.linear.high greatest_order) (bytes_of_number c.limit)
+    (bytes_of w64 p.centre greatest_order)
 
 -- buffers of equal parts
 pub parts_by : {n l u a b α c n' l' u' a' b' α' c' : List ℕ} → n ≡ n' → l ≡ l' → u ≡ u' → a ≡ a' → b ≡ b' → α ≡ α' → c ≡ c' →
@@ -58,24 +57,17 @@ stored-parts p t =
     (padded_bytes greatest_order n p.centre w.centre (ap (λ (q : Problem). q.centre) z) h)
 
 -- ---- the cases of a call
-module _ (s : List ℕ) (b : Parts) where
-  pub handing_sized : parts_roomy b ≡ false → record { answer = Err Length; parts = b } ≡ read_summary s b
-  unfolding read_summary
-  handing_sized e = rw (e, read_summary)
+module _ (s : List ℕ) (b : Parts) (z : parts_roomy b ≡ true) where
+  pub handing_read : (p : Problem) → reading s ≡ Ok p → read_summary s b ≡ record { answer = Ok tt; parts = parts_of p }
+  unfolding read_summary handed
+  handing_read p e = rw (z, read_summary) (ap (λ (r : Reading). handed r b) e)
 
-  module _ (z : parts_roomy b ≡ true) where
-    pub handing_refused : (r : Refusal) → Err r ≡ reading s → record { answer = Err r; parts = b } ≡ read_summary s b
-    unfolding read_summary handed
-    handing_refused r e = rw (z, read_summary, ← e, handed)
-
-    pub handing_read : (p : Problem) → reading s ≡ Ok p → read_summary s b ≡ record { answer = Ok tt; parts = parts_of p }
-    unfolding read_summary handed
-    handing_read p e = rw (z, read_summary) (ap (λ (r : Reading). handed r b) e)
-
-    -- buffers that were written from what was read
-    pub handing_written : {p : Problem} {d : Parts} → Ok p ≡ reading s → d ≡ stored p → record { answer = Ok tt; parts = d } ≡ read_summary s b
-    handing_written {p} {d} e g =
-        ap (λ (x : Parts). record { answer = Ok tt; parts = x }) (g ∙ stored-parts p (reading-through s (sym e))) ∙ sym (handing_read p (sym e))
+  -- buffers that were written from what was read
+  pub handing_written : {p : Problem} {d : Parts} → Ok p ≡ reading s → d ≡ stored p →
+      record { answer = Ok tt; parts = d } ≡ read_summary s b
+  handing_written {p} {d} e g =
+      ap (λ (x : Parts). record { answer = Ok tt; parts = x }) (g ∙ stored-parts p (reading-through s (sym e)))
+      ∙ sym (handing_read p (sym e))
 
 -- a call that is not refused: the file is accepted, and its problem is stored
 pub record Stored (s : List ℕ) (d : Parts) : Type 0 where

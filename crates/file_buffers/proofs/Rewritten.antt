@@ -31,11 +31,14 @@ front_bytes : (room k : ℕ) (x : List ℤ) → front k (in_front room k x) ≡ 
 front_bytes room k x = take_at (bytes_of w64 x k) (replicate ((room - k) * bytes w64) 0) (k * bytes w64) (length-bytes_of w64 x k)
 
 -- ---- buffers of their sizes
-module _ (n : ℕ) (l u a b c s : List ℕ) (hl : length l ≡ n * n * bytes w64) (hu : length u ≡ n * n * bytes w64) (ha : length a ≡ n * bytes w64) (hb : length b ≡ n * bytes w64)
+module _ (n : ℕ) (l u a b c s : List ℕ) (hl : length l ≡ n * n * bytes w64) (hu : length u ≡ n * n * bytes w64)
+    (ha : length a ≡ n * bytes w64) (hb : length b ≡ n * bytes w64)
     (hc : length c ≡ n * bytes w64) (hs : length s ≡ file_size n) where
   sizes-asked : write_buffers n (lengths_of (length l) (length u) (length a) (length b)) (length c) (length s) ≡ true
   unfolding write_sizes constraint_sized sizes_ok
-  sizes-asked = and_of (and_of (and_of (eq-eqb _ _ hl) (and_of (eq-eqb _ _ hu) (eq-eqb _ _ ha))) (eq-eqb _ _ hb)) (and_of (eq-eqb _ _ hc) (eq-eqb _ _ hs))
+  sizes-asked =
+      and_of (and_of (and_of (eq-eqb _ _ hl) (and_of (eq-eqb _ _ hu) (eq-eqb _ _ ha))) (eq-eqb _ _ hb))
+      (and_of (eq-eqb _ _ hc) (eq-eqb _ _ hs))
 
 module _ (problem : Problem) (t : LetThrough problem) (f : List ℕ) (h : length f ≡ file_size problem.constraint.order) where
   abbrev order : ℕ
@@ -62,25 +65,29 @@ module _ (problem : Problem) (t : LetThrough problem) (f : List ℕ) (h : length
 
   spelled_again : spelled order low high from to limit centre ≡ problem
   unfolding parts_of
-  spelled_again = rw (append-nil low, append-nil high, append-nil from, append-nil to, append-nil centre) at (problem-spelled problem t [] [] [] [] [])
+  spelled_again =
+      rw (append-nil low, append-nil high, append-nil from, append-nil to, append-nil centre) at (problem-spelled problem t [] [] [] [] [])
 
   known : order_of (pos order) ≡ order
   known = order-known (pos order) t.order
 
   sizes : write_buffers order (lengths_of (length low) (length high) (length from) (length to)) (length centre) (length f) ≡ true
   sizes =
-      sizes-asked order low high from to centre f (length-bytes_of w64 _ _) (length-bytes_of w64 _ _) (length-bytes_of w64 _ _) (length-bytes_of w64 _ _) (length-bytes_of w64 _ _) h
+      sizes-asked order low high from to centre f (length-bytes_of w64 _ _) (length-bytes_of w64 _ _) (length-bytes_of w64 _ _)
+      (length-bytes_of w64 _ _) (length-bytes_of w64 _ _) h
 
   writes : write_summary (pos order) low high from to limit centre f ≡ record { answer = Ok tt; file = file_of problem }
   unfolding write_summary
   writes =
       rw (known, spelled_again)
-      (writing-passed (pos order) _ problem f (sym known) t.order sizes t.checks ∙ ap (λ (p : Problem). record { answer = Ok tt; file = file_of p }) t.mended)
+      (writing-passed (pos order) _ problem f (sym known) t.order sizes t.checks
+      ∙ ap (λ (p : Problem). record { answer = Ok tt; file = file_of p }) t.mended)
 
   pub rewritten :
       let d = parts_of problem in
       let k = order_in d in
-      write_summary (number_of d.order) (front (k * k) d.low) (front (k * k) d.high) (front k d.from) (front k d.to) (number_of d.limit) (front k d.centre) f
+      write_summary (number_of d.order) (front (k * k) d.low) (front (k * k) d.high) (front k d.from) (front k d.to) (number_of d.limit)
+      (front k d.centre) f
       ≡ record { answer = Ok tt; file = file_of problem }
   unfolding parts_of
   rewritten =

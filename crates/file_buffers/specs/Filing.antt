@@ -43,5 +43,6 @@ mended_high_bytes k u = bytes_of w64 (mended_high k (table_of k u)) (k * k)
 abbrev pub laid_out : ℤ → List ℕ → List ℕ → List ℕ → List ℕ → ℤ → List ℕ → Parts
 laid_out n l u a b α c =
     let k = order_of n in
-    parts (bytes_of_number n) (filled table_room (mended_low_bytes k l)) (filled table_room (mended_high_bytes k u)) (filled greatest_order a)
+    parts (bytes_of_number n) (filled table_room (mended_low_bytes k l)) (filled table_room (mended_high_bytes k u))
+    (filled greatest_order a)
     (filled greatest_order b) (bytes_of_number α) (filled greatest_order c)

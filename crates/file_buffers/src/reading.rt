@@ -8,6 +8,7 @@ use tables::{GREATEST_ORDER, Refusal, TABLE_ROOM};
 use words::SIZE;
 
 // 2: whether the buffers have their sizes: tables and vectors that of the greatest order, order and limit that of one number.
+#[tactic(auto, unfolding(crate::specs::Parts::roomy))]
 fn parts_roomy(order: usize, lengths: Lengths, limit: usize, centre: usize) -> bool
     ensures { result ≡ roomy order lengths limit centre }
 {
@@ -21,6 +22,7 @@ fn parts_roomy(order: usize, lengths: Lengths, limit: usize, centre: usize) -> b
 
 // Reads a file of any bytes at all, and stores its problem: the order, the mended bounds, both ends of the linear terms, the limit and the
 // centre, each in front of its buffer and zeros behind it. A refusal keeps all seven.
+#[tactic(auto, unfolding(crate::specs::Parts::read_summary, crate::specs::Parts::handed))]
 pub fn read_summary(
     file: &[u8],
     order: &mut [u8],

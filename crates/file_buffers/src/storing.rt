@@ -17,10 +17,8 @@ pub fn store_bounds(constraint: Constraint, low: &mut [u8], high: &mut [u8])
     ensures { (low.new ≡ bytes_of w64 constraint.low table_room)
         × (high.new ≡ bytes_of w64 constraint.high table_room) }
 {
-    let l = constraint.low;
-    let u = constraint.high;
-    store_numbers(&l, low, TABLE_ROOM, SIZE);
-    store_numbers(&u, high, TABLE_ROOM, SIZE);
+    store_numbers(&constraint.low, low, TABLE_ROOM, SIZE);
+    store_numbers(&constraint.high, high, TABLE_ROOM, SIZE);
 }
 
 // Both ends of the linear terms.
@@ -29,10 +27,8 @@ pub fn store_linear(linear: Linear, from: &mut [u8], to: &mut [u8])
     ensures { (from.new ≡ bytes_of w64 linear.low greatest_order)
         × (to.new ≡ bytes_of w64 linear.high greatest_order) }
 {
-    let a = linear.low;
-    let b = linear.high;
-    store_numbers(&a, from, GREATEST_ORDER, SIZE);
-    store_numbers(&b, to, GREATEST_ORDER, SIZE);
+    store_numbers(&linear.low, from, GREATEST_ORDER, SIZE);
+    store_numbers(&linear.high, to, GREATEST_ORDER, SIZE);
 }
 
 // The order, the limit and the centre.
@@ -44,8 +40,7 @@ pub fn store_others(problem: Problem, order: &mut [u8], limit: &mut [u8], centre
         × (centre.new ≡ bytes_of w64 problem.centre greatest_order) }
 {
     let constraint = problem.constraint;
-    let c = problem.centre;
     store_signed(order, 0, SIZE, constraint.order as i64);
     store_signed(limit, 0, SIZE, constraint.limit);
-    store_numbers(&c, centre, GREATEST_ORDER, SIZE);
+    store_numbers(&problem.centre, centre, GREATEST_ORDER, SIZE);
 }

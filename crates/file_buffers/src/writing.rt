@@ -22,7 +22,8 @@ pub fn write_summary(
     centre: &[u8],
     file: &mut [u8],
 ) -> Result<(), Refusal>
-    ensures { ◌≡◌ {A = Written} (record { answer = result; file = file.new }) (write_summary n low.now high.now from.now to.now limit centre.now file.old) }
+    ensures { ◌≡◌ {A = Written} (record { answer = result; file = file.new })
+        (write_summary n low.now high.now from.now to.now limit centre.now file.old) }
 {
     let m = order(n)?;
     let sizes = Sizes {

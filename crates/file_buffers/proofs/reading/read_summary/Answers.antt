@@ -3,10 +3,9 @@ use mir.Syntax.{w64}
 use mir.Val.{bytes}
 use Rattle.tables.specs.Ranges.{greatest_order, table_room}
 use Rattle.tables.specs.declared.problem.Problem.{Problem}
-use Rattle.tables.proofs.Answers.{handed_on}
 use Rattle.summary.specs.Problems.{LetThrough}
 use Rattle.file_buffers.specs.Parts.{Parts, parts, Numbers, parts_roomy}
-use Rattle.file_buffers.proofs.Handing.{roomy_of, handing_sized, parts_by, handing_refused, handing_written}
+use Rattle.file_buffers.proofs.Handing.{roomy_of, parts_by, handing_written}
 use Rattle.file_buffers.proofs.reading.read_summary.Goals as goal
 use Rattle.file_buffers.proofs.reading.read_summary.Goals.{Start, After-parts_roomy}
 
@@ -32,20 +31,11 @@ module _ {p : Problem} (b : Parts) (z : parts_roomy b ≡ true) (t : LetThrough 
       let o = roomy_of b z in
       (record { count = t.rooms.linear_low; size = o.from }, record { count = t.rooms.linear_high; size = o.to })
 
-  others : (p.constraint.order ≤ greatest_order) × (length b.order ≡ bytes w64) × (length b.limit ≡ bytes w64) × Numbers greatest_order p.centre b.centre
+  others : (p.constraint.order ≤ greatest_order) × (length b.order ≡ bytes w64) ×
+      (length b.limit ≡ bytes w64) × Numbers greatest_order p.centre b.centre
   others =
       let o = roomy_of b z in
       (t.rooms.order, o.order, o.limit, record { count = t.rooms.centre; size = o.centre })
-
-pub returns-then-not-parts_roomy : goal.returns-then-not-parts_roomy
-returns-then-not-parts_roomy c =
-    let g = goal.at.returns-then-not-parts_roomy c in
-    handing_sized _ (lent g.Start) (sized g.After-parts_roomy ∙ c.if-not-parts_roomy.true)
-
-pub returns-in_err-problem : goal.returns-in_err-problem
-returns-in_err-problem c =
-    let g = goal.at.returns-in_err-problem c in
-    rw (handed_on c.from_residual.ensures.1) (handing_refused _ (lent g.Start) (sized g.After-parts_roomy ∙ c.if-not-parts_roomy.false) _ c.in_err-problem.ensures.exact)
 
 pub store_bounds-requires : goal.store_bounds-requires
 store_bounds-requires c =
@@ -68,4 +58,5 @@ returns c =
     let o = c.store_others.ensures in
     let l = c.store_linear.ensures in
     let b = c.store_bounds.ensures in
-    handing_written _ (lent g.Start) (sized g.After-parts_roomy ∙ c.if-not-parts_roomy.false) c.in_ok-problem.ensures.exact (parts_by o.0 b.0 b.1 l.0 l.1 o.1 o.2)
+    handing_written _ (lent g.Start) (sized g.After-parts_roomy
+    ∙ c.if-not-parts_roomy.false) c.in_ok-problem.ensures.exact (parts_by o.0 b.0 b.1 l.0 l.1 o.1 o.2)

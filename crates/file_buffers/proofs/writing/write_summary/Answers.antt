@@ -33,7 +33,9 @@ module _ (n : ℤ) (l u a b : List ℕ) (α : ℤ) (c s : List ℕ) where
   abbrev sizes : Bool
   sizes = write_buffers (order_of n) lengths (length c) (length s)
 
-  lent : sizes ≡ true → WriteSized (order_of n) (record { table = order_of n * order_of n * bytes w64; vector = order_of n * bytes w64 }) lengths (length c) (length s)
+  lent : sizes ≡ true →
+      WriteSized (order_of n) (record { table = order_of n * order_of n * bytes w64; vector = order_of n * bytes w64 }) lengths (length c)
+      (length s)
   lent e = write-sizes-of _ _ _ _ _ e
 
   no_order : {k : Refusal} → (k ≡ Order) × (order_of n ≡ 0) → kept s k ≡ write_summary n l u a b α c s
