@@ -66,6 +66,16 @@ and_of h k = rw (h, k)
 pub and_first_false : {a : Bool} (b : Bool) → a ≡ false → (a && b) ≡ false
 and_first_false b h = rw h
 
+-- what `let z = a && b` stands for, by what is known of z either way
+pub and_by : {a b : Bool} (z : Bool) → (z ≡ true → (a ≡ true) × (b ≡ true)) → (z ≡ false → ((a ≡ true) × (b ≡ false)) ⊎ (a ≡ false)) →
+    z ≡ (a && b)
+and_by true f g = let h = f refl in sym (and_of h.0 h.1)
+and_by {a} {b} false f g = go (g refl)
+  where
+    go : ((a ≡ true) × (b ≡ false)) ⊎ (a ≡ false) → false ≡ (a && b)
+    go (inl h) = rw (h.0, h.1) refl
+    go (inr h) = sym (and_first_false b h)
+
 -- what a call found, where the code asks `if !f(..)`
 pub call_false : {r t : Bool} → r ≡ t → not r ≡ true → t ≡ false
 call_false {r} e q = sym e ∙ not-true r q
