@@ -3,21 +3,18 @@ use mathlib.Core.Path.{◌≡◌, sym, ap, ap₂, ◌∙◌, refl}
 use mathlib.Core.Bool.{Bool, true, false}
 use mathlib.Core.List.{List, ◌++◌}
 use Prim.Native.Nat.{ℕ, ◌*◌, ◌/◌, ◌%◌, ◌≤◌, ◌<◌}
-use native.Mathlib.Omega.{arith}
 use borrow.Author.Tests.{eqb-true}
 use lib.Dec.{eqb}
 use lib.IntN.{ℤ, pos}
-use lib.ListN.{length}
-use lib.Seq.{ext_get_or}
 use Rattle.tables.specs.Matrix.{Matrix, at, nth, table, tabulate}
 use Rattle.tables.specs.Ranges.{greatest_order}
 use Rattle.tables.specs.Bounds.{Bounds}
 use Rattle.tables.specs.Checks.{sizes_ok}
 use Rattle.tables.proofs.Checks.{true_of, of_true, and_left, and_right, sizes-of}
-use Rattle.tables.proofs.Matrix.{tabulate_ext, length-tabulate, nth-tabulate, inside, row_inside, column_inside, nth-at}
+use Rattle.tables.proofs.Matrix.{tabulate_ext, inside, row_inside, column_inside, nth-at}
 use Rattle.cholesky.specs.Scale.{scaled}
 use Rattle.cholesky.specs.Factoring.{Factoring, entries, factored}
-use Rattle.std.specs.Prelude.{Ok, is_ok, Option as CodeOption, Some, None}
+use Rattle.std.specs.Prelude.{is_ok, Option as CodeOption, Some, None}
 use Rattle.cholesky.specs.Store.{Stored, triangle, Ends, Stops}
 use Rattle.cholesky.proofs.Columns.{all-columns}
 use Rattle.cholesky.proofs.Store.{outcome_ends}
@@ -31,10 +28,9 @@ use Rattle.solved.specs.Solved.{solved}
 use Rattle.solved.specs.Stopped.{stopped_at}
 use Rattle.solved.proofs.Stops.{stopped-at}
 use Rattle.verdict.specs.FactorTable.{Written}
-use Rattle.verdict.specs.Judge.{Judged, written, Judgement, definite, listed, shown_by, definite_by, judged, judge_sizes}
-use Rattle.verdict.specs.Deciding.{stated, shown_decision, left_by, Decided}
+use Rattle.verdict.specs.Judge.{Judgement, definite, listed, shown_by, definite_by, judged, judge_sizes}
+use Rattle.verdict.specs.Deciding.{stated, shown_decision, Decided}
 use Rattle.verdict.specs.declared.judge.Decision.{Decision}
-use Rattle.verdict.specs.declared.judge.Verdict.{Verdict}
 use Rattle.verdict.proofs.Writing.{triangle-entries}
 
 -- ---- the two cases of the definition
@@ -105,30 +101,6 @@ module _ (n : ℕ) (L U : Matrix) (t f : List ℤ) where
       answered n r ≡ first passes (tried n ++ (solved n (stopped_at t j m) (pos 1) ++ solved n (stopped_at t j m) (pos 64))) →
       {w : Decision} → w ≡ shown_decision r → judged n L U ≡ stated n w f
   decided_shown s r a e = found-is s r a ∙ shown-stated r ∙ ap (λ (w : Decision). stated n w f) (sym e)
-
--- ---- what the act leaves of the lent factor f₀ and vector v, by what the code states
-pub whole : {m : ℕ} {f : List ℤ} → length f ≡ m → f ≡ tabulate m (nth f)
-whole {m} {f} e =
-    ext_get_or (pos 0) f (tabulate m (nth f)) (e ∙ sym (length-tabulate m (nth f)))
-    (λ i h. sym (nth-tabulate m (nth f) i (omega arith)))
-
-module _ {g : Judgement} {n : ℕ} {f₀ f : List ℤ} (v : List ℤ) where
-  pub decided_definite : {w : ℤ} → length f₀ ≡ n * n → Decided g n (Decision.Definite w) f₀ f →
-      ◌≡◌ {A = Judged} (record { verdict = Ok (Verdict.Definite w); factor = f; vector = v }) (written g f₀ v)
-  unfolding stated
-  decided_definite {w} e d =
-      rw d.verdict
-      (ap (λ (t : List ℤ). record { verdict = Ok (Verdict.Definite w); factor = t; vector = v }) (whole (d.room ∙ e)))
-
-  pub decided_not : {x : List ℤ} → Decided g n (Decision.NotDefinite x) f₀ f →
-      ◌≡◌ {A = Judged} (record { verdict = Ok Verdict.NotDefinite; factor = f; vector = tabulate n (nth x) }) (written g f₀ v)
-  unfolding stated left_by
-  decided_not d = rw (d.verdict, d.left) refl
-
-  pub decided_undecided : Decided g n Decision.Undecided f₀ f →
-      ◌≡◌ {A = Judged} (record { verdict = Ok Verdict.Undecided; factor = f; vector = v }) (written g f₀ v)
-  unfolding stated left_by
-  decided_undecided d = rw (d.verdict, d.left) refl
 
 -- ---- what is made of a judgement is made of what the code states
 pub made_of : {A : Type 0} (P : Judgement → A) {g : Judgement} {n : ℕ} {r : Decision} {f₀ f : List ℤ} →

@@ -4,10 +4,13 @@ use mathlib.Core.Logic.{inl}
 use mathlib.Core.Bool.{Bool, true, false, false≢true}
 use mathlib.Core.List.{List}
 use mathlib.Core.Option.{Option, none, some}
-use Prim.Native.Nat.{ℕ}
+use Prim.Native.Nat.{ℕ, ◌*◌, ◌^◌, ◌<◌}
+use native.Mathlib.Omega.{arith}
 use lib.Dec.{T}
 use lib.IntN.{ℤ, pos}
 use borrow.Table.Steps.{cases}
+use Rattle.integers.proofs.Machine.{fits_within}
+use Rattle.tables.specs.Elements.{BuffersWhole}
 use Rattle.tables.specs.Ranges.{vector_range}
 use Rattle.tables.specs.Matrix.{Matrix, at, nth, table}
 use Rattle.tables.specs.Bounds.{Bounds}
@@ -32,11 +35,12 @@ use Rattle.vectors.specs.VectorTest.{vector_shape, vector_answer, vector_tested}
 use Rattle.vectors.proofs.Showing.{shows-witness, shows_not_definite, witness-handed}
 use Rattle.tried.specs.Tried.{first}
 use Rattle.tried.proofs.TriedVectors.{Picks, first_picks}
-use Rattle.verdict.specs.Judge.{Judgement, refused, listed, shown_by, definite_by, judged, judging, written, Meaning}
+use Rattle.verdict.specs.Judge.{Judgement, definite, not_definite, undecided, refused, listed, shown_by, definite_by, judged, judging}
+use Rattle.verdict.specs.Judge.{written, stored, Meaning}
 use Rattle.verdict.specs.declared.judge.Verdict.{Verdict}
 use Rattle.verdict.proofs.Decisions.{judged-ends, judged_stops}
 use Rattle.tables.proofs.Buffers.{Small}
-use Rattle.verdict.proofs.Fitting.{Fitting, stops_fitting}
+use Rattle.verdict.proofs.Fitting.{Fitting, stops_fitting, judging_fitting}
 
 -- the number that goes with a verdict; 0 with others than 'definite'
 unfoldable pub carried : Verdict → ℤ
@@ -168,3 +172,29 @@ unfolding judging
 judging-means n sized l u f v =
     entered-means n sized true l u refused _ (λ (g : Judgement). let j = written g f v in Meaning n l u j.verdict j.factor j.vector)
     (refused-means n l u f v) (λ b. judged-means n sized l u b f v)
+
+-- ---- of buffers: the numbers that are stored are read back
+module _ {A : Type 0} {taken : ℕ → ℕ} {numbers : List A → ℕ → List ℤ} {elements : List ℤ → ℕ → List A}
+    (laws : BuffersWhole taken numbers elements) (n : ℤ) (l u : List ℤ) (f v : List A) where
+  abbrev order : ℕ
+  order = order_of n
+
+  abbrev StoredMeans : Judgement → Type 0
+  StoredMeans g =
+      let j = stored elements order g f v in
+      Meaning n l u j.verdict (numbers j.factor (order * order)) (numbers j.vector order)
+
+  read_back : {m b : ℕ} (x : List ℤ) → Small m b x → b < 2 ^ 63 → numbers (elements x m) m ≡ x
+  read_back {m} x s h = laws.read_back x m s.size (λ i. fits_within (s.small i) h)
+
+  stored-means : (g : Judgement) → Fitting order g →
+      (let j = written g (numbers f (order * order)) (numbers v order) in Meaning n l u j.verdict j.factor j.vector) → StoredMeans g
+  stored-means (definite t w) z m = rw (read_back t z.0 (omega arith)) m
+  stored-means (not_definite x) z m = rw (read_back x z (omega arith)) m
+  stored-means undecided z m = m
+  stored-means (refused r) z m = m
+
+  pub act-means : (sized : Bool) → StoredMeans (judging n sized l u)
+  act-means sized =
+      stored-means (judging n sized l u) (judging_fitting n sized l u)
+      (judging-means n sized l u (numbers f (order * order)) (numbers v order))

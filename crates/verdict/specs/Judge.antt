@@ -50,28 +50,45 @@ judged n L U =
 unfoldable pub judging : ℤ → Bool → List ℤ → List ℤ → Judgement
 judging n sized l u = let k : ℕ = order_of n in entered refused n sized true l u (judged k (low_bounds k l) (high_bounds k u))
 
--- ---- the act: its verdict, and both buffers as it leaves them
-pub record Judged : Type 0 where
+-- ---- the act: its verdict, and both buffers as it leaves them, each a list of numbers or of the bytes that spell them
+pub record Judged (A : Type 0) : Type 0 where
   pub verdict : Result Verdict Refusal
-  pub factor : List ℤ
-  pub vector : List ℤ
+  pub factor : A
+  pub vector : A
 
--- R11.2 to R11.4: which buffer each verdict writes; a refusal writes neither (D1.3)
-abbrev pub written : Judgement → List ℤ → List ℤ → Judged
-written (definite t w) f v = record { verdict = Ok (Verdict.Definite w); factor = t; vector = v }
-written (not_definite x) f v = record { verdict = Ok Verdict.NotDefinite; factor = f; vector = x }
-written undecided f v = record { verdict = Ok Verdict.Undecided; factor = f; vector = v }
-written (refused r) f v = record { verdict = Err r; factor = f; vector = v }
+-- R11.2 to R11.4: which buffer each verdict writes; a refusal writes neither (D1.3). F lays a table into a buffer, and V a vector.
+abbrev pub laid : {A : Type 0} → (List ℤ → A) → (List ℤ → A) → Judgement → A → A → Judged A
+laid F V (definite t w) f v = record { verdict = Ok (Verdict.Definite w); factor = F t; vector = v }
+laid F V (not_definite x) f v = record { verdict = Ok Verdict.NotDefinite; factor = f; vector = V x }
+laid F V undecided f v = record { verdict = Ok Verdict.Undecided; factor = f; vector = v }
+laid F V (refused r) f v = record { verdict = Err r; factor = f; vector = v }
+
+-- into buffers of numbers
+abbrev pub written : Judgement → List ℤ → List ℤ → Judged (List ℤ)
+written = laid (λ t. t) (λ x. x)
 
 -- 2, R4.2: each lent buffer has the size that belongs to n, that of a table or that of a vector
 unfoldable pub judge_sizes : ℕ → ℕ → ℕ → ℕ → ℕ → ℕ → Bool
 judge_sizes table vector l u f v = sizes_ok table table l u f && eqb v vector
 
--- the judge, of anything at all, and buffers that hold anything
-unfoldable pub judge : ℤ → List ℤ → List ℤ → List ℤ → List ℤ → Judged
-judge n l u f v =
+-- the same of buffers, where `taken` says how many elements so many numbers take
+abbrev pub judge_lengths : {A : Type 0} → (ℕ → ℕ) → ℕ → List A → List A → List A → List A → Bool
+judge_lengths taken n l u f v = judge_sizes (taken (n * n)) (taken n) (length l) (length u) (length f) (length v)
+
+-- into buffers of elements, those of n² numbers and of n
+abbrev pub stored : {A : Type 0} → (List ℤ → ℕ → List A) → ℕ → Judgement → List A → List A → Judged (List A)
+stored elements n = laid (λ t. elements t (n * n)) (λ x. elements x n)
+
+-- the judge of the numbers that buffers hold, where check 2 finds `sized`
+unfoldable pub judge_act : {A : Type 0} → (List A → ℕ → List ℤ) → (List ℤ → ℕ → List A) → ℤ → Bool → List A → List A →
+    List A → List A → Judged (List A)
+judge_act numbers elements n sized l u f v =
     let k : ℕ = order_of n in
-    written (judging n (judge_sizes (k * k) k (length l) (length u) (length f) (length v)) l u) f v
+    stored elements k (judging n sized (numbers l (k * k)) (numbers u (k * k))) f v
+
+-- of numbers themselves: of anything at all, and buffers that hold anything
+unfoldable pub judge : ℤ → List ℤ → List ℤ → List ℤ → List ℤ → Judged (List ℤ)
+judge n l u f v = judge_act (λ x k. x) (λ x k. x) n (judge_lengths (λ k. k) (order_of n) l u f v) l u f v
 
 -- R15.4: the number at the C entry, 0, -1, -2, or the refusal's
 abbrev pub verdict_number : Verdict → ℤ

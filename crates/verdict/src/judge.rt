@@ -1,11 +1,13 @@
 // The judge, R11 of docs/RULES.md.
-ghost use Rattle.std.specs.Prelude.{◌≡◌, ◌*◌, ◌≤◌, ◌<◌, length, Ok};
+ghost use Rattle.std.specs.Prelude.{◌≡◌, ◌&&◌, List, ◌*◌, ◌≤◌, ◌<◌, length, Ok};
 ghost use Rattle.tables.specs.Matrix.{at, nth, tabulate};
+ghost use Rattle.tables.specs.Checks.{order_of};
 ghost use Rattle.tables.specs.Bounds.{CheckedTables};
 ghost use Rattle.tables.specs.Entering.{Rooms};
 ghost use Rattle.cholesky.specs.Factoring.{factored};
 ghost use Rattle.cholesky.specs.Store.{Ends, Stored};
-ghost use Rattle.verdict.specs.Judge.{definite, Judged, judged, judge_sizes, written, judge, verdict_number, Meaning};
+ghost use Rattle.verdict.specs.Judge.{definite, judged, judge_sizes, verdict_number};
+ghost use Rattle.verdict.specs.Judge.{Judged, judge_lengths, stored, judge_act, Meaning};
 ghost use Rattle.verdict.specs.Deciding.{shown_decision, Decided};
 
 use crate::factor_table::write_factor;
@@ -13,6 +15,7 @@ use crate::listed::first_listed;
 use cholesky::problem::factor_tables;
 use residual::factor_test::over;
 use tables::bounded::Bounded;
+use tables::elements::Element;
 use tables::entering::{enter, order};
 use tables::{Answer, Refusal, TABLE_ROOM, Table, Vector};
 
@@ -87,22 +90,26 @@ pub fn decide(n: usize, low: &mut Table, high: &mut Table, factor: &mut [i64]) -
 }
 
 // The verdict on bounds of order n, and the factor or the vector that goes with it, on buffers of the sizes that n calls for.
-fn judge_bounds(
+fn judge_bounds<E: Element>(
     n: usize,
     low: &mut Table,
     high: &mut Table,
-    factor: &mut [i64],
-    vector: &mut [i64],
+    factor: &mut [E],
+    vector: &mut [E],
 ) -> Verdict
-    requires { CheckedTables n low.old high.old × Rooms low.old high.old × (0 < n) × (length factor.old ≡ n * n)
-        × (length vector.old ≡ n) }
-    ensures { ◌≡◌ {A = Judged} (record { verdict = Ok result; factor = factor.new; vector = vector.new })
-        (written (judged n (at n low.old) (at n high.old)) factor.old vector.old) }
+    requires { CheckedTables n low.old high.old × Rooms low.old high.old × (0 < n) × (length factor.old ≡ E.taken (n * n))
+        × (length vector.old ≡ E.taken n) }
+    ensures { ◌≡◌ {A = Judged (List E)} (record { verdict = Ok result; factor = factor.new; vector = vector.new })
+        (stored E.elements n (judged n (at n low.old) (at n high.old)) factor.old vector.old) }
 {
-    match decide(n, low, high, factor) {
-        Decision::Definite(over) => Verdict::Definite(over),
+    let mut f = [0i64; TABLE_ROOM];
+    match decide(n, low, high, &mut f) {
+        Decision::Definite(over) => {
+            E::store(&f, n * n, factor);
+            Verdict::Definite(over)
+        }
         Decision::NotDefinite(x) => {
-            tables::copy_numbers(n, &x, vector);
+            E::store(&x, n, vector);
             Verdict::NotDefinite
         }
         Decision::Undecided => Verdict::Undecided,
@@ -124,27 +131,60 @@ pub fn sizes_ok(
     tables::sizes_ok(table, table, low, high, factor) && vector == entries
 }
 
-// The judge, of any numbers at all: n is an order or not, and each slice has any length.
-// Refused by the first of the checks 1 to 5 that fails, with both buffers kept. Else 'definite', with what the rows have over, the factor
-// written and the vector kept; 'not definite', with the vector written and the factor kept; or 'undecided', with both kept.
-pub fn judge(
+// The judge of a call that lends other buffers too: `others` says whether these have their sizes.
+pub fn judge_among<E: Element>(
     n: i64,
-    low: &[i64],
-    high: &[i64],
-    factor: &mut [i64],
-    vector: &mut [i64],
+    others: bool,
+    low: &[E],
+    high: &[E],
+    factor: &mut [E],
+    vector: &mut [E],
 ) -> Result<Verdict, Refusal>
-    ensures exact { ◌≡◌ {A = Judged} (record {
+    ensures exact { ◌≡◌ {A = Judged (List E)} (record {
       verdict = result;
       factor = factor.new;
       vector = vector.new;
-    }) (judge n low.now high.now factor.old vector.old) }
-    ensures meaning { Meaning n low.now high.now result factor.new vector.new }
+    }) (judge_act E.numbers E.elements n (judge_lengths E.taken (order_of n) low.now high.now factor.old vector.old && others)
+        low.now high.now factor.old vector.old) }
+    ensures meaning { Meaning n (E.numbers low.now (order_of n * order_of n)) (E.numbers high.now (order_of n * order_of n))
+        result (E.numbers factor.new (order_of n * order_of n)) (E.numbers vector.new (order_of n)) }
 {
     let m = order(n)?;
-    let sized = sizes_ok(m * m, m, low.len(), high.len(), factor.len(), vector.len());
+    let table = E::taken(m * m);
+    let entries = E::taken(m);
+    let own = sizes_ok(
+        table,
+        entries,
+        low.len(),
+        high.len(),
+        factor.len(),
+        vector.len(),
+    );
+    let sized = own && others;
     let mut l = [0i64; TABLE_ROOM];
     let mut u = [0i64; TABLE_ROOM];
     enter(n, sized, true, low, high, &mut l, &mut u)?;
     Ok(judge_bounds(m, &mut l, &mut u, factor, vector))
+}
+
+// The judge, of any numbers at all, in buffers of numbers or of bytes: n is an order or not, and each buffer has any length.
+// Refused by the first of the checks 1 to 5 that fails, with both buffers kept. Else 'definite', with what the rows have over, the factor
+// written and the vector kept; 'not definite', with the vector written and the factor kept; or 'undecided', with both kept.
+pub fn judge<E: Element>(
+    n: i64,
+    low: &[E],
+    high: &[E],
+    factor: &mut [E],
+    vector: &mut [E],
+) -> Result<Verdict, Refusal>
+    ensures exact { ◌≡◌ {A = Judged (List E)} (record {
+      verdict = result;
+      factor = factor.new;
+      vector = vector.new;
+    }) (judge_act E.numbers E.elements n (judge_lengths E.taken (order_of n) low.now high.now factor.old vector.old)
+        low.now high.now factor.old vector.old) }
+    ensures meaning { Meaning n (E.numbers low.now (order_of n * order_of n)) (E.numbers high.now (order_of n * order_of n))
+        result (E.numbers factor.new (order_of n * order_of n)) (E.numbers vector.new (order_of n)) }
+{
+    judge_among(n, true, low, high, factor, vector)
 }
