@@ -5,13 +5,12 @@ use Prim.Native.Nat.{ℕ, ◌*◌, ◌^◌, ◌<◌}
 use native.Mathlib.Omega.{arith}
 use lib.IntN.{ℤ}
 use lib.ListN.{length, drop}
-use lib.Seq.{take_all}
 use mir.Syntax.{w64}
 use mir.Val.{bytes, SFits}
 use Rattle.integers.specs.Numbers.{Within}
 use Rattle.integers.proofs.Machine.{fits_within}
 use Rattle.words.specs.Numbers.{with_unsigned, with_signed, numbers_of, bytes_of}
-use Rattle.words.proofs.Laws.{signed_at-same, numbers_of-bytes_of}
+use Rattle.words.proofs.Laws.{signed_at-same, read_whole}
 use Rattle.words.proofs.Sign.{narrow-of}
 use Rattle.words.proofs.Lists.{append-drop_end}
 use Rattle.tables.specs.Matrix.{nth, tabulate}
@@ -29,10 +28,7 @@ numbers-stored s n x e =
 -- and read back
 pub read-numbers : {m b : ℕ} (x : List ℤ) → length x ≡ m → ((i : ℕ) → Within b (nth x i)) → b < 2 ^ 63 →
     numbers_of w64 (bytes_of w64 x m) m ≡ x
-read-numbers {m} x e z h =
-    ap (λ (s : List ℕ). numbers_of w64 s m) (sym (append-nil (bytes_of w64 x m)))
-    ∙ numbers_of-bytes_of (narrow-of 8) x [] m (record { each = λ i. fits_within (z i) h }) (omega (arith, e)) ∙
-    take_all m x (omega (arith, e))
+read-numbers {m} x e z h = read_whole (narrow-of 8) x (record { each = λ i. fits_within (z i) h }) e
 
 -- ---- one number
 -- a buffer of exactly its size is written whole, with z, which is v
