@@ -1,5 +1,6 @@
 #!/usr/bin/env python3
-"""Counts the places that docs/DESIGN-PASS.md speaks of, in src/ and proofs/ of every crate, as they stand or at a commit.
+"""Counts the places that docs/DESIGN-PASS.md speaks of, in src/, specs/ and proofs/ of every crate, as they
+stand or at a commit.
 
     tools/places.py [COMMIT]
 
@@ -25,6 +26,7 @@ def files(suffix, folder):
 
 
 source = dict(files('rt', 'src'))
+specs = dict(files('antt', 'specs'))
 proofs = dict(files('antt', 'proofs'))
 code = '\n'.join(source.values())
 plain = re.sub(r'//[^\n]*', '', code)
@@ -41,6 +43,14 @@ def facts(text):
     return sum(text in re.sub(r'\s+', ' ', head) for head in heads)
 
 
+# the lines of texts that are wider than the house's width
+WIDTH = 140
+
+
+def too_long(texts):
+    return sum(len(line) > WIDTH for text in texts.values() for line in text.split('\n'))
+
+
 def show(point, what, count):
     print(f'{point}  {count:5}  {what}')
 
@@ -50,15 +60,19 @@ show(1, 'structs that hold a refusal beside a value', len(re.findall(r'pub check
 show(1, 'functions that write a lent value and answer a bool', sum('&mut' in h and '-> bool' in h for h in heads))
 show(1, 'functions that make the number of one answer', len(re.findall(r'fn (?:\w+_code|refusal_number)\(', plain)))
 show(3, '`while` and `loop`', len(re.findall(r'^\s*(?:while|loop)\b', plain, re.M)))
-show(3, '`for` and chains of the library over slices', len(re.findall(r'^\s*for ', plain, re.M)) + len(re.findall(r'\.(?:all|any|fill|copy_from_slice)\(', plain)))
+chains = len(re.findall(r'\.(?:all|any|fill|copy_from_slice)\(', plain))
+show(3, '`for` and chains of the library over slices', len(re.findall(r'^\s*for ', plain, re.M)) + chains)
 show(4, 'enums and structs without the derives of plain data', len(re.findall(r'#\[derive\((?:Drop|Clone, Copy)\)\]', plain)))
 show(5, 'contracts that ask that n is an order', facts('(n ≤ greatest_order)'))
 show(5, 'contracts that ask for checked tables of order n', facts('CheckedTables n'))
 show(5, 'functions that are lent low and high bounds', sum(bool(re.search(r'low: &', h)) and bool(re.search(r'high: &', h)) for h in heads))
-show(5, 'functions that are lent the five sums, or four of them', sum(bool(re.search(r'from: &', h)) and bool(re.search(r'\bto: &', h)) for h in heads))
-show(6, 'functions that are lent slices with an order or a count beside', sum(bool(re.search(r'\b(?:n|count|k): usize', h)) and '&' in h and '[i64]' in h for h in heads))
+sums = sum(bool(re.search(r'from: &', h)) and bool(re.search(r'\bto: &', h)) for h in heads)
+show(5, 'functions that are lent the five sums, or four of them', sums)
+counted = sum(bool(re.search(r'\b(?:n|count|k): usize', h)) and '&' in h and '[i64]' in h for h in heads)
+show(6, 'functions that are lent slices with an order or a count beside', counted)
 show(6, 'structs of parallel arrays', len(re.findall(r'\w+: \[usize; \w+\],\s*(?:pub )?\w+: \[usize; \w+\]', plain)))
 show(7, 'functions that take a bool', sum(bool(re.search(r'\w+: bool[,)]', h)) for h in heads))
 show(8, 'answers\' lines with rows of `.before`', sum(len(re.findall(r'^.*\.before\.before.*$', p, re.M)) for p in proofs.values()))
 show(8, 'files of answers', sum(name.endswith('Answers.antt') and name.count('/') > 3 for name in proofs))
 show(8, 'lines of proofs', sum(p.count('\n') for p in proofs.values()))
+show('house', f'lines of src/ and specs/ over {WIDTH} characters', too_long({**source, **specs}))

@@ -7,7 +7,8 @@ FOLDER is a checkout in which port.py of the kit has just run; without it, this 
 specs/ and proofs/ whose name is in camel case or has dashes get underscores: rowEntry is row_entry, floor-of-negative is floor_of_negative,
 and sum-ext, where ext is no definition, sum_ext. A dash stays between the names of two definitions, as in length-to_le_bytes. A lemma that
 would get the name of a definition gets _lem behind it. A name turns where a file defines or imports it, in comments where it is in
-camel case, and in the pages' code spans. A file specs/Contracts.antt, whose name Rattle takes for a module of its own, is Required.antt. Functions of src/, names that Rattle makes, strings, inputs and outputs keep their spelling.
+camel case, and in the pages' code spans. A file specs/Contracts.antt, whose name Rattle takes for a module of its own, is
+Required.antt. Functions of src/, names that Rattle makes, strings, inputs and outputs keep their spelling.
 What it renamed is printed, a line for each name.
 """
 import collections, glob, os, re, sys
@@ -19,11 +20,13 @@ root = os.path.realpath(sys.argv[1] if len(sys.argv) > 1 else os.path.join(os.pa
 os.chdir(root)
 WORD = r'[^\s(){}\[\];,."«»]+'
 SYMBOL = re.compile(r'[^\w]|^[ℤℕ]')
-STD = set('length drop take append replicate set get_or map sum get abs mag neg to_z of_z le_z lt_z quot_z leb ltb eqb nat_abs clean'.split())
+STD = set('length drop take append replicate set get_or map sum get abs mag neg to_z of_z le_z lt_z quot_z leb ltb eqb nat_abs clean'
+          .split())
 
 for p in glob.glob('crates/*/specs/Contracts.antt'):
     os.rename(p, p.replace('Contracts', 'Required'))
-for p in glob.glob('crates/**/*.antt', recursive=True) + glob.glob('crates/**/*.rt', recursive=True) + glob.glob('docs/**/*.md', recursive=True):
+for p in (glob.glob('crates/**/*.antt', recursive=True) + glob.glob('crates/**/*.rt', recursive=True)
+          + glob.glob('docs/**/*.md', recursive=True)):
     t = open(p, encoding='utf-8').read()
     new = re.sub(r'specs([./])Contracts\b', r'specs\1Required', t)
     if p.endswith('/specs/Lib.antt'):
@@ -57,7 +60,8 @@ for p, t in files.items():
         continue
     kind = None
     for line in uncommented(t, '--').split('\n'):
-        m = re.match(rf'^(\s*)((?:abbrev |unfoldable |opaque |erased |pub )*)(record |data )?(?:pub )?({WORD})(?:\s+(?:\(.*|\{{.*))?\s*:(\s|$)', line)
+        m = re.match(rf'^(\s*)((?:abbrev |unfoldable |opaque |erased |pub )*)(record |data )?(?:pub )?'
+                     rf'({WORD})(?:\s+(?:\(.*|\{{.*))?\s*:(\s|$)', line)
         if not m or line.lstrip().startswith('use '):
             if line and not line[0].isspace():
                 kind = 'record' if 'record ' in line or 'data ' in line else None
@@ -86,7 +90,8 @@ for p, t in files.items():
 def snake(word):
     word = re.sub(r'(?<=[a-z0-9])(?=[A-Z])', '_', word) if not re.match(r'[A-Z]', word) else word
     word = re.sub(r'(?<=[a-z])(?=[ℤℕ])', '_', word)
-    return word.lower() if re.match(r'[a-z]', word) and not re.search(r'[A-Z](?![a-z])', word[1:]) or re.match(r'[a-z]\w*_[A-Z]', word) else word
+    plain = re.match(r'[a-z]', word) and not re.search(r'[A-Z](?![a-z])', word[1:])
+    return word.lower() if plain or re.match(r'[a-z]\w*_[A-Z]', word) else word
 
 
 def is_name(part):
