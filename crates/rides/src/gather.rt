@@ -13,6 +13,7 @@ use samples::adding::add_checked;
 use samples::checking::sums_sized;
 use samples::sample::{FACTOR_COUNT, Measures, PRODUCT_COUNT, Sample, measure};
 use sums::copying::copy_sums;
+use sums::running::{SumsMut, SumsRef};
 use tables::Refusal;
 use tables::entering::order;
 use tables::problem::lengths_of;
@@ -38,7 +39,8 @@ fn gather_measured(
         limit = limit.new;
       };
     }) (laid_sums (λ t. t) (λ x. x) (λ α. tabulate 1 (λ i. α))
-        (entered_sums (factor_of m) m.draw n (sums_sized 1 (order_of n) (lengths_of (length low.entry.now) (length high.old) (length from.old) (length to.old)) (length limit.old))
+        (entered_sums (factor_of m) m.draw n (sums_sized 1 (order_of n)
+        (lengths_of (length low.entry.now) (length high.old) (length from.old) (length to.old)) (length limit.old))
         (constraint_of (order_of n) low.entry.now high.old from.old to.old (nth limit.old 0))) (record {
           low = low.entry.now;
           high = high.old;
@@ -56,20 +58,33 @@ fn gather_measured(
     let mut u = [0i64; PRODUCT_COUNT];
     let mut a = [0i64; FACTOR_COUNT];
     let mut b = [0i64; FACTOR_COUNT];
-    copy_sums(
-        FACTOR_COUNT,
+    let mut sums = SumsMut {
+        order: FACTOR_COUNT,
+        low: &mut l,
+        high: &mut u,
+        from: &mut a,
+        to: &mut b,
+        limit: 0,
+    };
+    let given = SumsRef {
         low,
         high,
         from,
         to,
-        &mut l,
-        &mut u,
-        &mut a,
-        &mut b,
-    );
-    let sum = add_checked(m, limit[0], &mut l, &mut u, &mut a, &mut b)?;
-    copy_sums(FACTOR_COUNT, &l, &u, &a, &b, low, high, from, to);
-    limit[0] = sum;
+        limit: limit[0],
+    };
+    copy_sums(given, &mut sums);
+    add_checked(m, &mut sums)?;
+    let mut lent = SumsMut {
+        order: FACTOR_COUNT,
+        low,
+        high,
+        from,
+        to,
+        limit: 0,
+    };
+    copy_sums(sums.view(), &mut lent);
+    limit[0] = lent.limit;
     Ok(())
 }
 

@@ -3,17 +3,18 @@ ghost use Rattle.std.specs.Prelude.{◌≡◌, ◌*◌, ◌<◌, pos, ◌-ℤ◌
 ghost use Rattle.tables.specs.Matrix.{table, tabulate};
 ghost use Rattle.tables.specs.Problem.{constraint_of};
 ghost use Rattle.tables.specs.declared.problem.Constraint.{Constraint};
-ghost use Rattle.sums.specs.Required.{Stated};
+ghost use Rattle.sums.specs.Running.{SamePlace, Leaving};
 ghost use Rattle.samples.specs.Samples.{factor_count, number_count, between, factor_of};
 ghost use Rattle.samples.specs.Gains.{product_ends, least_product, greatest_product, least_square, gains};
 ghost use Rattle.samples.specs.Gathering.{checked_sums};
-ghost use Rattle.samples.specs.Required.{NumbersNear, MeasuresNear, Arrays};
+ghost use Rattle.samples.specs.Required.{NumbersNear, MeasuresNear, Arrays, Sized, whole_sums};
 
 use crate::sample::{FACTOR_COUNT, Factors, Measures, Numbers, PRODUCT_COUNT, Products};
 use floats::Neighbours;
 use integers::{greater, smaller};
 use sums::adding::add_fitted;
 use sums::checking::mend_sums;
+use sums::running::{SumsMut, SumsRef};
 use tables::{LIMIT_RANGE, Refusal, within};
 
 // The least and the greatest of the four products of an end of number i and an end of number j of a sample: number i is from low(i) to
@@ -101,24 +102,26 @@ fn lay_gains(
     -least_square(&low, &high, FACTOR_COUNT)
 }
 
-// Checks 3, 4, 5 and 16 of sums of a sample's order, whose bounds and linear terms stand in l, u, a and b; then the bounds are mended
-// (R2.10) and the sample is added, with at most one halving (R23.6), all in place.
-pub fn add_checked(
-    m: Measures,
-    limit: i64,
-    l: &mut [i64],
-    u: &mut [i64],
-    a: &mut [i64],
-    b: &mut [i64],
-) -> Result<i64, Refusal>
-    requires { MeasuresNear m × Arrays l.old u.old a.old b.old }
-    ensures { Stated factor_count (checked_sums (factor_of m) m.draw (constraint_of factor_count l.old u.old a.old b.old limit)) result l.new u.new a.new b.new }
+// Checks 3, 4, 5 and 16 of sums of a sample's order; then their bounds are mended (R2.10) and the sample is added, with at most one halving
+// (R23.6), all in place.
+pub fn add_checked(m: Measures, sums: &mut SumsMut) -> Result<(), Refusal>
+    requires { MeasuresNear m × Sized sums.old }
+    ensures place { SamePlace sums.old sums.new }
+    ensures sums { Leaving (checked_sums (factor_of m) m.draw (whole_sums sums.old)) result sums.new }
 {
-    mend_sums(FACTOR_COUNT, within(limit, LIMIT_RANGE), l, u, a, b)?;
-    let mut gl = [0i64; PRODUCT_COUNT];
-    let mut gu = [0i64; PRODUCT_COUNT];
-    let mut ga = [0i64; FACTOR_COUNT];
-    let mut gb = [0i64; FACTOR_COUNT];
-    let more = lay_gains(m, &mut gl, &mut gu, &mut ga, &mut gb);
-    add_fitted(FACTOR_COUNT, more, &gl, &gu, &ga, &gb, limit, l, u, a, b)
+    let within = within(sums.limit, LIMIT_RANGE);
+    mend_sums(sums, within)?;
+    let mut l = [0i64; PRODUCT_COUNT];
+    let mut u = [0i64; PRODUCT_COUNT];
+    let mut a = [0i64; FACTOR_COUNT];
+    let mut b = [0i64; FACTOR_COUNT];
+    let limit = lay_gains(m, &mut l, &mut u, &mut a, &mut b);
+    let gains = SumsRef {
+        low: &l,
+        high: &u,
+        from: &a,
+        to: &b,
+        limit,
+    };
+    add_fitted(gains, sums)
 }

@@ -128,6 +128,9 @@ module _ {n : ℕ} {l u a b : List ℤ} {α : ℤ} (r : Ranged n l u a b α) whe
   pub ranged-limit : Within limit_range α
   ranged-limit = within-limit (sums_at n l u a b α) r.within
 
+  pub limit_fits : SFits w64 α
+  limit_fits = fits_within ranged-limit (omega arith)
+
 -- a sum of two such numbers fits
 pub sum_fits : {x y : ℤ} → Within limit_range x → Within limit_range y → SFits w64 (x +ℤ y)
 sum_fits v w = fits_within (within-+ v w) (omega arith)

@@ -8,7 +8,8 @@ use lib.IntN.{ℤ}
 use lib.ListN.{length, set}
 use Rattle.tables.specs.Matrix.{tabulate}
 use Rattle.tables.specs.declared.Refusal.{Refusal}
-use Rattle.std.specs.Prelude.{Result, Ok, Err}
+use Rattle.std.specs.Prelude.{Ok, Err}
+use Rattle.tables.specs.Checks.{Checked}
 use Rattle.sums.specs.Sums.{Outcome}
 use Rattle.sums.specs.Lent.{Lent, Left, laid_sums}
 use Rattle.sums.specs.Required.{front, stated, Stated}
@@ -21,16 +22,20 @@ set-one (y ∷ []) v e = refl
 set-one (y ∷ z ∷ x) v e = absurd (omega (arith, e))
 
 -- ---- the outcome that the code states, laid into buffers
-pub stated_by : {n : ℕ} {o o' : Outcome} {r : Result ℤ Refusal} {l u a b : List ℤ} → o ≡ o' → Stated n o r l u a b → Stated n o' r l u a b
+pub stated_by : {n : ℕ} {o o' : Outcome} {r : Checked} {l u a b : List ℤ} {α : ℤ} → o ≡ o' → Stated n o r l u a b α →
+    Stated n o' r l u a b α
 stated_by e st = record { outcome = sym e ∙ st.outcome; rooms = st.rooms }
 
-module _ {A : Type 0} (T X : List ℤ → A) (N : ℤ → A) {n : ℕ} {o : Outcome} {l u a b : List ℤ} (lent : Lent A) where
-  pub laid-taken : {α : ℤ} {l' u' a' b' α' : A} → Stated n o (Ok α) l u a b → l' ≡ T (front (n * n) l) → u' ≡ T (front (n * n) u) → a' ≡ X (front n a) → b' ≡ X (front n b) → α' ≡ N α →
-      ◌≡◌ {A = Left A} (record { answer = Ok tt; sums = record { low = l'; high = u'; from = a'; to = b'; limit = α' } }) (laid_sums T X N o lent)
+module _ {A : Type 0} (T X : List ℤ → A) (N : ℤ → A) {n : ℕ} {o : Outcome} {l u a b : List ℤ} {α : ℤ} (lent : Lent A) where
+  pub laid-taken : {l' u' a' b' α' : A} → Stated n o (Ok tt) l u a b α → l' ≡ T (front (n * n) l) → u' ≡ T (front (n * n) u) →
+      a' ≡ X (front n a) → b' ≡ X (front n b) → α' ≡ N α →
+      ◌≡◌ {A = Left A} (record { answer = Ok tt; sums = record { low = l'; high = u'; from = a'; to = b'; limit = α' } })
+      (laid_sums T X N o lent)
   unfolding stated
   laid-taken st f g h k i = rw (f, g, h, k, i) (ap (λ (o : Outcome). laid_sums T X N o lent) (sym st.outcome))
 
-  pub laid-refused : {k : Refusal} → Stated n o (Err k) l u a b → ◌≡◌ {A = Left A} (record { answer = Err k; sums = lent }) (laid_sums T X N o lent)
+  pub laid-refused : {k : Refusal} → Stated n o (Err k) l u a b α →
+      ◌≡◌ {A = Left A} (record { answer = Err k; sums = lent }) (laid_sums T X N o lent)
   unfolding stated
   laid-refused st = ap (λ (o : Outcome). laid_sums T X N o lent) (sym st.outcome)
 

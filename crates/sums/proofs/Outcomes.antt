@@ -8,10 +8,11 @@ use lib.IntN.{ℤ}
 use Rattle.tables.specs.declared.Refusal.{Refusal}
 use Rattle.tables.specs.declared.Refusal.TheVariants.{Full}
 use Rattle.tables.specs.declared.problem.Constraint.{Constraint}
-use Rattle.std.specs.Prelude.{Result, Ok, Err}
+use Rattle.std.specs.Prelude.{Ok, Err}
+use Rattle.tables.specs.Checks.{Checked}
 use Rattle.sums.specs.Sums.{plus, sums_within}
 use Rattle.sums.specs.Halving.{halved, added_in, fitted}
-use Rattle.sums.specs.Required.{sums_at, Rooms, Ranged, Sums, stated, Stated, Tried}
+use Rattle.sums.specs.Required.{sums_at, Ranged, Sums, stated, Stated, Tried}
 use Rattle.sums.proofs.Fronts.{halved-within, sums-ranged}
 
 -- ---- by whether the sums are in their ranges
@@ -48,41 +49,38 @@ module _ (g c : Constraint) where
       go false e = fitted-half e
 
 -- ---- what the code states
-module _ {n : ℕ} {g : Constraint} {l u a b : List ℤ} {α : ℤ} where
-  pub tried_in : {l' u' a' b' : List ℤ} {β : ℤ} → sums_within (plus g (sums_at n l u a b α)) ≡ true → Sums (plus g (sums_at n l u a b α)) n l' u' a' b' β →
-      Tried n g l u a b α (Ok β) l' u' a' b'
+module _ {n : ℕ} {g c : Constraint} where
+  pub tried_in : {l u a b : List ℤ} {α : ℤ} → sums_within (plus g c) ≡ true → Sums (plus g c) n l u a b α → Tried n g c (Ok tt) l u a b α
   unfolding stated
   tried_in e s = record {
-    answered = record { outcome = added_in_lem g (sums_at n l u a b α) e ∙ ap Ok (sym s.sums); rooms = s.rooms };
+    answered = record { outcome = added_in_lem g c e ∙ ap Ok (sym s.sums); rooms = s.rooms };
     kept = λ k q. let z : ◌≡◌ {A = ℕ} 0 1 = cc in absurd (omega arith);
   }
 
-  pub tried_full : sums_within (plus g (sums_at n l u a b α)) ≡ false → Rooms n l u a b → Tried n g l u a b α (Err Full) l u a b
+  pub tried_full : {l u a b : List ℤ} {α : ℤ} → sums_within (plus g c) ≡ false → Sums c n l u a b α → Tried n g c (Err Full) l u a b α
   unfolding stated
-  tried_full e z = record {
-    answered = record { outcome = added_full g (sums_at n l u a b α) e; rooms = z };
-    kept = λ k q. record { sums = refl; rooms = z };
-  }
+  tried_full e s = record { answered = record { outcome = added_full g c e; rooms = s.rooms }; kept = λ k q. s }
 
   -- added to the sums
-  pub whole-fitted : {l' u' a' b' : List ℤ} {β : ℤ} → Tried n g l u a b α (Ok β) l' u' a' b' → Stated n (fitted g (sums_at n l u a b α)) (Ok β) l' u' a' b'
+  pub whole-fitted : {l u a b : List ℤ} {α : ℤ} → Tried n g c (Ok tt) l u a b α → Stated n (fitted g c) (Ok tt) l u a b α
   unfolding stated
-  whole-fitted t = record { outcome = taken-fitted g (sums_at n l u a b α) t.answered.outcome; rooms = t.answered.rooms }
+  whole-fitted t = record { outcome = taken-fitted g c t.answered.outcome; rooms = t.answered.rooms }
 
   -- or refused: they are in their ranges as they were
-  module _ {l' u' a' b' : List ℤ} {k : Refusal} (t : Tried n g l u a b α (Err k) l' u' a' b') where
-    pub kept-ranged : Ranged n l u a b α → Ranged n l' u' a' b' α
-    kept-ranged w = sums-ranged w.within (t.kept k refl)
+  module _ {l u a b : List ℤ} {α : ℤ} {k : Refusal} (t : Tried n g c (Err k) l u a b α) where
+    pub kept-ranged : sums_within c ≡ true → Ranged n l u a b α
+    kept-ranged w = sums-ranged w (t.kept k refl)
 
     -- and added to their halves
-    module _ {l'' u'' a'' b'' : List ℤ} {β : ℤ} (s : Sums (halved (sums_at n l' u' a' b' α)) n l'' u'' a'' b'' β) where
-      pub halves-ranged : Ranged n l u a b α → Ranged n l'' u'' a'' b'' β
-      halves-ranged w = sums-ranged (halved-within (sums_at n l' u' a' b' α) (kept-ranged w).within) s
+    module _ {l' u' a' b' : List ℤ} {α' : ℤ} (s : Sums (halved (sums_at n l u a b α)) n l' u' a' b' α') where
+      pub halves-ranged : sums_within c ≡ true → Ranged n l' u' a' b' α'
+      halves-ranged w = sums-ranged (halved-within (sums_at n l u a b α) (kept-ranged w).within) s
 
-      pub half-fitted : {o : Result ℤ Refusal} {l''' u''' a''' b''' : List ℤ} → Tried n g l'' u'' a'' b'' β o l''' u''' a''' b''' → Stated n (fitted g (sums_at n l u a b α)) o l''' u''' a''' b'''
+      pub half-fitted : {r : Checked} {l'' u'' a'' b'' : List ℤ} {α'' : ℤ} →
+          Tried n g (sums_at n l' u' a' b' α') r l'' u'' a'' b'' α'' → Stated n (fitted g c) r l'' u'' a'' b'' α''
       unfolding stated
       half-fitted v = record {
-        outcome = refused-fitted g (sums_at n l u a b α) t.answered.outcome
-            ∙ ap (added_in g) (ap halved (sym (t.kept k refl).sums) ∙ sym s.sums) ∙ v.answered.outcome;
+        outcome = refused-fitted g c t.answered.outcome ∙ ap (added_in g) (ap halved (sym (t.kept k refl).sums) ∙ sym s.sums)
+            ∙ v.answered.outcome;
         rooms = v.answered.rooms;
       }

@@ -3,3 +3,4 @@ pub mod Halving
 pub mod Lent
 pub mod Explaining
 pub mod Required
+pub mod Running

@@ -1,7 +1,8 @@
 -- What the code asks of sums at the front of lists, and what it states of them.
-use Rattle.std.specs.Prelude.{◌≡◌, true, List, ℕ, ◌*◌, ◌≤◌, ◌<◌, ℤ, length, Result, Ok, Err}
+use Rattle.std.specs.Prelude.{◌≡◌, true, List, ℕ, ◌*◌, ◌≤◌, ◌<◌, ℤ, length, Ok, Err}
 use Rattle.integers.specs.Numbers.{Within}
 use Rattle.tables.specs.Matrix.{nth, tabulate}
+use Rattle.tables.specs.Checks.{Checked}
 use Rattle.tables.specs.Problem.{constraint_of}
 use Rattle.tables.specs.declared.Refusal.{Refusal}
 use Rattle.tables.specs.declared.problem.Constraint.{Constraint}
@@ -33,13 +34,13 @@ pub record FrontWithin (m b : ℕ) (x : List ℤ) : Type 0 where
   pub room : m ≤ length x
   pub small : (k : ℕ) → k < m → Within b (nth x k)
 
--- ---- what the code states: the running limit in its answer, the other sums at the front of their lists
-unfoldable pub stated : ℕ → Result ℤ Refusal → List ℤ → List ℤ → List ℤ → List ℤ → Outcome
-stated n (Ok α) l u a b = Ok (sums_at n l u a b α)
-stated n (Err r) l u a b = Err r
+-- ---- what the code states: its answer, and the sums at the front of their lists
+unfoldable pub stated : ℕ → Checked → List ℤ → List ℤ → List ℤ → List ℤ → ℤ → Outcome
+stated n (Ok _) l u a b α = Ok (sums_at n l u a b α)
+stated n (Err r) l u a b α = Err r
 
-pub record Stated (n : ℕ) (o : Outcome) (r : Result ℤ Refusal) (l u a b : List ℤ) : Type 0 where
-  pub outcome : o ≡ stated n r l u a b
+pub record Stated (n : ℕ) (o : Outcome) (r : Checked) (l u a b : List ℤ) (α : ℤ) : Type 0 where
+  pub outcome : o ≡ stated n r l u a b α
   pub rooms : Rooms n l u a b
 
 -- the sums c stand at the front of lists, with α for the running limit
@@ -47,7 +48,7 @@ pub record Sums (c : Constraint) (n : ℕ) (l u a b : List ℤ) (α : ℤ) : Typ
   pub sums : sums_at n l u a b α ≡ c
   pub rooms : Rooms n l u a b
 
--- sums with g added, where each is in its range then; or the sums as they were
-pub record Tried (n : ℕ) (g : Constraint) (l u a b : List ℤ) (α : ℤ) (r : Result ℤ Refusal) (l' u' a' b' : List ℤ) : Type 0 where
-  pub answered : Stated n (added_in g (sums_at n l u a b α)) r l' u' a' b'
-  pub kept : (k : Refusal) → r ≡ Err k → Sums (sums_at n l u a b α) n l' u' a' b' α
+-- sums c with g added, where each is in its range then; or the sums as they were
+pub record Tried (n : ℕ) (g c : Constraint) (r : Checked) (l u a b : List ℤ) (α : ℤ) : Type 0 where
+  pub answered : Stated n (added_in g c) r l u a b α
+  pub kept : (k : Refusal) → r ≡ Err k → Sums c n l u a b α

@@ -1,5 +1,4 @@
-// R23.6 of docs/RULES.md: adding to running sums, with at most one halving. What is added stands in lists as the sums do: gl and gu for the
-// bounds, ga and gb for the ends of the linear terms, and its limit.
+// R23.6 of docs/RULES.md: adding to running sums, with at most one halving. What is added stands in slices as the sums do.
 ghost use Rattle.std.specs.Prelude.{◌≡◌, ◌*◌, ◌≤◌, pos, nat_abs, ◌+ℤ◌, ◌≤ℤ◌, length};
 ghost use Rattle.tables.specs.Ranges.{greatest_order, limit_range};
 ghost use Rattle.tables.specs.Matrix.{nth};
@@ -7,9 +6,11 @@ ghost use Rattle.tables.specs.Buffers.{Filled};
 ghost use Rattle.tables.specs.Checks.{all_within};
 ghost use Rattle.sums.specs.Sums.{added_to, plus, sums_within};
 ghost use Rattle.sums.specs.Halving.{fitted};
-ghost use Rattle.sums.specs.Required.{sums_at, FrontWithin, Ranged, Sums, Stated, Tried};
+ghost use Rattle.sums.specs.Required.{FrontWithin};
+ghost use Rattle.sums.specs.Running.{sums_in, sums_behind, InRanges, BehindInRanges, Standing, SamePlace, Trying, Leaving};
 
 use crate::halving::halve;
+use crate::running::{SumsRef, SumsMut};
 use tables::{ENTRY_RANGE, LIMIT_RANGE, LINEAR_RANGE, Refusal, within};
 
 // Whether the first numbers of x, count of them, each with that of g added, are within the bound.
@@ -36,113 +37,63 @@ fn add_numbers(count: usize, g: &[i64], x: &mut [i64])
     }
 }
 
-// Check 18: whether sums of order n, with what is added, are in their ranges.
-fn sums_within(
-    n: usize,
-    more: i64,
-    gl: &[i64],
-    gu: &[i64],
-    ga: &[i64],
-    gb: &[i64],
-    limit: i64,
-    l: &[i64],
-    u: &[i64],
-    a: &[i64],
-    b: &[i64],
-) -> bool
-    requires { (n ≤ greatest_order) × Ranged n gl.now gu.now ga.now gb.now more
-        × Ranged n l.now u.now a.now b.now limit }
-    ensures { result ≡ sums_within (plus (sums_at n gl.now gu.now ga.now gb.now more)
-        (sums_at n l.now u.now a.now b.now limit)) }
+// Check 18: whether sums, with what is added, are in their ranges.
+fn sums_within(gains: SumsRef, sums: &SumsMut) -> bool
+    requires { InRanges sums.now × BehindInRanges sums.now.order gains }
+    ensures { result ≡ sums_within (plus (sums_behind sums.entry.now.order gains.entry) (sums_in sums.entry.now)) }
 {
-    if !added_within(n, ga, a, LINEAR_RANGE) {
+    let n = sums.order;
+    if !added_within(n, gains.from, sums.from, LINEAR_RANGE) {
         return false;
     }
-    if !added_within(n, gb, b, LINEAR_RANGE) {
+    if !added_within(n, gains.to, sums.to, LINEAR_RANGE) {
         return false;
     }
-    if !within(limit + more, LIMIT_RANGE) {
+    if !within(sums.limit + gains.limit, LIMIT_RANGE) {
         return false;
     }
-    if !added_within(n * n, gl, l, ENTRY_RANGE) {
+    if !added_within(n * n, gains.low, sums.low, ENTRY_RANGE) {
         return false;
     }
-    added_within(n * n, gu, u, ENTRY_RANGE)
+    added_within(n * n, gains.high, sums.high, ENTRY_RANGE)
 }
 
-// Sums of order n with what is added, in place of the sums; the running limit is returned.
-fn add_sums(
-    n: usize,
-    more: i64,
-    gl: &[i64],
-    gu: &[i64],
-    ga: &[i64],
-    gb: &[i64],
-    limit: i64,
-    l: &mut [i64],
-    u: &mut [i64],
-    a: &mut [i64],
-    b: &mut [i64],
-) -> i64
-    requires { (n ≤ greatest_order) × Ranged n gl.now gu.now ga.now gb.now more
-        × Ranged n l.old u.old a.old b.old limit }
-    ensures { Sums (plus (sums_at n gl.now gu.now ga.now gb.now more)
-        (sums_at n l.old u.old a.old b.old limit)) n l.new u.new a.new b.new result }
+// Sums with what is added, in place of the sums.
+fn add_sums(gains: SumsRef, sums: &mut SumsMut)
+    requires { InRanges sums.old × BehindInRanges sums.old.order gains }
+    ensures place { SamePlace sums.old sums.new }
+    ensures sums { Standing (plus (sums_behind sums.old.order gains.entry) (sums_in sums.old)) sums.new }
 {
-    add_numbers(n * n, gl, l);
-    add_numbers(n * n, gu, u);
-    add_numbers(n, ga, a);
-    add_numbers(n, gb, b);
-    limit + more
+    let n = sums.order;
+    add_numbers(n * n, gains.low, sums.low);
+    add_numbers(n * n, gains.high, sums.high);
+    add_numbers(n, gains.from, sums.from);
+    add_numbers(n, gains.to, sums.to);
+    sums.limit += gains.limit;
 }
 
-// Sums of order n with what is added, where each is in its range then; or a refusal, and the sums are as they were.
-fn add_inside(
-    n: usize,
-    more: i64,
-    gl: &[i64],
-    gu: &[i64],
-    ga: &[i64],
-    gb: &[i64],
-    limit: i64,
-    l: &mut [i64],
-    u: &mut [i64],
-    a: &mut [i64],
-    b: &mut [i64],
-) -> Result<i64, Refusal>
-    requires { (n ≤ greatest_order) × Ranged n gl.now gu.now ga.now gb.now more
-        × Ranged n l.old u.old a.old b.old limit }
-    ensures { Tried n (sums_at n gl.now gu.now ga.now gb.now more)
-        l.old u.old a.old b.old limit result l.new u.new a.new b.new }
+// Sums with what is added, where each is in its range then; or a refusal, and the sums are as they were.
+fn add_inside(gains: SumsRef, sums: &mut SumsMut) -> Result<(), Refusal>
+    requires { InRanges sums.old × BehindInRanges sums.old.order gains }
+    ensures place { SamePlace sums.old sums.new }
+    ensures sums { Trying (sums_behind sums.old.order gains.entry) (sums_in sums.old) result sums.new }
 {
-    if !sums_within(n, more, gl, gu, ga, gb, limit, l, u, a, b) {
+    if !sums_within(gains, sums) {
         return Err(Refusal::Full);
     }
-    Ok(add_sums(n, more, gl, gu, ga, gb, limit, l, u, a, b))
+    add_sums(gains, sums);
+    Ok(())
 }
 
-// Sums of order n with what is added: to the sums, or else to their halves; or check 18 refuses (R23.6).
-pub fn add_fitted(
-    n: usize,
-    more: i64,
-    gl: &[i64],
-    gu: &[i64],
-    ga: &[i64],
-    gb: &[i64],
-    limit: i64,
-    l: &mut [i64],
-    u: &mut [i64],
-    a: &mut [i64],
-    b: &mut [i64],
-) -> Result<i64, Refusal>
-    requires { (n ≤ greatest_order) × Ranged n gl.now gu.now ga.now gb.now more
-        × Ranged n l.old u.old a.old b.old limit }
-    ensures { Stated n (fitted (sums_at n gl.now gu.now ga.now gb.now more)
-        (sums_at n l.old u.old a.old b.old limit)) result l.new u.new a.new b.new }
+// Sums with what is added: to the sums, or else to their halves; or check 18 refuses (R23.6).
+pub fn add_fitted(gains: SumsRef, sums: &mut SumsMut) -> Result<(), Refusal>
+    requires { InRanges sums.old × BehindInRanges sums.old.order gains }
+    ensures place { SamePlace sums.old sums.new }
+    ensures sums { Leaving (fitted (sums_behind sums.old.order gains.entry) (sums_in sums.old)) result sums.new }
 {
-    if let Ok(sum) = add_inside(n, more, gl, gu, ga, gb, limit, l, u, a, b) {
-        return Ok(sum);
+    if let Ok(()) = add_inside(gains, sums) {
+        return Ok(());
     }
-    let half = halve(n, limit, l, u, a, b);
-    add_inside(n, more, gl, gu, ga, gb, half, l, u, a, b)
+    halve(sums);
+    add_inside(gains, sums)
 }

@@ -5,8 +5,10 @@ ghost use Rattle.tables.specs.Checks.{first_refusal, linear_within};
 ghost use Rattle.tables.specs.Entering.{Mended};
 ghost use Rattle.tables.specs.Problem.{constraint_of};
 ghost use Rattle.sums.specs.Sums.{sums_checks};
+ghost use Rattle.sums.specs.Running.{Roomy, SamePlace, SameTerms};
 
 use tables::bounded::Handed;
+use crate::running::SumsMut;
 use tables::mending::mend_bounds;
 use tables::{Refusal, check_bounds, check_ends, linear_within};
 
@@ -41,19 +43,18 @@ pub fn check_sums(
     check_ends(n, from, to)
 }
 
-// The same checks, and where they pass the bounds mended in place (R2.10).
-pub fn mend_sums(
-    n: usize,
-    limits: bool,
-    low: &mut [i64],
-    high: &mut [i64],
-    from: &[i64],
-    to: &[i64],
-) -> Result<(), Refusal>
-    requires { (n ≤ greatest_order) × (n * n ≤ length low.old) × (n * n ≤ length high.old) × (n ≤ length from.now)
-        × (n ≤ length to.now) }
-    ensures { Mended (sums_checks limits (constraint_of n low.old high.old from.now to.now (pos 0))) n low.old high.old result low.new high.new }
+// The same checks of sums that are lent for writing, and where they pass the bounds mended in place (R2.10).
+pub fn mend_sums(sums: &mut SumsMut, limits: bool) -> Result<(), Refusal>
+    requires { Roomy sums.old }
+    ensures place { SamePlace sums.old sums.new }
+    ensures kept { SameTerms sums.old sums.new }
+    ensures mended { Mended (sums_checks limits (constraint_of sums.old.order sums.old.low.now sums.old.high.now sums.old.from.now
+        sums.old.to.now (pos 0))) sums.old.order sums.old.low.now sums.old.high.now result sums.new.low.now sums.new.high.now }
 {
-    mend_bounds(n, terms_in(n, limits, from, to), low, high)?;
-    check_ends(n, from, to)
+    let n = sums.order;
+    let given = sums.view();
+    let terms = terms_in(n, limits, given.from, given.to);
+    mend_bounds(n, terms, sums.low, sums.high)?;
+    let mended = sums.view();
+    check_ends(n, mended.from, mended.to)
 }

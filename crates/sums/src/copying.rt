@@ -1,31 +1,20 @@
-// Running sums, from lists to the front of others.
-ghost use Rattle.std.specs.Prelude.{◌≡◌, ◌++◌, ◌*◌, ◌≤◌, take, drop};
-ghost use Rattle.tables.specs.Ranges.{greatest_order};
-ghost use Rattle.sums.specs.Required.{Rooms};
+// Running sums, copied from where they are read to where they are lent for writing.
+ghost use Rattle.std.specs.Prelude.{◌≤◌};
+ghost use Rattle.sums.specs.Running.{Roomy, BehindRoomy, Copied, SamePlace};
 
+use crate::running::{SumsMut, SumsRef};
 use tables::copy_numbers;
 
-// Bounds and linear terms of order n, from four slices to the front of four others.
-pub fn copy_sums(
-    n: usize,
-    low: &[i64],
-    high: &[i64],
-    from: &[i64],
-    to: &[i64],
-    l: &mut [i64],
-    u: &mut [i64],
-    a: &mut [i64],
-    b: &mut [i64],
-)
-    requires { (n ≤ greatest_order) × Rooms n low.now high.now from.now to.now
-        × Rooms n l.old u.old a.old b.old }
-    ensures { (l.new ≡ take (n * n) low.now ++ drop (n * n) l.old)
-        × (u.new ≡ take (n * n) high.now ++ drop (n * n) u.old)
-        × (a.new ≡ take n from.now ++ drop n a.old)
-        × (b.new ≡ take n to.now ++ drop n b.old) }
+// Sums of the order of `target`, from `source` to the front of its slices.
+pub fn copy_sums(source: SumsRef, target: &mut SumsMut)
+    requires { Roomy target.old × BehindRoomy target.old.order source }
+    ensures place { SamePlace target.old target.new }
+    ensures copied { Copied target.old.order source.entry target.old target.new }
 {
-    copy_numbers(n * n, low, l);
-    copy_numbers(n * n, high, u);
-    copy_numbers(n, from, a);
-    copy_numbers(n, to, b);
+    let n = target.order;
+    copy_numbers(n * n, source.low, target.low);
+    copy_numbers(n * n, source.high, target.high);
+    copy_numbers(n, source.from, target.from);
+    copy_numbers(n, source.to, target.to);
+    target.limit = source.limit;
 }

@@ -4,8 +4,10 @@ ghost use Rattle.tables.specs.Ranges.{greatest_order, limit_range};
 ghost use Rattle.tables.specs.Matrix.{nth};
 ghost use Rattle.tables.specs.Buffers.{Filled};
 ghost use Rattle.sums.specs.Halving.{half_down, half_up, halved};
-ghost use Rattle.sums.specs.Required.{sums_at, FrontWithin, Ranged, Sums};
+ghost use Rattle.sums.specs.Required.{FrontWithin};
+ghost use Rattle.sums.specs.Running.{sums_in, InRanges, Standing, SamePlace};
 
+use crate::running::SumsMut;
 use arithmetic::ceil_div;
 use integers::floor_div;
 
@@ -29,22 +31,16 @@ fn halve_up(count: usize, x: &mut [i64])
     }
 }
 
-// Sums of order n in their ranges, halved in place; the running limit's half is returned.
-pub fn halve(
-    n: usize,
-    limit: i64,
-    l: &mut [i64],
-    u: &mut [i64],
-    a: &mut [i64],
-    b: &mut [i64],
-) -> i64
-    requires { (n ≤ greatest_order) × Ranged n l.old u.old a.old b.old limit }
-    ensures { Sums (halved (sums_at n l.old u.old a.old b.old limit)) n l.new
-        u.new a.new b.new result }
+// Sums in their ranges, halved in place.
+pub fn halve(sums: &mut SumsMut)
+    requires { InRanges sums.old }
+    ensures place { SamePlace sums.old sums.new }
+    ensures sums { Standing (halved (sums_in sums.old)) sums.new }
 {
-    halve_down(n * n, l);
-    halve_up(n * n, u);
-    halve_down(n, a);
-    halve_up(n, b);
-    ceil_div(limit, 2)
+    let n = sums.order;
+    halve_down(n * n, sums.low);
+    halve_up(n * n, sums.high);
+    halve_down(n, sums.from);
+    halve_up(n, sums.to);
+    sums.limit = ceil_div(sums.limit, 2);
 }

@@ -5,3 +5,4 @@ pub mod adding;
 pub mod checking;
 pub mod copying;
 pub mod halving;
+pub mod running;

@@ -1,24 +1,23 @@
-use native.Mathlib.Omega.{arith}
-use Rattle.integers.proofs.Machine.{clean, clean_element}
 use Rattle.sums.proofs.Outcomes.{whole-fitted, halves-ranged, half-fitted}
 use Rattle.sums.proofs.adding.add_fitted.Goals as goal
 
-pub returns-in-Ok : goal.returns-in-Ok
-returns-in-Ok c =
-    rw (clean_element c.in-Ok.sum (omega arith)) (whole-fitted (rw (clean c.ranges.limit, clean c.ranges.more) at c.in-Ok.ensures))
+pub returns-in-Ok-clause-sums : goal.returns-in-Ok-clause-sums
+returns-in-Ok-clause-sums c = whole-fitted c.in-Ok.ensures.sums
 
+-- the order stays the same
 pub add_inside-requires-2 : goal.add_inside-requires-2
 add_inside-requires-2 c =
-    let tried = rw (clean c.ranges.limit, clean c.ranges.more) at c.in_default.ensures in
-    let halves = rw (clean c.ranges.limit) at c.halve-half.ensures in (
-      c.requires.0,
-      rw (clean c.ranges.more) c.requires.1,
-      rw (clean_element c.halve-half.result c.halve-half.type_inv) (halves-ranged tried halves c.requires.2),
-    )
+    let p = c.add_inside.ensures.place.order in
+    let q = c.halve.ensures.place.order in
+    let tried = rw p at c.in_default.ensures.sums in
+    let halves = rw (q, p) at c.halve.ensures.sums in
+    rw (q, p) ((c.requires.0.0, halves-ranged tried halves c.requires.0.1.within), c.requires.1)
 
-pub returns : goal.returns
-returns c =
-    let tried = rw (clean c.ranges.limit, clean c.ranges.more) at c.in_default.ensures in
-    let halves = rw (clean c.ranges.limit) at c.halve-half.ensures in
-    half-fitted tried halves
-    (rw (clean_element c.halve-half.result c.halve-half.type_inv, clean c.ranges.more) at c.add_inside-2.ensures)
+pub returns-clause-sums : goal.returns-clause-sums
+returns-clause-sums c =
+    let p = c.add_inside.ensures.place.order in
+    let q = c.halve.ensures.place.order in
+    let o = c.add_inside-2.ensures.place.order in
+    let tried = rw p at c.in_default.ensures.sums in
+    let halves = rw (q, p) at c.halve.ensures.sums in
+    rw (o, q, p) (half-fitted tried halves (rw (o, q, p) at c.add_inside-2.ensures.sums))

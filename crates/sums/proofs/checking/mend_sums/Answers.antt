@@ -3,11 +3,15 @@ use Rattle.tables.proofs.Answers.{handed_on}
 use Rattle.sums.proofs.Checked.{mended_both}
 use Rattle.sums.proofs.checking.mend_sums.Goals as goal
 
-pub returns-in_err-mend_bounds : goal.returns-in_err-mend_bounds
+pub returns-in_err-mend_bounds-clause-mended : goal.returns-in_err-mend_bounds-clause-mended
 unfolding after
-returns-in_err-mend_bounds c =
-    mended_both _ _ (rw c.terms_in.ensures at c.in_err-mend_bounds.ensures) (handed_on c.from_residual.ensures.1)
+returns-in_err-mend_bounds-clause-mended c =
+    let v = c.view-given.ensures in
+    mended_both _ _ (rw (c.terms_in-terms.ensures, v.from, v.to) at c.in_err-mend_bounds.ensures) (handed_on c.from_residual.ensures.1)
 
-pub returns : goal.returns
+pub returns-clause-mended : goal.returns-clause-mended
 unfolding after
-returns c = mended_both _ _ (rw c.terms_in.ensures at c.in_ok-mend_bounds.ensures) c.check_ends.ensures
+returns-clause-mended c =
+    let v = c.view-given.ensures in
+    let w = c.view-mended.ensures in
+    mended_both _ _ (rw (c.terms_in-terms.ensures, v.from, v.to) at c.in_ok-mend_bounds.ensures) (rw (w.from, w.to) at c.check_ends.ensures)
