@@ -1,62 +1,53 @@
--- What a loop through the problems keeps, and one problem more of it: of lists of numbers, and of bytes.
+-- What a loop through the problems keeps, and one problem more of it.
 use mathlib.Core.Path.{◌≡◌, sym, ap, ◌∙◌}
-use mathlib.Core.List.{List}
 use Prim.Native.Nat.{ℕ, ◌+◌, ◌*◌}
 use native.Mathlib.Omega.{arith}
 use native.Mathlib.Numerals.{add-one}
-use lib.IntN.{ℤ}
-use lib.ListN.{length}
-use Rattle.tables.specs.Ranges.{greatest_order, table_room}
+use Rattle.tables.specs.Checks.{Checked}
 use Rattle.tables.specs.declared.problem.Constraint.{Constraint}
-use Rattle.sums.specs.Required.{sums_at, Rooms, stated, Stated}
-use Rattle.std.specs.Prelude.{Result}
-use Rattle.tables.specs.declared.Refusal.{Refusal}
+use Rattle.sums.specs.Running.{sums_in, stated_in, Leaving, SamePlace}
+use Rattle.sums.specs.declared.running.SumsMut.{SumsMut}
 use Rattle.sums.proofs.Fronts.{length_front}
 use Rattle.sums.proofs.Laying.{stated_by}
 use Rattle.pool.specs.Pool.{checked_pool}
 use Rattle.pool.specs.Passing.{next, passing}
-use Rattle.pool.specs.Required.{Ready}
+use Rattle.pool.specs.Required.{ReadyFor}
 use Rattle.pool.proofs.Passing.{passing_is, passing_ready}
 
--- ---- the lists: of these lengths, and scratch lists that have room for a problem
-pub record Long (l u a b : ℕ) (x y z w : List ℤ) : Type 0 where
-  pub low : length x ≡ l
-  pub high : length y ≡ u
-  pub from : length z ≡ a
-  pub to : length w ≡ b
+-- ---- the loop began with the answer d₀ and the sums at s₀, and went through k problems: whatever sums the pass began with
+pub record Going (p : ℕ → Constraint) (d₀ : Checked) (s₀ : SumsMut) (k : ℕ) (d : Checked) (s : SumsMut) : Type 0 where
+  pub place : SamePlace s₀ s
+  pub passed : (c : Constraint) → Leaving (passing c p 0) d₀ s₀ → Leaving (passing c p k) d s
 
-abbrev pub Scratch : List ℤ → List ℤ → List ℤ → List ℤ → Type 0
-Scratch = Long table_room table_room greatest_order greatest_order
+module _ {p : ℕ → Constraint} {d₀ : Checked} {s₀ : SumsMut} {k : ℕ} {d : Checked} {s : SumsMut} (g : Going p d₀ s₀ k d s) where
+  pub going_next : {q : Constraint} {r : Checked} {t : SumsMut} → q ≡ p k → SamePlace s t → Leaving (next q (stated_in d s)) r t →
+      Going p d₀ s₀ (k + 1) r t
+  unfolding passing
+  going_next e w st = record {
+    place = record {
+      order = w.order ∙ g.place.order;
+      low = w.low ∙ g.place.low;
+      high = w.high ∙ g.place.high;
+      from = w.from ∙ g.place.from;
+      to = w.to ∙ g.place.to;
+    };
+    passed = λ c f. rw add-one
+        (stated_by
+        (ap (λ (q : Constraint). next q (stated_in d s)) e ∙ ap (next (p k)) (sym (g.passed c f).outcome))
+        st);
+  }
 
--- ---- the pass begins with sums at the front of x, y, z and w
-pub record Begun (n : ℕ) (p : ℕ → Constraint) (x y z w : List ℤ) (α : ℤ) (d : Result ℤ Refusal) (l u a b : List ℤ) : Type 0 where
-  pub states : Stated n (passing (sums_at n x y z w α) p 0) d l u a b
+  -- the pass began with the sums at x
+  module _ (x : SumsMut) (o : Leaving (passing (sums_in x) p 0) d₀ s₀) where
+    pub stands : Leaving (passing (sums_in x) p k) d s
+    stands = g.passed (sums_in x) o
 
--- ---- the loop began with d₀, l₀, u₀, a₀ and b₀, and went through k problems: whatever sums the pass began with
-pub record Going (n : ℕ) (p : ℕ → Constraint) (d₀ : Result ℤ Refusal) (l₀ u₀ a₀ b₀ : List ℤ) (k : ℕ) (d : Result ℤ Refusal) (l u a b : List ℤ) : Type 0 where
-  pub sizes : Long (length l₀) (length u₀) (length a₀) (length b₀) l u a b
-  pub passed : (c : Constraint) → Stated n (passing c p 0) d₀ l₀ u₀ a₀ b₀ → Stated n (passing c p k) d l u a b
+    pub going_ready : ReadyFor d s
+    going_ready =
+        passing_ready (sums_in x) p k s (omega (arith, length_front (x.order * x.order) x.low.now))
+        (omega (arith, length_front (x.order * x.order) x.high.now))
+        stands
 
-module _ {n : ℕ} {p : ℕ → Constraint} {d₀ : Result ℤ Refusal} {l₀ u₀ a₀ b₀ : List ℤ} where
-  module _ {k : ℕ} {d : Result ℤ Refusal} {l u a b : List ℤ} (g : Going n p d₀ l₀ u₀ a₀ b₀ k d l u a b) where
-    pub going_next : {q : Constraint} {r : Result ℤ Refusal} {l' u' a' b' : List ℤ} → q ≡ p k → Long (length l) (length u) (length a) (length b) l' u' a' b' →
-        Stated n (next q (stated n d l u a b)) r l' u' a' b' → Going n p d₀ l₀ u₀ a₀ b₀ (k + 1) r l' u' a' b'
-    unfolding passing
-    going_next e w st = record {
-      sizes = record { low = w.low ∙ g.sizes.low; high = w.high ∙ g.sizes.high; from = w.from ∙ g.sizes.from; to = w.to ∙ g.sizes.to };
-      passed = λ c s. rw add-one (stated_by (ap (λ (q : Constraint). next q (stated n d l u a b)) e ∙ ap (next (p k)) (sym (g.passed c s).outcome)) st);
-    }
-
-    module _ {x y z w : List ℤ} {α : ℤ} (o : Begun n p x y z w α d₀ l₀ u₀ a₀ b₀) where
-      stands : Stated n (passing (sums_at n x y z w α) p k) d l u a b
-      stands = g.passed (sums_at n x y z w α) o.states
-
-      pub going_rooms : Rooms n l u a b
-      going_rooms = stands.rooms
-
-      pub going_ready : Ready n d l u a b
-      going_ready = passing_ready (sums_at n x y z w α) p k (omega (arith, length_front (n * n) x)) (omega (arith, length_front (n * n) y)) stands
-
-      -- all of them
-      pub going_whole : {m : ℕ} → k ≡ m → Stated n (checked_pool (sums_at n x y z w α) p m) d l u a b
-      going_whole {m} e = let c = sums_at n x y z w α in stated_by (ap (passing c p) e ∙ passing_is c p m) stands
+    -- all of them
+    pub going_whole : {m : ℕ} → k ≡ m → Leaving (checked_pool (sums_in x) p m) d s
+    going_whole {m} e = let c = sums_in x in stated_by (ap (passing c p) e ∙ passing_is c p m) stands

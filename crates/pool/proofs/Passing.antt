@@ -5,7 +5,6 @@ use mathlib.Core.Bool.{Bool, true, false, false≢true, ◌&&◌}
 use mathlib.Core.List.{List, [], ◌∷◌}
 use Prim.Native.Nat.{ℕ, zero, suc, ◌*◌, ◌≤◌, ◌<◌}
 use native.Mathlib.Omega.{arith}
-use lib.IntN.{ℤ}
 use lib.ListN.{length}
 use borrow.Author.Tests.{le-leb, lt-leb}
 use Rattle.tables.specs.Ranges.{limit_range}
@@ -15,17 +14,19 @@ use Rattle.tables.specs.Answers.{after}
 use Rattle.tables.specs.Problem.{mended_constraint}
 use Rattle.tables.specs.declared.Refusal.{Refusal}
 use Rattle.tables.specs.declared.Refusal.TheVariants.{Range, Crossed, Lopsided, Reversed, Full}
-use Rattle.std.specs.Prelude.{Result, Ok, Err}
+use Rattle.std.specs.Prelude.{Ok, Err}
 use Rattle.tables.specs.declared.problem.Constraint.{Constraint}
 use Rattle.tables.proofs.Answers.{after_is}
 use Rattle.sums.specs.Sums.{Outcome, terms_in, own_checks, plus, sums_within}
 use Rattle.sums.specs.Halving.{halved, fitted}
-use Rattle.sums.specs.Required.{stated, Stated}
+use Rattle.sums.specs.Required.{stated}
+use Rattle.sums.specs.Running.{stated_in, Leaving}
+use Rattle.sums.specs.declared.running.SumsMut.{SumsMut}
 use Rattle.sums.proofs.Checked.{mended-within}
 use Rattle.sums.proofs.Explained.{fitted_by}
 use Rattle.pool.specs.Pool.{of_both, pool_checks, added_next, pooled, checked_pool}
 use Rattle.pool.specs.Passing.{place, earlier, refused_by, passed_on, next, passing}
-use Rattle.pool.specs.Required.{Ready}
+use Rattle.pool.specs.Required.{ReadyFor}
 
 -- ---- the refusal that is asked first
 module _ (r s : Refusal) where
@@ -225,9 +226,9 @@ module _ (c : Constraint) (p : ℕ → Constraint) where
       (pooled-holds (λ d. d.order ≡ c.order) m refl (λ k h d w. fitted_by (Holds (λ d. d.order ≡ c.order)) (mended_constraint (p k)) d (λ e. w) (λ e. w) refl))
 
   -- so the code may go on with what it states
-  pub passing_ready : (m : ℕ) {n : ℕ} {r : Result ℤ Refusal} {l u a b : List ℤ} → c.order * c.order ≤ length c.low → c.order * c.order ≤ length c.high →
-      Stated n (passing c p m) r l u a b → Ready n r l u a b
+  pub passing_ready : (m : ℕ) {r : Checked} (s : SumsMut) → c.order * c.order ≤ length c.low → c.order * c.order ≤ length c.high →
+      Leaving (passing c p m) r s → ReadyFor r s
   unfolding stated
-  passing_ready m {n} {r} {l} {u} {a} {b} h k st = record {
-    ranged = λ α e. record { rooms = st.rooms; within = passing-within m h k (st.outcome ∙ ap (λ (r : Result ℤ Refusal). stated n r l u a b) e) };
+  passing_ready m {r} s h k st = record {
+    ranged = λ e. record { rooms = st.rooms; within = passing-within m h k (st.outcome ∙ ap (λ (r : Checked). stated_in r s) e) };
   }

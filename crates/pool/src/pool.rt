@@ -14,6 +14,7 @@ use crate::entering::{check_entry, count_of};
 use crate::lists::Lists;
 use crate::loading::{Problems, pool_all};
 use sums::copying::copy_sums;
+use sums::running::{SumsMut, SumsRef};
 use tables::entering::order;
 use tables::problem::lengths_of;
 use tables::{GREATEST_ORDER, Refusal, TABLE_ROOM};
@@ -33,21 +34,13 @@ impl Problems for Lists<'_, i64> {
 
     ghost problem = { λ q n count. problem_at n (problems_in q) };
 
-    fn load(
-        &self,
-        n: usize,
-        count: usize,
-        k: usize,
-        l: &mut [i64],
-        u: &mut [i64],
-        a: &mut [i64],
-        b: &mut [i64],
-    ) -> i64 {
-        copy_part(n * n, k * (n * n), self.lows, l);
-        copy_part(n * n, k * (n * n), self.highs, u);
-        copy_part(n, k * n, self.froms, a);
-        copy_part(n, k * n, self.tos, b);
-        self.limits[k]
+    fn load(&self, count: usize, k: usize, out: &mut SumsMut) {
+        let n = out.order;
+        copy_part(n * n, k * (n * n), self.lows, out.low);
+        copy_part(n * n, k * (n * n), self.highs, out.high);
+        copy_part(n, k * n, self.froms, out.from);
+        copy_part(n, k * n, self.tos, out.to);
+        out.limit = self.limits[k];
     }
 }
 
@@ -91,10 +84,33 @@ fn pool_lists(
     let mut u = [0i64; TABLE_ROOM];
     let mut a = [0i64; GREATEST_ORDER];
     let mut b = [0i64; GREATEST_ORDER];
-    copy_sums(n, low, high, from, to, &mut l, &mut u, &mut a, &mut b);
-    let sum = pool_all(n, count, &lists, limit[0], &mut l, &mut u, &mut a, &mut b)?;
-    copy_sums(n, &l, &u, &a, &b, low, high, from, to);
-    limit[0] = sum;
+    let mut sums = SumsMut {
+        order: n,
+        low: &mut l,
+        high: &mut u,
+        from: &mut a,
+        to: &mut b,
+        limit: 0,
+    };
+    let given = SumsRef {
+        low,
+        high,
+        from,
+        to,
+        limit: limit[0],
+    };
+    copy_sums(given, &mut sums);
+    pool_all(count, &lists, &mut sums)?;
+    let mut lent = SumsMut {
+        order: n,
+        low,
+        high,
+        from,
+        to,
+        limit: 0,
+    };
+    copy_sums(sums.view(), &mut lent);
+    limit[0] = lent.limit;
     Ok(())
 }
 

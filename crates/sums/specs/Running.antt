@@ -4,7 +4,7 @@ use Rattle.tables.specs.Ranges.{greatest_order}
 use Rattle.tables.specs.Checks.{Checked}
 use Rattle.tables.specs.declared.problem.Constraint.{Constraint}
 use Rattle.sums.specs.Sums.{Outcome}
-use Rattle.sums.specs.Required.{sums_at, Rooms, Ranged, Sums, Stated, Tried}
+use Rattle.sums.specs.Required.{sums_at, Rooms, Ranged, Sums, stated, Stated, Tried}
 use Rattle.sums.specs.declared.running.SumsMut.{SumsMut}
 use Rattle.sums.specs.declared.running.SumsRef.{SumsRef}
 
@@ -37,6 +37,10 @@ pub record SameTerms (s t : SumsMut) : Type 0 where
   pub from : t.from.now ≡ s.from.now
   pub to : t.to.now ≡ s.to.now
   pub limit : t.limit ≡ s.limit
+
+-- what an answer says of the sums there
+abbrev pub stated_in : Checked → SumsMut → Outcome
+stated_in r s = stated s.order r s.low.now s.high.now s.from.now s.to.now s.limit
 
 -- an act leaves the sums of an outcome there, or answers its refusal
 abbrev pub Leaving : Outcome → Checked → SumsMut → Type 0

@@ -10,7 +10,7 @@ ghost use Rattle.sums.specs.Required.{FrontWithin};
 ghost use Rattle.sums.specs.Running.{sums_in, sums_behind, InRanges, BehindInRanges, Standing, SamePlace, Trying, Leaving};
 
 use crate::halving::halve;
-use crate::running::{SumsRef, SumsMut};
+use crate::running::{SumsMut, SumsRef};
 use tables::{ENTRY_RANGE, LIMIT_RANGE, LINEAR_RANGE, Refusal, within};
 
 // Whether the first numbers of x, count of them, each with that of g added, are within the bound.

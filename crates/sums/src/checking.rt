@@ -7,8 +7,8 @@ ghost use Rattle.tables.specs.Problem.{constraint_of};
 ghost use Rattle.sums.specs.Sums.{sums_checks};
 ghost use Rattle.sums.specs.Running.{Roomy, SamePlace, SameTerms};
 
-use tables::bounded::Handed;
 use crate::running::SumsMut;
+use tables::bounded::Handed;
 use tables::mending::mend_bounds;
 use tables::{Refusal, check_bounds, check_ends, linear_within};
 

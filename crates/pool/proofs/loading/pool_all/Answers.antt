@@ -1,39 +1,36 @@
-use mathlib.Core.Path.{◌∙◌}
+use mathlib.Core.Path.{sym, ◌∙◌}
 use native.Mathlib.Omega.{arith}
-use Rattle.integers.proofs.Machine.{clean, clean_element}
+use Rattle.sums.specs.Running.{sums_in, Leaving}
 use Rattle.pool.specs.Passing.{passing}
-use Rattle.pool.proofs.Going.{Scratch, Begun, going_next, going_rooms, going_ready, going_whole}
+use Rattle.pool.proofs.Going.{stands, going_next, going_ready, going_whole}
 use Rattle.pool.proofs.loading.pool_all.Goals as goal
-use Rattle.pool.proofs.loading.pool_all.Goals.{After-begin-done, After-load-limit}
+use Rattle.pool.proofs.loading.pool_all.Goals.{After-begin-done}
 
 -- what is begun with
-first : (g : _) (c : After-begin-done g) → let a = c.args in
-    let o = c.begin-done.new in
-    let p = g.P.Problems.problem a.problems.now a.n a.count in
-    Begun a.n p a.l.now a.u.now a.a.now a.b.now a.running c.begin-done.result o.l o.u a.a.now a.b.now
+first : (g : _) (c : After-begin-done g) → let o = c.begin-done.new.sums in
+    Leaving (passing (sums_in c.args.sums.now) (g.P.Problems.problem c.args.problems.now o.order c.args.count) 0) c.begin-done.result o
 unfolding passing
-first g c = record { states = rw (clean c.ranges.running) at c.begin-done.ensures }
-
--- the scratch lists of a problem that is loaded
-scratch : (g : _) (c : After-load-limit g) → let o = c.load-limit.new in Scratch o.l o.u o.a o.b
-scratch g c =
-    let k = c.load-limit.auto in
-    let w = c.loop-k.invariant.0 in
-    record { low = k.l ∙ w.low; high = k.u ∙ w.high; from = k.a ∙ w.from; to = k.b ∙ w.to }
+first g c = c.begin-done.ensures.sums
 
 pub add_problem-done-requires : goal.add_problem-done-requires
 add_problem-done-requires g c =
     let f = first g (goal.at.add_problem-done-requires g c).After-begin-done in
-    (c.requires.0, c.load-limit.ensures.rooms, going_rooms c.loop-k.invariant.1 f, going_ready c.loop-k.invariant.1 f)
+    let i = c.loop-k.invariant in
+    let o = c.load.ensures.place.order in (
+      (omega (arith, o, i.1.0), c.load.ensures.problem.rooms),
+      (omega (arith, i.2.place.order, c.begin-done.ensures.place.order, c.requires.0.0), (stands i.2 c.args.sums.now f).rooms),
+      o ∙ i.0 ∙ sym i.2.place.order,
+      going_ready i.2 c.args.sums.now f,
+    )
 
 pub loop-k-preserved : goal.loop-k-preserved
 loop-k-preserved g c =
-    let m = c.add_problem-done.auto in
-    let w = scratch g (goal.at.loop-k-preserved g c).After-load-limit in (
-      record { low = m.pl ∙ w.low; high = m.pu ∙ w.high; from = w.from; to = w.to },
-      going_next c.loop-k.invariant.1 c.load-limit.ensures.sums (record { low = m.l; high = m.u; from = m.a; to = m.b })
-          (rw (clean_element c.load-limit.result c.load-limit.type_inv) at c.add_problem-done.ensures.0),
-    )
+    let i = c.loop-k.invariant in
+    let m = c.add_problem-done.ensures in
+    (m.problem.order ∙ c.load.ensures.place.order ∙ i.0, m.rooms, going_next i.2 (rw i.0 at c.load.ensures.problem.sums) m.place m.sums)
 
-pub returns : goal.returns
-returns g c = going_whole c.loop-k.invariant.1 (first g (goal.at.returns g c).After-begin-done) (omega arith)
+pub returns-clause-sums : goal.returns-clause-sums
+returns-clause-sums g c =
+    let f = first g (goal.at.returns-clause-sums g c).After-begin-done in
+    let whole = going_whole c.loop-k.invariant.2 c.args.sums.now f {m = c.args.count} (omega arith) in
+    rw c.begin-done.ensures.place.order at whole
