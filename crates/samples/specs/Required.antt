@@ -2,9 +2,6 @@
 use Rattle.std.specs.Prelude.{◌≡◌, List, ℕ, ◌*◌, ◌^◌, ◌<◌, ℤ, length}
 use Rattle.integers.specs.Numbers.{Within}
 use Rattle.tables.specs.Matrix.{nth}
-use Rattle.tables.specs.Problem.{constraint_of}
-use Rattle.tables.specs.declared.problem.Constraint.{Constraint}
-use Rattle.sums.specs.declared.running.SumsMut.{SumsMut}
 use Rattle.samples.specs.declared.sample.Measures.{Measures}
 use Rattle.samples.specs.Samples.{factor_count, number_count, lows_of, highs_of}
 
@@ -28,11 +25,3 @@ pub record Arrays (l u a b : List ℤ) : Type 0 where
   pub high : length u ≡ factor_count * factor_count
   pub linear_low : length a ≡ factor_count
   pub linear_high : length b ≡ factor_count
-
--- sums of a sample's order in slices of these sizes
-abbrev pub Sized : SumsMut → Type 0
-Sized s = (s.order ≡ factor_count) × Arrays s.low.now s.high.now s.from.now s.to.now
-
--- the sums there
-abbrev pub whole_sums : SumsMut → Constraint
-whole_sums s = constraint_of factor_count s.low.now s.high.now s.from.now s.to.now s.limit

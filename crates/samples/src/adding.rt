@@ -3,11 +3,11 @@ ghost use Rattle.std.specs.Prelude.{◌≡◌, ◌*◌, ◌<◌, pos, ◌-ℤ◌
 ghost use Rattle.tables.specs.Matrix.{table, tabulate};
 ghost use Rattle.tables.specs.Problem.{constraint_of};
 ghost use Rattle.tables.specs.declared.problem.Constraint.{Constraint};
-ghost use Rattle.sums.specs.Running.{SamePlace, Leaving};
+ghost use Rattle.sums.specs.Running.{sums_in, Roomy, SamePlace, Leaving};
 ghost use Rattle.samples.specs.Samples.{factor_count, number_count, between, factor_of};
 ghost use Rattle.samples.specs.Gains.{product_ends, least_product, greatest_product, least_square, gains};
 ghost use Rattle.samples.specs.Gathering.{checked_sums};
-ghost use Rattle.samples.specs.Required.{NumbersNear, MeasuresNear, Arrays, Sized, whole_sums};
+ghost use Rattle.samples.specs.Required.{NumbersNear, MeasuresNear, Arrays};
 
 use crate::sample::{FACTOR_COUNT, Factors, Measures, Numbers, PRODUCT_COUNT, Products};
 use floats::Neighbours;
@@ -105,9 +105,9 @@ fn lay_gains(
 // Checks 3, 4, 5 and 16 of sums of a sample's order; then their bounds are mended (R2.10) and the sample is added, with at most one halving
 // (R23.6), all in place.
 pub fn add_checked(m: Measures, sums: &mut SumsMut) -> Result<(), Refusal>
-    requires { MeasuresNear m × Sized sums.old }
+    requires { MeasuresNear m × (sums.old.order ≡ factor_count) × Roomy sums.old }
     ensures place { SamePlace sums.old sums.new }
-    ensures sums { Leaving (checked_sums (factor_of m) m.draw (whole_sums sums.old)) result sums.new }
+    ensures sums { Leaving (checked_sums (factor_of m) m.draw (sums_in sums.old)) result sums.new }
 {
     let within = within(sums.limit, LIMIT_RANGE);
     mend_sums(sums, within)?;

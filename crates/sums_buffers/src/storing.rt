@@ -1,59 +1,64 @@
 // Running sums of any order, from buffers of bytes to arrays and back.
-ghost use Rattle.std.specs.Prelude.{◌≡◌, ◌*◌, ◌≤◌};
+ghost use Rattle.std.specs.Prelude.{◌≡◌, ◌*◌, length};
 ghost use Rattle.std.specs.Int.{w64};
+ghost use mir.Val.{bytes};
 ghost use Rattle.words.specs.Numbers.{bytes_of};
-ghost use Rattle.tables.specs.Ranges.{greatest_order};
-ghost use Rattle.sums.specs.Required.{front, Rooms};
-ghost use Rattle.buffers.specs.Buffers.{table_of, vector_of};
-ghost use Rattle.sums_buffers.specs.SumsBuffers.{SumsBytes};
+ghost use Rattle.sums.specs.Running.{sums_in, Roomy, Standing, SamePlace};
+ghost use Rattle.buffers.specs.Buffers.{bytes_of_number};
+ghost use Rattle.sums_buffers.specs.SumsBuffers.{SumsBytes, spelled_sums};
 
-use words::{SIZE, load_numbers, store_numbers};
+use sums::running::SumsMut;
+use words::{SIZE, load_numbers, load_signed, store_numbers, store_signed};
 
-// The bounds and linear terms of order n that four buffers spell, to the front of arrays.
+// Running sums of the order of `out` that five buffers spell, to where sums of that order stand. Inlined, so that its loops are compiled with
+// the sizes of an order that is known.
+#[inline]
 pub fn load_sums(
-    n: usize,
     low: &[u8],
     high: &[u8],
     from: &[u8],
     to: &[u8],
-    l: &mut [i64],
-    u: &mut [i64],
-    a: &mut [i64],
-    b: &mut [i64],
+    limit: &[u8],
+    out: &mut SumsMut,
 )
-    requires { (n ≤ greatest_order) × SumsBytes n low.now high.now from.now to.now
-        × Rooms n l.old u.old a.old b.old }
-    ensures { (front (n * n) l.new ≡ table_of n low.now)
-        × (front (n * n) u.new ≡ table_of n high.now)
-        × (front n a.new ≡ vector_of n from.now) × (front n b.new ≡ vector_of n to.now) }
+    requires { Roomy out.old × SumsBytes out.old.order low.now high.now from.now to.now × (length limit.now ≡ bytes w64) }
+    ensures place { SamePlace out.old out.new }
+    ensures sums { Standing (spelled_sums out.old.order (record {
+      low = low.now;
+      high = high.now;
+      from = from.now;
+      to = to.now;
+      limit = limit.now;
+    })) out.new }
 {
-    load_numbers(low, l, n * n, SIZE);
-    load_numbers(high, u, n * n, SIZE);
-    load_numbers(from, a, n, SIZE);
-    load_numbers(to, b, n, SIZE);
+    let n = out.order;
+    load_numbers(low, out.low, n * n, SIZE);
+    load_numbers(high, out.high, n * n, SIZE);
+    load_numbers(from, out.from, n, SIZE);
+    load_numbers(to, out.to, n, SIZE);
+    out.limit = load_signed(limit, 0, SIZE);
 }
 
-// The bounds and linear terms of order n at the front of arrays, into four buffers of their sizes.
+// Running sums into five buffers of the sizes of their order.
 pub fn store_sums(
-    n: usize,
-    l: &[i64],
-    u: &[i64],
-    a: &[i64],
-    b: &[i64],
+    sums: &SumsMut,
     low: &mut [u8],
     high: &mut [u8],
     from: &mut [u8],
     to: &mut [u8],
+    limit: &mut [u8],
 )
-    requires { (n ≤ greatest_order) × Rooms n l.now u.now a.now b.now
-        × SumsBytes n low.old high.old from.old to.old }
-    ensures { (low.new ≡ bytes_of w64 (front (n * n) l.now) (n * n))
-        × (high.new ≡ bytes_of w64 (front (n * n) u.now) (n * n))
-        × (from.new ≡ bytes_of w64 (front n a.now) n)
-        × (to.new ≡ bytes_of w64 (front n b.now) n) }
+    requires { Roomy sums.now × SumsBytes sums.now.order low.old high.old from.old to.old × (length limit.old ≡ bytes w64) }
+    ensures low { low.new ≡ bytes_of w64 (sums_in sums.entry.now).low (sums.entry.now.order * sums.entry.now.order) }
+    ensures high { high.new ≡ bytes_of w64 (sums_in sums.entry.now).high (sums.entry.now.order * sums.entry.now.order) }
+    ensures from { from.new ≡ bytes_of w64 (sums_in sums.entry.now).linear.low sums.entry.now.order }
+    ensures to { to.new ≡ bytes_of w64 (sums_in sums.entry.now).linear.high sums.entry.now.order }
+    ensures limit { limit.new ≡ bytes_of_number sums.entry.now.limit }
 {
-    store_numbers(l, low, n * n, SIZE);
-    store_numbers(u, high, n * n, SIZE);
-    store_numbers(a, from, n, SIZE);
-    store_numbers(b, to, n, SIZE);
+    let n = sums.order;
+    store_numbers(sums.low, low, n * n, SIZE);
+    store_numbers(sums.high, high, n * n, SIZE);
+    store_numbers(sums.from, from, n, SIZE);
+    store_numbers(sums.to, to, n, SIZE);
+    store_signed(limit, 0, SIZE, sums.limit);
 }

@@ -9,22 +9,21 @@ use Rattle.std.proofs.Common.{rules}
 use Rattle.integers.proofs.Machine.{clean_element}
 use Rattle.tables.specs.Matrix.{nth, tabulate}
 use Rattle.tables.specs.Checks.{Checked, order_ok, order_of}
-use Rattle.tables.specs.Problem.{constraint_of, lengths_of, constraint_entered}
+use Rattle.tables.specs.Problem.{lengths_of, constraint_entered}
 use Rattle.tables.proofs.Answers.{handed_on}
 use Rattle.tables.proofs.Admission.{no-order, no-sizes, order-passed, order-refused}
 use Rattle.tables.proofs.Buffers.{copied-whole, copied_all}
-use Rattle.std.specs.Prelude.{Result, Err}
+use Rattle.std.specs.Prelude.{Err}
 use Rattle.sums.specs.Sums.{Outcome}
 use Rattle.sums.specs.Lent.{Lent, Left, laid_sums, sums_of}
-use Rattle.sums.specs.Required.{Stated}
-use Rattle.tables.specs.declared.Refusal.{Refusal}
+use Rattle.sums.specs.Required.{sums_at, Stated}
 use Rattle.sums.proofs.Fronts.{constraint_by}
 use Rattle.sums.proofs.Laying.{set-one, stated_by, laid-taken, laid-refused}
 use Rattle.samples.specs.Samples.{factor_count, factor_of}
 use Rattle.samples.specs.Gathering.{sums_sized, checked_sums, entered_sums}
 use Rattle.samples.specs.Required.{Arrays}
 use Rattle.samples.specs.declared.sample.Measures.{Measures}
-use Rattle.samples.proofs.Laid.{arrays_rooms}
+use Rattle.samples.proofs.Laid.{arrays_front, arrays_rooms}
 use Rattle.rides.proofs.Laying.{SumsSizes, order_given, sums-sizes-of, sums-sized}
 use Rattle.rides.proofs.gather.gather_measured.Goals as goal
 use Rattle.rides.proofs.gather.gather_measured.Goals.{Start, Else-not-sums_sized, After-copy_sums, After-add_checked}
@@ -72,12 +71,12 @@ module _ (n : ℤ) (b : Lent (List ℤ)) (sized : sizes n b ≡ true) where
     arrays = rw (copies.0, copies.1, copies.2, copies.3) lying
 
     states : (m : Measures) → order_ok n ≡ true → {α : ℤ} {r : Checked} {l' u' f' t' : List ℤ} {α' : ℤ} → α ≡ nth b.limit 0 →
-        Stated factor_count (checked_sums (factor_of m) m.draw (constraint_of factor_count l u f t α)) r l' u' f' t' α' →
+        Stated factor_count (checked_sums (factor_of m) m.draw (sums_at factor_count l u f t α)) r l' u' f' t' α' →
         Stated factor_count (whole m n b) r l' u' f' t' α'
     states m o e =
         let F = factor_of m in
         stated_by
-        (ap (checked_sums F m.draw) (constraint_by copies.0 copies.1 copies.2 copies.3 e)
+        (ap (checked_sums F m.draw) (arrays_front arrays _ ∙ constraint_by copies.0 copies.1 copies.2 copies.3 e)
         ∙ ap (λ (k : ℕ). checked_sums F m.draw (sums_of k b)) (sym lengths.order)
         ∙ sums-sized F m.draw n (sizes n b) (sums_of (order_of n) b) o sized refl)
 
@@ -103,7 +102,7 @@ summed c =
     let b = lent p.Start in
     let order = c.add_checked.ensures.place.order ∙ c.copy_sums.ensures.place.order in
     states c.args.n b (sized p.Else-not-sums_sized) (laid p.After-copy_sums) c.args.m (order-passed c.ranges.n c.in_ok-order.ensures).1
-    (c.copy_sums.ensures.copied.limit ∙ clean_element (nth b.limit 0) (omega arith)) (rw order at c.add_checked.ensures.sums)
+    (c.copy_sums.ensures.copied.limit ∙ clean_element (nth b.limit 0) (omega arith)) (rw (order, c.copy_sums.ensures.place.order) at c.add_checked.ensures.sums)
 
 pub returns-in_err-order : goal.returns-in_err-order
 unfolding constraint_entered
@@ -133,7 +132,9 @@ copy_sums-requires c =
 pub add_checked-requires : goal.add_checked-requires
 add_checked-requires c =
     let p = goal.at.add_checked-requires c in
-    (c.requires, (c.copy_sums.ensures.place.order, arrays c.args.n (lent p.Start) (sized p.Else-not-sums_sized) (laid p.After-copy_sums)))
+    let order = c.copy_sums.ensures.place.order in
+    let rooms = arrays_rooms (arrays c.args.n (lent p.Start) (sized p.Else-not-sums_sized) (laid p.After-copy_sums)) in
+    (c.requires, order, rw order (omega arith, rooms))
 
 pub returns-in_err-add_checked : goal.returns-in_err-add_checked
 returns-in_err-add_checked c =
