@@ -17,11 +17,12 @@ use pool::GREATEST_POOL;
 use pool::entering::{check_entry, count_of};
 use pool::lists::Lists;
 use pool::loading::{Problems, pool_all};
+use sums::running::SumsMut;
 use sums_buffers::storing::{load_sums, store_sums};
 use tables::entering::order;
 use tables::problem::lengths_of;
 use tables::{GREATEST_ORDER, Refusal, TABLE_ROOM};
-use words::{SIZE, load_numbers, load_signed, store_signed};
+use words::{SIZE, load_numbers, load_signed};
 
 // Numbers of x, count of them from number `first` on, to the front of out.
 fn load_part(count: usize, first: usize, x: &[u8], out: &mut [i64])
@@ -46,21 +47,13 @@ impl Problems for Spelled<'_> {
 
     ghost problem = { λ q n count. spelled_problems n count (problems_in q.lists) };
 
-    fn load(
-        &self,
-        n: usize,
-        count: usize,
-        k: usize,
-        l: &mut [i64],
-        u: &mut [i64],
-        a: &mut [i64],
-        b: &mut [i64],
-    ) -> i64 {
-        load_part(n * n, k * (n * n), self.lists.lows, l);
-        load_part(n * n, k * (n * n), self.lists.highs, u);
-        load_part(n, k * n, self.lists.froms, a);
-        load_part(n, k * n, self.lists.tos, b);
-        load_signed(self.lists.limits, k * SIZE, SIZE)
+    fn load(&self, count: usize, k: usize, out: &mut SumsMut) {
+        let n = out.order;
+        load_part(n * n, k * (n * n), self.lists.lows, out.low);
+        load_part(n * n, k * (n * n), self.lists.highs, out.high);
+        load_part(n, k * n, self.lists.froms, out.from);
+        load_part(n, k * n, self.lists.tos, out.to);
+        out.limit = load_signed(self.lists.limits, k * SIZE, SIZE);
     }
 }
 
@@ -104,12 +97,17 @@ fn pool_lists(
     let mut u = [0i64; TABLE_ROOM];
     let mut a = [0i64; GREATEST_ORDER];
     let mut b = [0i64; GREATEST_ORDER];
-    load_sums(n, low, high, from, to, &mut l, &mut u, &mut a, &mut b);
-    let running = load_signed(limit, 0, SIZE);
-    let problems = Spelled { lists };
-    let sum = pool_all(n, count, &problems, running, &mut l, &mut u, &mut a, &mut b)?;
-    store_sums(n, &l, &u, &a, &b, low, high, from, to);
-    store_signed(limit, 0, SIZE, sum);
+    let mut sums = SumsMut {
+        order: n,
+        low: &mut l,
+        high: &mut u,
+        from: &mut a,
+        to: &mut b,
+        limit: 0,
+    };
+    load_sums(low, high, from, to, limit, &mut sums);
+    pool_all(count, &Spelled { lists }, &mut sums)?;
+    store_sums(&sums, low, high, from, to, limit);
     Ok(())
 }
 
