@@ -9,7 +9,7 @@ use Rattle.tables.specs.Matrix.{nth, tabulate}
 use Rattle.tables.proofs.Matrix.{nth-tabulate}
 use Rattle.text.specs.Text.{space, decimal, numbers, line, lines}
 
-numbers_ext : (f g : ℕ → ℤ) (n : ℕ) → ((k : ℕ) → k < n → f k ≡ g k) → numbers f n ≡ numbers g n
+pub numbers_ext : (f g : ℕ → ℤ) (n : ℕ) → ((k : ℕ) → k < n → f k ≡ g k) → numbers f n ≡ numbers g n
 unfolding numbers
 numbers_ext f g zero h = refl
 numbers_ext f g (suc n) h =

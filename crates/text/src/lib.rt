@@ -55,14 +55,13 @@ fn put_decimal(out: &mut [u8], at: usize, v: i64) -> usize
     put_natural(out, next, words::magnitude(v))
 }
 
-// The numbers of x from the place first on, count of them, each behind a space.
-fn put_numbers(out: &mut [u8], at: usize, x: &[i64], first: usize, count: usize) -> usize
-    requires { (at + count * spaced ≤ length out.old) × (first + count ≤ length x.now) }
-    ensures { Put out.old at (numbers (λ k. nth x.now (first + k)) count) (count * spaced)
-        result out.new }
+// Numbers, each behind a space.
+fn put_numbers(out: &mut [u8], at: usize, x: &[i64]) -> usize
+    requires { at + length x.now * spaced ≤ length out.old }
+    ensures { Put out.old at (numbers (nth x.now) (length x.now)) (length x.now * spaced) result out.new }
 {
     let mut next = at;
-    for v in &x[first..first + count] {
+    for v in x {
         let from = put(out, next, 32);
         next = put_decimal(out, from, *v);
     }
@@ -83,7 +82,7 @@ pub fn put_line(
         (line_room (length word.now) count) result out.new }
 {
     let behind = put_text(out, at, word);
-    let next = put_numbers(out, behind, x, first, count);
+    let next = put_numbers(out, behind, &x[first..first + count]);
     put(out, next, 10)
 }
 
