@@ -144,16 +144,9 @@ pub fn mend_problem(problem: Problem) -> Result<Problem, Refusal>
 {
     let mut constraint = problem.constraint;
     let n = constraint.order;
-    let linear = constraint.linear;
-    let centre = problem.centre;
-    let within = tables::sized_within(
-        n,
-        true,
-        &linear.low,
-        &linear.high,
-        constraint.limit,
-        &centre,
-    );
+    let linear = &problem.constraint.linear;
+    let limit = constraint.limit;
+    let within = tables::sized_within(n, true, &linear.low, &linear.high, limit, &problem.centre);
     check_laid(n, within, &mut constraint.low, &mut constraint.high)?;
     tables::check_ends(n, &linear.low, &linear.high)?;
     Ok(Problem {
