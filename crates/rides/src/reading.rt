@@ -3,9 +3,11 @@ ghost use Rattle.std.specs.Prelude.{◌≡◌, ◌*◌, ◌≤◌, length};
 ghost use Rattle.tables.specs.Ranges.{greatest_order};
 ghost use Rattle.tables.specs.Checks.{order_of};
 ghost use Rattle.tables.specs.Problem.{constraint_of, lengths_of, constraint_sized};
+ghost use Rattle.sums.specs.Running.{BehindRoomy};
 ghost use Rattle.rides.specs.Reading.{limits_in, checked_reading, read_sums, ReadingMeaning};
 
 use sums::checking::check_sums;
+use sums::running::SumsRef;
 use tables::entering::order;
 use tables::problem::{Sizes, constraint_sized, lengths_of};
 use tables::{LIMIT_RANGE, Refusal, within};
@@ -30,21 +32,13 @@ fn limits_in(allowance: i64, running: i64) -> bool
 }
 
 // Checks 3, 4, 5 and 16 of sums of order n, and the limit.
-pub fn read_checked(
-    n: usize,
-    low: &[i64],
-    high: &[i64],
-    from: &[i64],
-    to: &[i64],
-    running: i64,
-    allowance: i64,
-) -> Result<i64, Refusal>
-    requires { (n ≤ greatest_order) × (n * n ≤ length low.now) × (n * n ≤ length high.now) × (n ≤ length from.now)
-        × (n ≤ length to.now) }
-    ensures { result ≡ checked_reading allowance (constraint_of n low.now high.now from.now to.now running) }
+pub fn read_checked(n: usize, sums: SumsRef, allowance: i64) -> Result<i64, Refusal>
+    requires { (n ≤ greatest_order) × BehindRoomy n sums }
+    ensures { result ≡ checked_reading allowance (constraint_of n sums.entry.low.now sums.entry.high.now sums.entry.from.now
+        sums.entry.to.now sums.entry.limit) }
 {
-    check_sums(n, limits_in(allowance, running), low, high, from, to)?;
-    Ok(allowance + running)
+    check_sums(n, limits_in(allowance, sums.limit), sums)?;
+    Ok(allowance + sums.limit)
 }
 
 // Reads running sums of any order with an allowance, of any numbers at all: the limit of the problem that they are, whose bounds and linear
@@ -73,5 +67,12 @@ pub fn read_sums(
     if !constraint_sized(sizes, lengths) {
         return Err(Refusal::Length);
     }
-    read_checked(m, low, high, from, to, running, allowance)
+    let sums = SumsRef {
+        low,
+        high,
+        from,
+        to,
+        limit: running,
+    };
+    read_checked(m, sums, allowance)
 }

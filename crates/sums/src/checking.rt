@@ -5,9 +5,9 @@ ghost use Rattle.tables.specs.Checks.{first_refusal, linear_within};
 ghost use Rattle.tables.specs.Entering.{Mended};
 ghost use Rattle.tables.specs.Problem.{constraint_of};
 ghost use Rattle.sums.specs.Sums.{sums_checks};
-ghost use Rattle.sums.specs.Running.{Roomy, SamePlace, SameTerms};
+ghost use Rattle.sums.specs.Running.{Roomy, BehindRoomy, SamePlace, SameTerms};
 
-use crate::running::SumsMut;
+use crate::running::{SumsMut, SumsRef};
 use tables::bounded::Handed;
 use tables::mending::mend_bounds;
 use tables::{Refusal, check_bounds, check_ends, linear_within};
@@ -21,26 +21,18 @@ fn terms_in(n: usize, limits: bool, from: &[i64], to: &[i64]) -> bool
 }
 
 // Checks 3, 4, 5 and 16 of sums of order n.
-pub fn check_sums(
-    n: usize,
-    limits: bool,
-    low: &[i64],
-    high: &[i64],
-    from: &[i64],
-    to: &[i64],
-) -> Result<(), Refusal>
-    requires { (n ≤ greatest_order) × (n * n ≤ length low.now) × (n * n ≤ length high.now) × (n ≤ length from.now)
-        × (n ≤ length to.now) }
-    ensures { result ≡ first_refusal (sums_checks limits (constraint_of n low.now high.now from.now
-        to.now (pos 0))) }
+pub fn check_sums(n: usize, limits: bool, sums: SumsRef) -> Result<(), Refusal>
+    requires { (n ≤ greatest_order) × BehindRoomy n sums }
+    ensures { result ≡ first_refusal (sums_checks limits (constraint_of n sums.entry.low.now sums.entry.high.now sums.entry.from.now
+        sums.entry.to.now (pos 0))) }
 {
     let bounds = Handed {
         order: n,
-        low,
-        high,
+        low: sums.low,
+        high: sums.high,
     };
-    check_bounds(terms_in(n, limits, from, to), bounds)?;
-    check_ends(n, from, to)
+    check_bounds(terms_in(n, limits, sums.from, sums.to), bounds)?;
+    check_ends(n, sums.from, sums.to)
 }
 
 // The same checks of sums that are lent for writing, and where they pass the bounds mended in place (R2.10).

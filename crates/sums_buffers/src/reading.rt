@@ -10,6 +10,7 @@ ghost use Rattle.sums_buffers.specs.SumsBuffers.{read_buffers, ReadOut, stored_l
 
 use buffers::entering::{load_bounds, load_terms};
 use rides::reading::read_checked;
+use sums::running::SumsRef;
 use tables::entering::order;
 use tables::problem::{Lengths, Sizes, constraint_sized, lengths_of};
 use tables::{GREATEST_ORDER, Refusal, TABLE_ROOM};
@@ -56,7 +57,14 @@ pub fn read_sums(
     let mut l = [0i64; TABLE_ROOM];
     let mut u = [0i64; TABLE_ROOM];
     load_bounds(m, sized, low, high, &mut l, &mut u);
-    let alpha = read_checked(m, &l, &u, &a, &b, running, allowance)?;
+    let sums = SumsRef {
+        low: &l,
+        high: &u,
+        from: &a,
+        to: &b,
+        limit: running,
+    };
+    let alpha = read_checked(m, sums, allowance)?;
     words::store_signed(limit, 0, SIZE, alpha);
     Ok(alpha)
 }

@@ -58,7 +58,15 @@ read_checked-requires c =
     let order = (order-passed c.ranges.n c.in_ok-m.ensures).0 in
     let sized = rw (c.lengths_of-lengths.ensures, order) at c.constraint_sized.ensures in
     let z = constraint_sizes-of _ _ (sym sized ∙ c.if-not-constraint_sized.false) in
-    rw order (order_small _, omega (arith, z.0), omega (arith, z.1), omega (arith, z.2), omega (arith, z.3))
+    rw order (
+      order_small _,
+      record {
+        low = omega (arith, z.0);
+        high = omega (arith, z.1);
+        linear_low = omega (arith, z.2);
+        linear_high = omega (arith, z.3);
+      },
+    )
 
 pub returns : goal.returns
 returns c =

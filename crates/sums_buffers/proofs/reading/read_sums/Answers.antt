@@ -124,25 +124,32 @@ load_bounds-requires c =
     let p = goal.at.load_bounds-requires c in
     rw (order p.In_ok-m) (order_small _, (λ s. let z = lent p.After-read_sized-sized s in (omega (arith, z.0), omega (arith, z.1))), refl, refl)
 
-pub slice_bounds-read_checked-end : goal.slice_bounds-read_checked-end
-slice_bounds-read_checked-end c = sym c.load_bounds.ensures.rooms.low-size
+pub slice_bounds-sums-end : goal.slice_bounds-sums-end
+slice_bounds-sums-end c = sym c.load_bounds.ensures.rooms.low-size
 
-pub slice_bounds-read_checked-end-2 : goal.slice_bounds-read_checked-end-2
-slice_bounds-read_checked-end-2 c = sym c.load_bounds.ensures.rooms.high-size
+pub slice_bounds-sums-end-2 : goal.slice_bounds-sums-end-2
+slice_bounds-sums-end-2 c = sym c.load_bounds.ensures.rooms.high-size
 
-pub slice_bounds-read_checked-end-3 : goal.slice_bounds-read_checked-end-3
-slice_bounds-read_checked-end-3 c = sym c.load_terms.ensures.size
+pub slice_bounds-sums-end-3 : goal.slice_bounds-sums-end-3
+slice_bounds-sums-end-3 c = sym c.load_terms.ensures.size
 
-pub slice_bounds-read_checked-end-4 : goal.slice_bounds-read_checked-end-4
-slice_bounds-read_checked-end-4 c = sym c.load_terms-2.ensures.size
+pub slice_bounds-sums-end-4 : goal.slice_bounds-sums-end-4
+slice_bounds-sums-end-4 c = sym c.load_terms-2.ensures.size
 
 pub read_checked-requires : goal.read_checked-requires
 read_checked-requires c =
     let m = order (goal.at.read_checked-requires c).In_ok-m in
     let h : c.in_ok-m.m ≤ greatest_order = omega (arith, order_small c.args.n, m) in
     let f = order_fits _ m in
-    let r = c.load_bounds.ensures.rooms in
-    (h, omega (arith, f, r.low-size), omega (arith, f, r.high-size), omega (arith, h, c.load_terms.ensures.size), omega (arith, h, c.load_terms-2.ensures.size))
+    let r = c.load_bounds.ensures.rooms in (
+      h,
+      record {
+        low = omega (arith, f, r.low-size);
+        high = omega (arith, f, r.high-size);
+        linear_low = omega (arith, h, c.load_terms.ensures.size);
+        linear_high = omega (arith, h, c.load_terms-2.ensures.size);
+      },
+    )
 
 pub store_signed-requires : goal.store_signed-requires
 store_signed-requires c = (refl, omega (arith, (lent (goal.at.store_signed-requires c).After-read_sized-sized c.if-not-sized.false).4))
