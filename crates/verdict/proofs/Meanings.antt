@@ -173,6 +173,13 @@ judging-means n sized l u f v =
     entered-means n sized true l u refused _ (λ (g : Judgement). let j = written g f v in Meaning n l u j.verdict j.factor j.vector)
     (refused-means n l u f v) (λ b. judged-means n sized l u b f v)
 
+-- a call that is not refused has passed check 2
+pub judging-sized : (n : ℤ) (sized : Bool) (l u : List ℤ) → ((r : Refusal) → judging n sized l u ≡ refused r → ⊥) → sized ≡ true
+unfolding judging
+judging-sized n sized l u =
+    entered-means n sized true l u refused _ (λ (g : Judgement). ((r : Refusal) → g ≡ refused r → ⊥) → sized ≡ true)
+    (λ r h. absurd (h r refl)) (λ b h. b.sizes)
+
 -- ---- of buffers: the numbers that are stored are read back
 module _ {A : Type 0} {taken : ℕ → ℕ} {numbers : List A → ℕ → List ℤ} {elements : List ℤ → ℕ → List A}
     (laws : BuffersWhole taken numbers elements) (n : ℤ) (l u : List ℤ) (f v : List A) where
