@@ -9,7 +9,7 @@ use Rattle.tables.specs.Checks.{sizes_ok}
 use Rattle.tables.specs.declared.Refusal.{Refusal}
 use Rattle.tables.specs.declared.problem.Lengths.{Lengths}
 use Rattle.residual.specs.declared.factor_test.FactorAnswer.{FactorAnswer}
-use Rattle.verdict.specs.Judge.{Judgement, definite, not_definite, undecided, refused, judge_sizes}
+use Rattle.verdict.specs.Judge.{Judgement, judge_sizes, Judged, stored}
 use Rattle.verdict.specs.declared.judge.Verdict.{Verdict}
 use Rattle.enclosure.specs.Box.{Box}
 use Rattle.enclosure.specs.Act.{Enclosed, box_sizes, laid_sides}
@@ -65,13 +65,18 @@ pub record StoredVerdict : Type 0 where
   pub vector : List ℕ
   pub over : List ℕ
 
--- 'definite' writes the factor's table and what the rows have over, 'not definite' the vector; the others are kept, and all by a refusal
+-- what the rows have over is written with 'definite', and kept with the others and on a refusal
+abbrev pub over_by : Result Verdict Refusal → List ℕ → List ℕ
+over_by (Ok (Verdict.Definite w)) o = bytes_of_number w
+over_by (Ok Verdict.NotDefinite) o = o
+over_by (Ok Verdict.Undecided) o = o
+over_by (Err r) o = o
+
+-- 'definite' writes the factor's table too, and 'not definite' the vector; the others are kept, and all by a refusal
 abbrev pub stored_verdict : ℕ → Judgement → List ℕ → List ℕ → List ℕ → StoredVerdict
-stored_verdict n (definite t w) f v o =
-    record { verdict = Ok (Verdict.Definite w); factor = bytes_of w64 t (n * n); vector = v; over = bytes_of_number w }
-stored_verdict n (not_definite x) f v o = record { verdict = Ok Verdict.NotDefinite; factor = f; vector = bytes_of w64 x n; over = o }
-stored_verdict n undecided f v o = record { verdict = Ok Verdict.Undecided; factor = f; vector = v; over = o }
-stored_verdict n (refused r) f v o = record { verdict = Err r; factor = f; vector = v; over = o }
+stored_verdict n g f v o =
+    let j : Judged (List ℕ) = stored (bytes_of w64) n g f v in
+    record { verdict = j.verdict; factor = j.factor; vector = j.vector; over = over_by j.verdict o }
 
 -- the sides are written, 8 bytes for each number, or the buffer is kept
 abbrev pub stored_sides : ℕ → Box → List ℕ → Enclosed (List ℕ)

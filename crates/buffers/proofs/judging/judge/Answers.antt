@@ -1,83 +1,91 @@
-use mathlib.Core.Path.{refl, sym, ap, ◌∙◌}
-use mathlib.Core.Bool.{true}
+-- The generic judge's answer, with the buffer for what the rows have over.
+use mathlib.Core.Path.{◌≡◌, refl, sym, ap, ◌∙◌}
+use mathlib.Core.Bool.{Bool, false≢true}
+use mathlib.Core.List.{List}
+use Prim.Native.Nat.{ℕ}
 use native.Mathlib.Omega.{arith}
+use lib.IntN.{ℤ}
 use lib.ListN.{length}
+use mir.Syntax.{w64}
+use mir.Val.{bytes}
+use Rattle.std.specs.Prelude.{Result, Ok, Err}
+use Rattle.integers.proofs.Machine.{clean, clean_element}
+use Rattle.words.specs.Numbers.{bytes_of}
 use Rattle.tables.specs.Checks.{order_of}
-use Rattle.tables.specs.Entering.{Entered}
+use Rattle.tables.specs.declared.Refusal.{Refusal}
 use Rattle.tables.proofs.Answers.{handed_on}
-use Rattle.tables.proofs.Admission.{order_small, order_fits, order-positive, order-passed, order-refused, no-order, no-sizes, came-through}
-use Rattle.tables.proofs.Admission.{entered-refused, entered-passed}
-use Rattle.verdict.specs.Judge.{Judgement, refused, judging}
-use Rattle.buffers.specs.Buffers.{table_of, judge_buffers, StoredVerdict, stored_verdict}
+use Rattle.verdict.specs.Judge.{Judgement, Judged, stored, judging, judge_act}
+use Rattle.verdict.specs.declared.judge.Verdict.{Verdict}
+use Rattle.verdict.proofs.Meanings.{judging-sized}
+use Rattle.buffers.specs.Buffers.{table_of, judge_buffers, over_by, StoredVerdict}
+use Rattle.buffers.proofs.Stores.{number-stored}
 use Rattle.buffers.proofs.Sizes.{judge_buffers_of}
-use Rattle.buffers.proofs.Loading.{came-sized}
 use Rattle.buffers.proofs.judging.judge.Goals as goal
-use Rattle.buffers.proofs.judging.judge.Goals.{Start, After-check_laid}
+use Rattle.buffers.proofs.judging.judge.Goals.{Start, After-judge_among}
 
--- the door, with what it found
-came : (c : After-check_laid) → let a = c.args in
-    Entered a.n (judge_buffers (order_of a.n) (length a.low.now) (length a.high.now) (length a.factor.now) (length a.vector.now)
-    (length a.over.now)) true
-    (table_of (order_of a.n) a.low.now) (table_of (order_of a.n) a.high.now) c.check_laid.result c.check_laid.new.l c.check_laid.new.u
-came c =
-    let o = order-passed c.ranges.n c.in_ok-m.ensures in
-    came-sized _ _ o.0 o.1 (rw o.0 at c.sizes_ok-sized.ensures) c.if-not-sized.false c.load_bounds.ensures c.check_laid.ensures
+module _ (s : Start) where
+  abbrev order : ℕ
+  order = order_of s.args.n
 
--- the buffers with a judgement
-abbrev given : Start → Judgement → StoredVerdict
-given s g = let a = s.args in stored_verdict (order_of a.n) g a.factor.now a.vector.now a.over.now
+  abbrev sized : Bool
+  sized =
+      let a = s.args in
+      judge_buffers order (length a.low.now) (length a.high.now) (length a.factor.now) (length a.vector.now) (length a.over.now)
 
-pub returns-in_err-m : goal.returns-in_err-m
-unfolding judging
-returns-in_err-m c =
-    let o = order-refused c.ranges.n c.in_err-m.ensures in
-    rw (handed_on c.from_residual.ensures.1, o.0) (ap (given (goal.at.returns-in_err-m c).Start) (no-order _ _ _ _ _ refused _ o.1))
+  abbrev by_judgement : Judgement → Judged (List ℕ)
+  by_judgement g = stored (bytes_of w64) order g s.args.factor.now s.args.vector.now
 
-pub sizes_ok-sized-requires : goal.sizes_ok-sized-requires
-sizes_ok-sized-requires c = rw (order-passed c.ranges.n c.in_ok-m.ensures).0 (order_small _)
+  abbrev given : Judged (List ℕ)
+  given = by_judgement (judging s.args.n sized (table_of order s.args.low.now) (table_of order s.args.high.now))
 
-pub returns-then-not-sized : goal.returns-then-not-sized
-unfolding judging
-returns-then-not-sized c =
-    let o = order-passed c.ranges.n c.in_ok-m.ensures in
-    let z = sym (rw o.0 at c.sizes_ok-sized.ensures) ∙ c.if-not-sized.true in
-    ap (given (goal.at.returns-then-not-sized c).Start)
-    (no-sizes _ _ _ _ _ refused _ (λ e. absurd (omega (arith, order-positive _ o.1, e))) z)
+  -- the buffer for what the rows have over beside it
+  abbrev beside : Judged (List ℕ) → StoredVerdict
+  beside j = record { verdict = j.verdict; factor = j.factor; vector = j.vector; over = over_by j.verdict s.args.over.now }
 
-pub load_bounds-requires : goal.load_bounds-requires
-load_bounds-requires c =
-    let o = order-passed c.ranges.n c.in_ok-m.ensures in
-    rw o.0 (
-      order_small _,
-      (λ s. let z = judge_buffers_of _ _ _ _ _ _ (sym (rw o.0 at c.sizes_ok-sized.ensures) ∙ s) in
-          (omega (arith, z.0), omega (arith, z.1))),
-      refl,
-      refl,
-    )
+judged : (c : After-judge_among) → let j = c.judge_among in
+    ◌≡◌ {A = Judged (List ℕ)} (record { verdict = j.result; factor = j.new.factor; vector = j.new.vector })
+    (given (goal.at.After-judge_among c).Start)
+unfolding judge_act judge_buffers
+judged c = rw (clean c.ranges.n) at c.judge_among.ensures.exact
 
-pub check_laid-requires : goal.check_laid-requires
-check_laid-requires c = rw (order-passed c.ranges.n c.in_ok-m.ensures).0 (order_small _, order_fits _ refl, c.load_bounds.ensures.rooms)
+pub returns-in_err-verdict : goal.returns-in_err-verdict
+returns-in_err-verdict c =
+    let s = (goal.at.returns-in_err-verdict c).Start in
+    let j = judged (goal.at.returns-in_err-verdict c).After-judge_among in
+    rw (handed_on c.from_residual.ensures.1) (rw c.in_err-verdict.was at (ap (beside s) j))
 
-pub returns-in_err-check_laid : goal.returns-in_err-check_laid
-unfolding judging
-returns-in_err-check_laid c =
-    rw (handed_on c.from_residual-in_err-check_laid.ensures.1)
-    (ap (given (goal.at.returns-in_err-check_laid c).Start)
-    (entered-refused _ _ _ _ _ refused _ (came (goal.at.returns-in_err-check_laid c).After-check_laid) c.in_err-check_laid.was))
+-- with 'definite' its buffer has its size
+not_refused : {w : ℤ} {r : Refusal} → ◌≡◌ {A = Result Verdict Refusal} (Ok (Verdict.Definite w)) (Err r) → ⊥
+not_refused e = absurd (false≢true (cc e))
 
-pub judge_bounds-requires : goal.judge_bounds-requires
-judge_bounds-requires c =
-    let d = came (goal.at.judge_bounds-requires c).After-check_laid in
-    let q = c.in_ok-check_laid.was in
-    let b = came-through _ _ _ _ _ d q in
-    let z = judge_buffers_of _ _ _ _ _ _ b.sizes in
-    rw (order-passed c.ranges.n c.in_ok-m.ensures).0 ((d.held q).tables, d.rooms, order-positive _ b.ordered, z.2, z.3, z.4)
+room : (c : After-judge_among) → (w : ℤ) → c.judge_among.result ≡ Ok (Verdict.Definite w) → length c.args.over.now ≡ bytes w64
+room c w e =
+    let s = (goal.at.After-judge_among c).Start in
+    let j = sym e ∙ ap (λ (j : Judged (List ℕ)). j.verdict) (judged c) in
+    let b = judging-sized _ _ _ _ (λ r q. not_refused (j ∙ ap (λ (g : Judgement). (by_judgement s g).verdict) q)) in
+    (judge_buffers_of _ _ _ _ _ _ b).4
 
-pub returns : goal.returns
-unfolding judging
-returns c =
-    let d = came (goal.at.returns c).After-check_laid in
-    let q = c.in_ok-check_laid.was in
-    let h = d.held q in
-    rw (← entered-passed _ _ _ _ _ refused _ d q)
-    (rw ((order-passed c.ranges.n c.in_ok-m.ensures).0, h.low, h.high) at c.judge_bounds.ensures)
+pub store_signed-requires : goal.store_signed-requires
+store_signed-requires c =
+    let d = (goal.at.store_signed-requires c).After-judge_among in
+    (refl, omega (arith, room d _ (c.in_ok-verdict.was ∙ ap Ok c.in-Definite.is)))
+
+pub returns-in-Definite : goal.returns-in-Definite
+returns-in-Definite c =
+    let s = (goal.at.returns-in-Definite c).Start in
+    let d = (goal.at.returns-in-Definite c).After-judge_among in
+    let e = c.in_ok-verdict.was ∙ ap Ok c.in-Definite.is in
+    let v = clean_element c.in-Definite.v (omega arith) in
+    rw (number-stored c.args.over.now (room d _ e) v c.store_signed.ensures) (rw e at (ap (beside s) (judged d)))
+
+-- and with another verdict it is kept
+kept : (r : Verdict) (o : List ℕ) → ((w : ℤ) → r ≡ Verdict.Definite w → ⊥) → over_by (Ok r) o ≡ o
+kept (Verdict.Definite w) o h = absurd (h w refl)
+kept Verdict.NotDefinite o h = refl
+kept Verdict.Undecided o h = refl
+
+pub returns-in_default : goal.returns-in_default
+returns-in_default c =
+    let s = (goal.at.returns-in_default c).Start in
+    let j = rw c.in_ok-verdict.was at (ap (beside s) (judged (goal.at.returns-in_default c).After-judge_among)) in
+    rw (kept _ c.args.over.now c.in_default.not-Definite) at j
