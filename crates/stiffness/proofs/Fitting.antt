@@ -12,7 +12,8 @@ use Rattle.integers.specs.Numbers.{Within}
 use Rattle.integers.proofs.Parts.{≤ℤ_trans, pos_nonneg}
 use Rattle.integers.proofs.Order.{<-≤}
 use Rattle.integers.proofs.Solver.{◌&◌, order, solver}
-use Rattle.integers.proofs.Machine.{within_more, within_in, within-high}
+use Rattle.integers.proofs.Machine.{within_more, within_in, within-high, fits_within}
+use Rattle.tables.specs.Elements.{BuffersWhole}
 use Rattle.tables.specs.Ranges.{entry_range}
 use Rattle.tables.specs.Matrix.{Matrix, nth}
 use Rattle.tables.specs.Bounds.{Bounds}
@@ -24,7 +25,8 @@ use Rattle.tables.proofs.Admission.{order-positive, entered-means}
 use Rattle.cholesky.specs.Factoring.{factored}
 use Rattle.tried.specs.Tried.{tried}
 use Rattle.tried.proofs.TriedVectors.{every_at, tried-sized}
-use Rattle.stiffness.specs.Bracket.{Bracketing, between, at_most, refused, least_bound, first_under, bracketed, bracketing, written, Meaning}
+use Rattle.stiffness.specs.Bracket.{Bracketing, between, at_most, refused, least_bound, first_under, bracketed, bracketing}
+use Rattle.stiffness.specs.Bracket.{written, stored, Meaning}
 use Rattle.stiffness.proofs.Quotients.{under-parts, quotient-low, first_found, some_under, bound_attained, bound-≤}
 use Rattle.stiffness.proofs.Meanings.{bracketed-ends, bracketed_stops, bracketing-means}
 
@@ -87,7 +89,26 @@ module _ (n : ℤ) (sized : Bool) (l u : List ℤ) where
         where
           step-within : Within (k * entry_range) t
           step-within =
-              within_in (order (t ∷ pos (k * entry_range) ∷ []) (m.nonneg t refl & pos_nonneg (k * entry_range)) (search solver depth 40 fits 20000) (omega arith))
+              let most = pos (k * entry_range) in
+              let given = m.nonneg t refl & pos_nonneg (k * entry_range) in
+              within_in (order (t ∷ most ∷ []) given (search solver depth 40 fits 20000) (omega arith))
               (≤ℤ_trans (<-≤ (m.ordered t v refl refl)) (within-high w))
       go (at_most v x) w m = (w, vector-small x (m.from_list v refl))
       go (refused r) w m = tt
+
+  -- ---- of buffers: the numbers that are stored are read back
+  module _ {A : Type 0} {taken : ℕ → ℕ} {numbers : List A → ℕ → List ℤ} {elements : List ℤ → ℕ → List A} where
+    module _ (laws : BuffersWhole taken numbers elements) (y : List A) where
+      abbrev Stored : Bracketing → Type 0
+      Stored g = let j = stored elements k g y in Meaning n l u j.stiffness (numbers j.vector k)
+
+      read_back : (x : List ℤ) → Small k 1 x → numbers (elements x k) k ≡ x
+      read_back x s = laws.read_back x k s.size (λ i. fits_within (s.small i) (omega arith))
+
+      stored-means : (g : Bracketing) → Fitting k g → (let j = written g (numbers y k) in Meaning n l u j.stiffness j.vector) → Stored g
+      stored-means (between t v x) f m = rw (read_back x f.2) m
+      stored-means (at_most v x) f m = rw (read_back x f.1) m
+      stored-means (refused r) f m = m
+
+      pub act-means : Stored (bracketing n sized l u)
+      act-means = stored-means (bracketing n sized l u) bracketing_fitting (bracketing-means n sized l u (numbers y k))

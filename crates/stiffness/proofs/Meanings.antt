@@ -27,7 +27,8 @@ use Rattle.vectors.proofs.Showing.{under-witness, witness-under, witness-at-mend
 use Rattle.steps.specs.Steps.{trial, step_bits, step}
 use Rattle.steps.proofs.Bits.{bits_by}
 use Rattle.steps.proofs.Strong.{step-above}
-use Rattle.stiffness.specs.Bracket.{Bracketing, between, at_most, refused, shown, least_bound, first_under, bracketed, bracketing, written, step_of, bound_of, Stiffer, Meaning}
+use Rattle.stiffness.specs.Bracket.{Bracketing, between, at_most, refused, shown, least_bound, first_under, bracketed, bracketing}
+use Rattle.stiffness.specs.Bracket.{laid, written, step_of, bound_of, Stiffer, Meaning}
 use Rattle.stiffness.specs.declared.bracket.Stiffness.{Stiffness}
 use Rattle.stiffness.proofs.Quotients.{First, bound-first, none_less}
 
@@ -35,8 +36,9 @@ use Rattle.stiffness.proofs.Quotients.{First, bound-first, none_less}
 less_by : {q m a t v : ℤ} → pos 1 ≤ℤ q → pos 1 ≤ℤ m → (q *ℤ t *ℤ m) <ℤ a → a ≤ℤ (q *ℤ v *ℤ m) → t <ℤ v
 less_by {q} {m} {a} {t} {v} h k low high =
     let product = *ℤ-nonneg (≤ℤ_trans (pos_nonneg 1) h) (≤ℤ_trans (pos_nonneg 1) k) in
-    ⊎_elim (λ e. order (q ∷ m ∷ t ∷ v ∷ a ∷ []) (*ℤ-nonneg product (gap-nonneg e) & low & high) (search solver depth 40 fits 20000) (omega arith)) (λ e. e)
-    (≤ℤ_or_<ℤ v t)
+    ⊎_elim
+    (λ e. order (q ∷ m ∷ t ∷ v ∷ a ∷ []) (*ℤ-nonneg product (gap-nonneg e) & low & high) (search solver depth 40 fits 20000) (omega arith))
+    (λ e. e) (≤ℤ_or_<ℤ v t)
 
 -- t is 0 or more
 step-nonneg : (n : ℕ) (L U : Matrix) → pos 0 ≤ℤ step n L U
@@ -63,7 +65,7 @@ module _ (n : ℕ) (L U : Matrix) where
 -- ---- behind the door
 -- what the answer means that g gives over a buffer that holds y
 abbrev Means : ℤ → List ℤ → List ℤ → List ℤ → Bracketing → Type 0
-Means n l u y g = Meaning n l u (written g y).stiffness (written g y).vector
+Means n l u y g = let j = written g y in Meaning n l u j.stiffness j.vector
 
 module _ (n : ℤ) (sized : Bool) (l u : List ℤ) (b : Behind n sized true l u) where
   abbrev k : ℕ
@@ -107,7 +109,8 @@ module _ (n : ℤ) (sized : Bool) (l u : List ℤ) (b : Behind n sized true l u)
       less_by w.member.whole (norm_positive w.differs) ((stiffer e).above w.matrix w.denominator w.member (nth x) w.differs) w.low
 
   -- an answer that gives v, and t only where factoring ends
-  answer_means : (r : Result Stiffness Refusal) → bound_of r ≡ some v → ((t : ℤ) → step_of r ≡ some t → (step k L U ≡ t) × ((factored k L U).ends ≡ true)) → Meaning n l u r x
+  answer_means : (r : Result Stiffness Refusal) → bound_of r ≡ some v →
+      ((t : ℤ) → step_of r ≡ some t → (step k L U ≡ t) × ((factored k L U).ends ≡ true)) → Meaning n l u r x
   answer_means r e f =
       let same : (w : ℤ) → bound_of r ≡ some w → v ≡ w = λ w q. some-injective v w (sym e ∙ q) in
       record {
@@ -122,8 +125,12 @@ module _ (n : ℤ) (sized : Bool) (l u : List ℤ) (b : Behind n sized true l u)
   bracketed-means : (y : List ℤ) → Means n l u y (bracketed k L U)
   bracketed-means y =
       cases (factored k L U).ends
-      (λ e. subst (Means n l u y) (sym (bracketed-ends k L U e)) (answer_means (Ok (Stiffness.Between (step k L U) v)) refl (λ t q. (some-injective (step k L U) t q, e))))
-      (λ e. subst (Means n l u y) (sym (bracketed_stops k L U e)) (answer_means (Ok (Stiffness.AtMost v)) refl (λ t q. absurd (false≢true cc))))
+      (λ e.
+      subst (Means n l u y) (sym (bracketed-ends k L U e))
+      (answer_means (Ok (Stiffness.Between (step k L U) v)) refl (λ t q. (some-injective (step k L U) t q, e))))
+      (λ e.
+      subst (Means n l u y) (sym (bracketed_stops k L U e))
+      (answer_means (Ok (Stiffness.AtMost v)) refl (λ t q. absurd (false≢true cc))))
 
 -- ---- of any call at all
 refused-means : (n : ℤ) (l u y : List ℤ) (r : Refusal) → Meaning n l u (Err r) y
@@ -136,7 +143,16 @@ refused-means n l u y r = record {
   ordered = λ t v e q. absurd (false≢true cc);
 }
 
-pub bracketing-means : (n : ℤ) (sized : Bool) (l u y : List ℤ) → (let j = written (bracketing n sized l u) y in Meaning n l u j.stiffness j.vector)
+pub bracketing-means : (n : ℤ) (sized : Bool) (l u y : List ℤ) →
+    (let j = written (bracketing n sized l u) y in Meaning n l u j.stiffness j.vector)
 unfolding bracketing
 bracketing-means n sized l u y =
     entered-means n sized true l u refused _ (Means n l u y) (refused-means n l u y) (λ b. bracketed-means n sized l u b y)
+
+-- where nothing is refused, check 2 passed
+pub answered-sized : (n : ℤ) (sized : Bool) (l u : List ℤ) {A : Type 0} (F : List ℤ → A) (y : A) {r : Stiffness} →
+    Ok r ≡ (laid F (bracketing n sized l u) y).stiffness → sized ≡ true
+unfolding bracketing
+answered-sized n sized l u F y {r} =
+    entered-means n sized true l u refused _ (λ g. Ok r ≡ (laid F g y).stiffness → sized ≡ true)
+    (λ k e. absurd (false≢true cc)) (λ b e. b.sizes)

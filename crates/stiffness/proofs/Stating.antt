@@ -2,13 +2,16 @@
 use mathlib.Core.Path.{◌≡◌, refl, sym, ap, ap₂, ◌∙◌}
 use mathlib.Core.Bool.{true, false}
 use mathlib.Core.List.{List}
-use Prim.Native.Nat.{ℕ}
+use Prim.Native.Nat.{ℕ, ◌*◌}
 use lib.IntN.{ℤ}
+use lib.ListN.{length}
 use Rattle.std.specs.Prelude.{Ok}
 use Rattle.tables.specs.Matrix.{Matrix, nth, tabulate}
+use Rattle.tables.specs.Checks.{order_of, sizes_ok}
 use Rattle.cholesky.specs.Factoring.{factored}
 use Rattle.steps.specs.Steps.{step}
-use Rattle.stiffness.specs.Bracket.{Bracketing, between, at_most, shown, bracketed, Bracketed, written}
+use Rattle.stiffness.specs.Bracket.{Bracketing, between, at_most, shown, bracketed, bracketing}
+use Rattle.stiffness.specs.Bracket.{Bracketed, laid, written, bracket, bracket_act}
 use Rattle.stiffness.specs.Descent.{Least, stated, Stated}
 use Rattle.stiffness.specs.declared.bracket.Stiffness.{Stiffness}
 use Rattle.stiffness.proofs.Meanings.{shown_vector, bracketed-ends, bracketed_stops}
@@ -34,12 +37,18 @@ module _ (n : ℕ) (L U : Matrix) where
       size = a.size;
     }
 
-  -- ---- what is written: the vector in x
-  pub stated-written : {r : Stiffness} {x : List ℤ} → Stated (bracketed n L U) n r x → (y : List ℤ) →
-      ◌≡◌ {A = Bracketed} (record { stiffness = Ok r; vector = tabulate n (nth x) }) (written (bracketed n L U) y)
+  -- ---- what is left: the vector in x, laid into a buffer by F
+  pub stated-laid : {A : Type 0} (F : List ℤ → A) {r : Stiffness} {x : List ℤ} → Stated (bracketed n L U) n r x → (y : A) →
+      ◌≡◌ {A = Bracketed A} (record { stiffness = Ok r; vector = F (tabulate n (nth x)) }) (laid F (bracketed n L U) y)
   unfolding stated
-  stated-written {r} {x} s y = sym (ap (λ (g : Bracketing). written g y) s.stiffness ∙ go r)
+  stated-laid {A} F {r} {x} s y = sym (ap (λ (g : Bracketing). laid F g y) s.stiffness ∙ go r)
     where
-      go : (r : Stiffness) → written (stated n r x) y ≡ record { stiffness = Ok r; vector = tabulate n (nth x) }
+      go : (r : Stiffness) → ◌≡◌ {A = Bracketed A} (laid F (stated n r x) y) (record { stiffness = Ok r; vector = F (tabulate n (nth x)) })
       go (Stiffness.Between t v) = refl
       go (Stiffness.AtMost v) = refl
+
+-- the act over numbers: its buffers hold the numbers themselves
+of-numbers : (n : ℤ) (l u y : List ℤ) → (let k = order_of n in
+    bracket n l u y ≡ written (bracketing n (sizes_ok (k * k) k (length l) (length u) (length y)) l u) y)
+unfolding bracket bracket_act
+of-numbers n l u y = refl

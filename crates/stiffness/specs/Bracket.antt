@@ -6,12 +6,13 @@ use Rattle.integers.specs.Numbers.{min_ℤ}
 use Rattle.integers.specs.Division.{ceil_div}
 use Rattle.tables.specs.Matrix.{Matrix, at, nth, form, norm_squared}
 use Rattle.tables.specs.Members.{Member, Nonzero}
-use Rattle.tables.specs.Checks.{order_of, sizes_ok}
+use Rattle.tables.specs.Checks.{order_of}
 use Rattle.tables.specs.Answers.{answer_code}
 use Rattle.tables.specs.Entering.{low_bounds, high_bounds, entered}
 use Rattle.tables.specs.declared.Refusal.{Refusal}
 use Rattle.cholesky.specs.Factoring.{factored}
 use Rattle.vectors.specs.Least.{least_value, nonzero, under, WitnessAt}
+use Rattle.vectors.specs.VectorTest.{vector_sizes}
 use Rattle.tried.specs.Tried.{tried, first}
 use Rattle.steps.specs.Steps.{step}
 use Rattle.stiffness.specs.declared.bracket.Stiffness.{Stiffness}
@@ -59,22 +60,39 @@ bracketing n sized l u =
     let k : ℕ = order_of n in
     entered refused n sized true l u (bracketed k (low_bounds k l) (high_bounds k u))
 
--- ---- the act: its answer, and the vector's buffer as it leaves it
-pub record Bracketed : Type 0 where
+-- ---- the act: its answer, and the vector's buffer as it leaves it, a list of numbers or of the bytes that spell them
+pub record Bracketed (A : Type 0) : Type 0 where
   pub stiffness : Result Stiffness Refusal
-  pub vector : List ℤ
+  pub vector : A
 
--- R26.6: the vector is written with every answer, and kept by a refusal
-abbrev pub written : Bracketing → List ℤ → Bracketed
-written (between t v x) y = record { stiffness = Ok (Stiffness.Between t v); vector = x }
-written (at_most v x) y = record { stiffness = Ok (Stiffness.AtMost v); vector = x }
-written (refused r) y = record { stiffness = Err r; vector = y }
+-- R26.6: the vector is written with every answer, and kept by a refusal. F lays it into a buffer.
+abbrev pub laid : {A : Type 0} → (List ℤ → A) → Bracketing → A → Bracketed A
+laid F (between t v x) y = record { stiffness = Ok (Stiffness.Between t v); vector = F x }
+laid F (at_most v x) y = record { stiffness = Ok (Stiffness.AtMost v); vector = F x }
+laid F (refused r) y = record { stiffness = Err r; vector = y }
 
--- the bracket of anything at all, and a buffer that holds anything
-unfoldable pub bracket : ℤ → List ℤ → List ℤ → List ℤ → Bracketed
-bracket n l u y =
+-- into a buffer of numbers
+abbrev pub written : Bracketing → List ℤ → Bracketed (List ℤ)
+written = laid (λ x. x)
+
+-- into a buffer of elements, those of n numbers
+abbrev pub stored : {A : Type 0} → (List ℤ → ℕ → List A) → ℕ → Bracketing → List A → Bracketed (List A)
+stored elements n = laid (λ x. elements x n)
+
+-- 2, R4.2: each lent buffer has the size that belongs to n; `taken` says how many elements so many numbers take
+abbrev pub bracket_lengths : {A : Type 0} → (ℕ → ℕ) → ℕ → List A → List A → List A → Bool
+bracket_lengths taken n l u y = vector_sizes taken n (length l) (length u) (length y)
+
+-- the bracket of the numbers that buffers hold, where check 2 finds `sized`
+unfoldable pub bracket_act : {A : Type 0} → (List A → ℕ → List ℤ) → (List ℤ → ℕ → List A) → ℤ → Bool → List A → List A → List A →
+    Bracketed (List A)
+bracket_act numbers elements n sized l u y =
     let k : ℕ = order_of n in
-    written (bracketing n (sizes_ok (k * k) k (length l) (length u) (length y)) l u) y
+    stored elements k (bracketing n sized (numbers l (k * k)) (numbers u (k * k))) y
+
+-- of numbers themselves: of anything at all, and a buffer that holds anything
+unfoldable pub bracket : ℤ → List ℤ → List ℤ → List ℤ → Bracketed (List ℤ)
+bracket n l u y = bracket_act (λ x k. x) (λ x k. x) n (bracket_lengths (λ k. k) (order_of n) l u y) l u y
 
 -- R15.4: the number at the C entry, 0, -1, or the refusal's
 abbrev pub bracket_number : Stiffness → ℤ

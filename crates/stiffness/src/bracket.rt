@@ -1,11 +1,13 @@
 // The bracket of the stiffness, R26 of docs/RULES.md.
-ghost use Rattle.std.specs.Prelude.{◌≡◌, ◌<◌, length, Ok};
+ghost use Rattle.std.specs.Prelude.{◌≡◌, ◌&&◌, List, ◌*◌, ◌<◌, length, Ok};
 ghost use Rattle.tables.specs.Bounded.{low_of, high_of};
-ghost use Rattle.stiffness.specs.Bracket.{Bracketed, bracketed, written, bracket, bracket_number, Meaning};
+ghost use Rattle.tables.specs.Checks.{order_of};
+ghost use Rattle.stiffness.specs.Bracket.{Bracketed, bracketed, stored, bracket_lengths, bracket_act, bracket_number, Meaning};
 ghost use Rattle.stiffness.specs.Descent.{Stated};
 
 use crate::least_bound::least_bound;
 use tables::bounded::Bounded;
+use tables::elements::Element;
 use tables::entering::{enter, order};
 use tables::{Answer, GREATEST_ORDER, Refusal, TABLE_ROOM, Vector};
 
@@ -41,27 +43,38 @@ pub fn find(bounds: Bounded, x: &mut Vector) -> Stiffness
     Stiffness::Between(steps::step(bounds), v)
 }
 
-// The bracket of bounds, with the vector written to a buffer of as many numbers as their order.
-fn bracket_bounds(bounds: Bounded, vector: &mut [i64]) -> Stiffness
-    requires { (0 < bounds.order) × (length vector.old ≡ bounds.order) }
-    ensures { ◌≡◌ {A = Bracketed} (record { stiffness = Ok result; vector = vector.new })
-        (written (bracketed bounds.entry.order (low_of bounds.entry) (high_of bounds.entry)) vector.old) }
+// The bracket of bounds, with the vector written to a buffer of the elements that as many numbers as their order take.
+fn bracket_bounds<E: Element>(bounds: Bounded, vector: &mut [E]) -> Stiffness
+    requires { (0 < bounds.order) × (length vector.old ≡ E.taken bounds.order) }
+    ensures { ◌≡◌ {A = Bracketed (List E)} (record { stiffness = Ok result; vector = vector.new })
+        (stored E.elements bounds.entry.order
+        (bracketed bounds.entry.order (low_of bounds.entry) (high_of bounds.entry)) vector.old) }
 {
     let mut x = [0i64; GREATEST_ORDER];
     let found = find(bounds, &mut x);
-    tables::copy_numbers(bounds.order, &x, vector);
+    E::store(&x, bounds.order, vector);
     found
 }
 
-// The bracket, of any numbers at all: n is an order or not, and each slice has any length.
-// Refused by the first of the checks 1 to 5 that fails, with the vector kept. Else the vector that is shown is written.
-pub fn bracket(n: i64, low: &[i64], high: &[i64], vector: &mut [i64]) -> Result<Stiffness, Refusal>
-    ensures exact { ◌≡◌ {A = Bracketed} (record { stiffness = result; vector = vector.new })
-        (bracket n low.now high.now vector.old) }
-    ensures meaning { Meaning n low.now high.now result vector.new }
+// The bracket of a call that lends other buffers too: `others` says whether these have their sizes.
+pub fn bracket_among<E: Element>(
+    n: i64,
+    others: bool,
+    low: &[E],
+    high: &[E],
+    vector: &mut [E],
+) -> Result<Stiffness, Refusal>
+    ensures exact { ◌≡◌ {A = Bracketed (List E)} (record { stiffness = result; vector = vector.new })
+        (bracket_act E.numbers E.elements n (bracket_lengths E.taken (order_of n) low.now high.now vector.old && others)
+        low.now high.now vector.old) }
+    ensures meaning { Meaning n (E.numbers low.now (order_of n * order_of n)) (E.numbers high.now (order_of n * order_of n))
+        result (E.numbers vector.new (order_of n)) }
 {
     let m = order(n)?;
-    let sized = tables::sizes_ok(m * m, m, low.len(), high.len(), vector.len());
+    let table = E::taken(m * m);
+    let size = E::taken(m);
+    let own = tables::sizes_ok(table, size, low.len(), high.len(), vector.len());
+    let sized = own && others;
     let mut l = [0i64; TABLE_ROOM];
     let mut u = [0i64; TABLE_ROOM];
     enter(n, sized, true, low, high, &mut l, &mut u)?;
@@ -71,4 +84,21 @@ pub fn bracket(n: i64, low: &[i64], high: &[i64], vector: &mut [i64]) -> Result<
         high: &u,
     };
     Ok(bracket_bounds(bounds, vector))
+}
+
+// The bracket, of any numbers at all, in buffers of numbers or of bytes: n is an order or not, and each buffer has any length.
+// Refused by the first of the checks 1 to 5 that fails, with the vector kept. Else the vector that is shown is written.
+pub fn bracket<E: Element>(
+    n: i64,
+    low: &[E],
+    high: &[E],
+    vector: &mut [E],
+) -> Result<Stiffness, Refusal>
+    ensures exact { ◌≡◌ {A = Bracketed (List E)} (record { stiffness = result; vector = vector.new })
+        (bracket_act E.numbers E.elements n (bracket_lengths E.taken (order_of n) low.now high.now vector.old)
+        low.now high.now vector.old) }
+    ensures meaning { Meaning n (E.numbers low.now (order_of n * order_of n)) (E.numbers high.now (order_of n * order_of n))
+        result (E.numbers vector.new (order_of n)) }
+{
+    bracket_among(n, true, low, high, vector)
 }

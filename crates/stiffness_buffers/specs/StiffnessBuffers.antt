@@ -4,13 +4,25 @@ use Rattle.std.specs.Int.{w64}
 use mir.Val.{bytes}
 use Rattle.words.specs.Numbers.{bytes_of}
 use Rattle.tables.specs.declared.Refusal.{Refusal}
-use Rattle.stiffness.specs.Bracket.{Bracketing, between, at_most, refused}
+use Rattle.stiffness.specs.Bracket.{Bracketing, Bracketed, stored}
 use Rattle.stiffness.specs.declared.bracket.Stiffness.{Stiffness}
 use Rattle.buffers.specs.Buffers.{vector_buffers, bytes_of_number}
 
 -- 2, over bytes: l and u are the lengths of the tables, s and b those of step and bound, one number each, and x that of the vector
 unfoldable pub stiffness_buffers : ℕ → ℕ → ℕ → ℕ → ℕ → ℕ → Bool
 stiffness_buffers n l u s b x = vector_buffers n l u x && (eqb s (bytes w64) && eqb b (bytes w64))
+
+-- ---- what is stored
+-- the buffers of step and bound
+pub record Ends : Type 0 where
+  pub step : List ℕ
+  pub bound : List ℕ
+
+-- R15.7: the bound is written with every answer, and the step where it is given; both are kept by a refusal
+abbrev pub stored_ends : Result Stiffness Refusal → List ℕ → List ℕ → Ends
+stored_ends (Ok (Stiffness.Between t v)) s b = record { step = bytes_of_number t; bound = bytes_of_number v }
+stored_ends (Ok (Stiffness.AtMost v)) s b = record { step = s; bound = bytes_of_number v }
+stored_ends (Err r) s b = record { step = s; bound = b }
 
 -- the answer, and the buffers as they are left
 pub record StoredStiffness : Type 0 where
@@ -19,10 +31,12 @@ pub record StoredStiffness : Type 0 where
   pub bound : List ℕ
   pub vector : List ℕ
 
--- R15.7: the bound and the vector are written with every answer, and the step where it is given; all are kept by a refusal
+-- beside the answer and the vector, which the act leaves
+abbrev pub beside : Bracketed (List ℕ) → Ends → StoredStiffness
+beside j e = record { stiffness = j.stiffness; step = e.step; bound = e.bound; vector = j.vector }
+
+-- the vector too is written with every answer, and kept by a refusal
 abbrev pub stored_stiffness : ℕ → Bracketing → List ℕ → List ℕ → List ℕ → StoredStiffness
-stored_stiffness n (between t v x) s b y =
-    record { stiffness = Ok (Stiffness.Between t v); step = bytes_of_number t; bound = bytes_of_number v; vector = bytes_of w64 x n }
-stored_stiffness n (at_most v x) s b y =
-    record { stiffness = Ok (Stiffness.AtMost v); step = s; bound = bytes_of_number v; vector = bytes_of w64 x n }
-stored_stiffness n (refused r) s b y = record { stiffness = Err r; step = s; bound = b; vector = y }
+stored_stiffness n g s b y =
+    let j : Bracketed (List ℕ) = stored (bytes_of w64) n g y in
+    beside j (stored_ends j.stiffness s b)

@@ -1,85 +1,77 @@
-use mathlib.Core.Path.{refl, sym, ap, ◌∙◌}
-use mathlib.Core.Bool.{true}
-use native.Mathlib.Omega.{arith}
+use mathlib.Core.Path.{◌≡◌, ap, ◌∙◌}
+use mathlib.Core.Bool.{Bool, ◌&&◌}
+use mathlib.Core.List.{List}
+use Prim.Native.Nat.{ℕ}
+use lib.Dec.{eqb}
 use lib.ListN.{length}
+use mir.Syntax.{w64}
+use mir.Val.{bytes}
+use borrow.Author.Tests.{eq-eqb, ne_eqb, eqb-true}
+use Rattle.std.specs.Prelude.{Ok}
+use Rattle.integers.proofs.Machine.{clean}
 use Rattle.tables.specs.Checks.{order_of}
-use Rattle.tables.specs.Entering.{Entered}
+use Rattle.tables.proofs.Checks.{and_left, and_right}
 use Rattle.tables.proofs.Answers.{handed_on}
-use Rattle.tables.proofs.Admission.{order_small, order_fits, order-positive, order-passed, order-refused}
-use Rattle.tables.proofs.Admission.{no-order, no-sizes, came-through, entered-refused, entered-passed}
-use Rattle.stiffness.specs.Bracket.{Bracketing, refused, bracketing}
-use Rattle.buffers.specs.Buffers.{table_of}
-use Rattle.buffers.proofs.Loading.{came-sized}
-use Rattle.stiffness_buffers.specs.StiffnessBuffers.{stiffness_buffers, StoredStiffness, stored_stiffness}
-use Rattle.stiffness_buffers.proofs.Sizes.{stiffness_buffers_of}
+use Rattle.stiffness.specs.Bracket.{Bracketed, stored, bracketing, bracket_act}
+use Rattle.stiffness.proofs.Meanings.{answered-sized}
+use Rattle.buffers.specs.Buffers.{table_of, vector_buffers}
+use Rattle.words.specs.Numbers.{bytes_of}
+use Rattle.stiffness_buffers.specs.StiffnessBuffers.{stiffness_buffers, stored_ends, StoredStiffness, beside}
 use Rattle.stiffness_buffers.proofs.bracketing.bracket.Goals as goal
-use Rattle.stiffness_buffers.proofs.bracketing.bracket.Goals.{Start, After-check_laid}
+use Rattle.stiffness_buffers.proofs.bracketing.bracket.Goals.{Start, Joined-step-eq-SIZE, then-step-eq-SIZE, else-step-eq-SIZE}
+use Rattle.stiffness_buffers.proofs.bracketing.bracket.Goals.{After-bracket_among}
 
--- the door, with what it found
-came : (c : After-check_laid) → let a = c.args in let k = order_of a.n in let d = c.check_laid in
-    Entered a.n
-    (stiffness_buffers k (length a.low.now) (length a.high.now) (length a.step.now) (length a.bound.now) (length a.vector.now)) true
-    (table_of k a.low.now) (table_of k a.high.now) d.result d.new.l d.new.u
-came c =
-    let o = order-passed c.ranges.n c.in_ok-m.ensures in
-    came-sized _ _ o.0 o.1 (rw o.0 at c.sizes_ok-sized.ensures) c.if-not-sized.false c.load_bounds.ensures c.check_laid.ensures
+-- whether the buffers of step and bound have their sizes
+abbrev ends_sized : Start → Bool
+ends_sized s = eqb (length s.args.step.now) (bytes w64) && eqb (length s.args.bound.now) (bytes w64)
 
--- the buffers with a bracket
-abbrev given : Start → Bracketing → StoredStiffness
-given s g = let a = s.args in stored_stiffness (order_of a.n) g a.step.now a.bound.now a.vector.now
+others : (c : Joined-step-eq-SIZE) → c.if-step-eq-SIZE.others ≡ ends_sized (goal.at.Joined-step-eq-SIZE c).Start
+others c =
+    elim c.if-step-eq-SIZE.branch [
+      | then-step-eq-SIZE w ↦ rw (eq-eqb _ _ w.if-step-eq-SIZE.true) w.others-is
+      | else-step-eq-SIZE w ↦
+          let e = ne_eqb (length c.args.step.now) (bytes w64) w.if-step-eq-SIZE.false in rw e (w.others-is ∙ e)
+    ]
 
-pub returns-in_err-m : goal.returns-in_err-m
-unfolding bracketing
-returns-in_err-m c =
-    let o = order-refused c.ranges.n c.in_err-m.ensures in
-    rw (handed_on c.from_residual.ensures.1, o.0) (ap (given (goal.at.returns-in_err-m c).Start) (no-order _ _ _ _ _ refused _ o.1))
+-- the lengths of the act's own buffers, and what it leaves
+abbrev own_sized : Start → Bool
+own_sized s = let a = s.args in vector_buffers (order_of a.n) (length a.low.now) (length a.high.now) (length a.vector.now)
 
-pub sizes_ok-sized-requires : goal.sizes_ok-sized-requires
-sizes_ok-sized-requires c = rw (order-passed c.ranges.n c.in_ok-m.ensures).0 (order_small _)
+abbrev left : Start → Bracketed (List ℕ)
+left s =
+    let a = s.args in
+    let k = order_of a.n in
+    stored (bytes_of w64) k (bracketing a.n (own_sized s && ends_sized s) (table_of k a.low.now) (table_of k a.high.now)) a.vector.now
 
-pub returns-then-not-sized : goal.returns-then-not-sized
-unfolding bracketing
-returns-then-not-sized c =
-    let o = order-passed c.ranges.n c.in_ok-m.ensures in
-    let z = sym (rw o.0 at c.sizes_ok-sized.ensures) ∙ c.if-not-sized.true in
-    ap (given (goal.at.returns-then-not-sized c).Start)
-    (no-sizes _ _ _ _ _ refused _ (λ e. absurd (omega (arith, order-positive _ o.1, e))) z)
+came : (c : After-bracket_among) → ◌≡◌ {A = Bracketed (List ℕ)}
+    (record { stiffness = c.bracket_among.result; vector = c.bracket_among.new.vector }) (left (goal.at.After-bracket_among c).Start)
+unfolding bracket_act
+came c = rw (clean c.ranges.n, others (goal.at.After-bracket_among c).Joined-step-eq-SIZE) at c.bracket_among.ensures.exact
 
-pub load_bounds-requires : goal.load_bounds-requires
-load_bounds-requires c =
-    let o = order-passed c.ranges.n c.in_ok-m.ensures in
-    let e = sym (rw o.0 at c.sizes_ok-sized.ensures) in
-    rw o.0
-    (order_small _, (λ s. let z = stiffness_buffers_of _ _ _ _ _ _ (e ∙ s) in (omega (arith, z.0), omega (arith, z.1))), refl, refl)
+-- the buffers with it
+abbrev given : Start → Bracketed (List ℕ) → StoredStiffness
+given s j = beside j (stored_ends j.stiffness s.args.step.now s.args.bound.now)
 
-pub check_laid-requires : goal.check_laid-requires
-check_laid-requires c = rw (order-passed c.ranges.n c.in_ok-m.ensures).0 (order_small _, order_fits _ refl, c.load_bounds.ensures.rooms)
+pub returns-in_err-found : goal.returns-in_err-found
+unfolding stiffness_buffers
+returns-in_err-found c =
+    let s = (goal.at.returns-in_err-found c).Start in
+    let e = came (goal.at.returns-in_err-found c).After-bracket_among in
+    rw (handed_on c.from_residual.ensures.1) (ap (given s) (rw c.in_err-found.was at e))
 
-pub returns-in_err-check_laid : goal.returns-in_err-check_laid
-unfolding bracketing
-returns-in_err-check_laid c =
-    let at = goal.at.returns-in_err-check_laid c in
-    rw (handed_on c.from_residual-in_err-check_laid.ensures.1)
-    (ap (given at.Start) (entered-refused _ _ _ _ _ refused _ (came at.After-check_laid) c.in_err-check_laid.was))
-
-pub invariant_of-bounds : goal.invariant_of-bounds
-invariant_of-bounds c =
-    let d = came (goal.at.invariant_of-bounds c).After-check_laid in
-    record { checked = rw (order-passed c.ranges.n c.in_ok-m.ensures).0 (d.held c.in_ok-check_laid.was).tables }
-
-pub bracket_bounds-requires : goal.bracket_bounds-requires
-bracket_bounds-requires c =
-    let d = came (goal.at.bracket_bounds-requires c).After-check_laid in
-    let q = c.in_ok-check_laid.was in
-    let b = came-through _ _ _ _ _ d q in
-    let z = stiffness_buffers_of _ _ _ _ _ _ b.sizes in
-    rw (order-passed c.ranges.n c.in_ok-m.ensures).0 (order-positive _ b.ordered, z.2, z.3, z.4)
+pub store_ends-requires : goal.store_ends-requires
+store_ends-requires c =
+    let s = (goal.at.store_ends-requires c).Start in
+    let e = rw c.in_ok-found.was at (came (goal.at.store_ends-requires c).After-bracket_among) in
+    let answered = ap (λ (j : Bracketed (List ℕ)). j.stiffness) e in
+    let k = order_of s.args.n in
+    let z = and_right (own_sized s) (ends_sized s) (answered-sized s.args.n _ _ _ (λ x. bytes_of w64 x k) s.args.vector.now answered) in
+    (eqb-true _ _ (and_left _ _ z), eqb-true _ _ (and_right (eqb (length s.args.step.now) (bytes w64)) _ z))
 
 pub returns : goal.returns
-unfolding bracketing
+unfolding stiffness_buffers
 returns c =
-    let d = came (goal.at.returns c).After-check_laid in
-    let q = c.in_ok-check_laid.was in
-    let h = d.held q in
-    rw (← entered-passed _ _ _ _ _ refused _ d q)
-    (rw ((order-passed c.ranges.n c.in_ok-m.ensures).0, h.low, h.high) at c.bracket_bounds.ensures)
+    let s = (goal.at.returns c).Start in
+    let e = came (goal.at.returns c).After-bracket_among in
+    let j : Bracketed (List ℕ) = record { stiffness = Ok c.in_ok-found.found; vector = c.bracket_among.new.vector } in
+    ap (beside j) c.store_ends.ensures ∙ ap (given s) (rw c.in_ok-found.was at e)
