@@ -3,9 +3,7 @@ ghost use mathlib.Core.Path.{refl};
 ghost use Rattle.std.specs.Prelude.{◌≡◌, ◌++◌, ◌*◌, ◌^◌, ◌≤◌, List, ℕ, ℤ, length, take, drop};
 ghost use mir.Syntax.{w64};
 ghost use mir.Val.{bytes};
-ghost use Rattle.tables.specs.Elements.{BuffersWhole};
-ghost use Rattle.words.proofs.Laws.{length-numbers_of, length-bytes_of, read_whole};
-ghost use Rattle.words.proofs.Sign.{narrow-of};
+ghost use Rattle.tables.specs.Elements.{BuffersWhole, bytes_whole};
 ghost use Rattle.words.specs.Numbers.{numbers_of, bytes_of};
 
 use words::SIZE;
@@ -68,11 +66,7 @@ impl Element for u8 {
 
     ghost elements = { bytes_of w64 };
 
-    ghost laws = { record {
-      numbers_whole = λ b k e. length-numbers_of w64 b k;
-      elements_whole = λ x k e. length-bytes_of w64 x k;
-      read_back = λ x k e f. read_whole (narrow-of 8) x (record { each = f }) e;
-    } };
+    ghost laws = { bytes_whole };
 
     fn taken(count: usize) -> usize {
         count * SIZE
