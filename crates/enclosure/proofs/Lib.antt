@@ -7,3 +7,5 @@ pub mod BoxMeanings
 pub mod BoxCases
 pub mod BoxFitting
 pub mod BoxCodes
+pub mod ActMeanings
+pub mod Loading

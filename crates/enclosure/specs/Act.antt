@@ -1,5 +1,7 @@
 -- The box act, R5.5 and R14 of docs/RULES.md: what it answers, what it writes, and what its answer means (D3.3, D3.4).
-use Rattle.std.specs.Prelude.{◌≡◌, Bool, ◌&&◌, List, ℕ, ◌+◌, ◌*◌, eqb, ℤ, pos, negsuc, length, Result, Ok, Err}
+use Rattle.std.specs.Prelude.{◌≡◌, Bool, true, ◌&&◌, List, ℕ, ◌+◌, ◌*◌, eqb, ℤ, pos, negsuc, length, Result, Ok, Err}
+use Rattle.tables.specs.Ranges.{greatest_order}
+use Rattle.tables.specs.Matrix.{nth}
 use Rattle.tables.specs.Checks.{order_of}
 use Rattle.tables.specs.Answers.{answer_code}
 use Rattle.tables.specs.Problem.{problem_of, lengths_of, constraint_sized}
@@ -26,13 +28,22 @@ laid_sides F (refused r) b = record { answer = Err r; sides = b }
 unfoldable pub box_sizes : Sizes → ℕ → Lengths → ℕ → ℕ → Bool
 box_sizes z pairs lengths c s = constraint_sized z lengths && (eqb c z.vector && eqb s pairs)
 
--- the box, of anything at all, and a buffer that holds anything
-unfoldable pub enclose : ℤ → List ℤ → List ℤ → List ℤ → List ℤ → ℤ → List ℤ → List ℤ → Enclosed (List ℤ)
-enclose n l u a b α c s =
+-- the box of the numbers that buffers of any length hold, and a buffer that holds anything: so many numbers take `taken` elements, `numbers`
+-- are those of a buffer, and `elements` those of a list of numbers
+unfoldable pub box_act : {A : Type 0} → (ℕ → ℕ) → (List A → ℕ → List ℤ) → (List ℤ → ℕ → List A) → ℤ →
+    List A → List A → List A → List A → ℤ → List A → List A → Enclosed (List A)
+box_act taken numbers elements n l u a b α c s =
     let k : ℕ = order_of n in
-    let z : Sizes = record { table = k * k; vector = k } in
+    let z : Sizes = record { table = taken (k * k); vector = taken k } in
     let lengths : Lengths = lengths_of (length l) (length u) (length a) (length b) in
-    laid_sides (λ x. x) (boxing n (box_sizes z (k + k) lengths (length c) (length s)) (problem_of k l u a b α c)) s
+    laid_sides (λ x. elements x (k + k))
+    (boxing n (box_sizes z (taken (k + k)) lengths (length c) (length s))
+    (problem_of k (numbers l (k * k)) (numbers u (k * k)) (numbers a k) (numbers b k) α (numbers c k)))
+    s
+
+-- of numbers themselves
+unfoldable pub enclose : ℤ → List ℤ → List ℤ → List ℤ → List ℤ → ℤ → List ℤ → List ℤ → Enclosed (List ℤ)
+enclose n l u a b α c s = box_act (λ k. k) (λ x k. x) (λ x k. x) n l u a b α c s
 
 -- R15.4: the number at the C entry, 0, -1, or the refusal's
 abbrev pub box_number : BoxAnswer → ℤ
@@ -48,3 +59,8 @@ pub record Meaning (r : Result BoxAnswer Refusal) (c : Constraint) (s : List ℤ
   pub holds : r ≡ Ok BoxAnswer.Sides → (X : ℕ → ℤ) (p : ℤ) → Allowed c X p → Contains c.order s X p
   -- D3.4: 'empty', there is no point
   pub none : r ≡ Ok BoxAnswer.Empty → (X : ℕ → ℤ) (p : ℤ) → Allowed c X p → ⊥
+
+-- ---- what the code leaves: where the buffers have their sizes, the numbers x stand in t
+pub record Loaded (sized : Bool) (x t : List ℤ) : Type 0 where
+  pub size : length t ≡ greatest_order
+  pub numbers : sized ≡ true → nth t ≡ nth x

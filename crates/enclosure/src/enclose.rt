@@ -1,23 +1,20 @@
 // The box act, R14 of docs/RULES.md.
-ghost use Rattle.std.specs.Prelude.{◌≡◌, List, ◌+◌, ℤ, length};
+ghost use Rattle.std.specs.Prelude.{◌≡◌, true, List, ◌+◌, ◌*◌, ◌≤◌, length};
 ghost use Rattle.integers.specs.Numbers.{Within};
-ghost use Rattle.tables.specs.Ranges.{limit_range};
+ghost use Rattle.tables.specs.Ranges.{greatest_order, limit_range};
 ghost use Rattle.tables.specs.Checks.{order_of};
-ghost use Rattle.tables.specs.Problem.{constraint_of, ends_of};
-ghost use Rattle.tables.specs.Matrix.{nth};
-ghost use Rattle.tables.specs.Bounded.{low_of, high_of};
-ghost use Rattle.centre.specs.Required.{LinearTerms};
-ghost use Rattle.enclosure.specs.Box.{boxed};
-ghost use Rattle.enclosure.specs.Act.{Enclosed, laid_sides, box_sizes, enclose, box_number, Meaning};
+ghost use Rattle.tables.specs.Problem.{constraint_of};
+ghost use Rattle.enclosure.specs.Act.{Enclosed, laid_sides, box_sizes, Loaded, box_act, box_number, Meaning};
 ghost use Rattle.enclosure.specs.Stating.{stated, boxed_of};
 
 use centre::centred::Centred;
 use centre::{at_centre, gradients, near};
 use sides::box_of;
 use tables::bounded::Bounded;
+use tables::elements::Element;
 use tables::entering::{enter, order};
 use tables::problem::{Lengths, Sizes, constraint_sized, lengths_of};
-use tables::{Answer, GREATEST_ORDER, Refusal, Sides, TABLE_ROOM, check_ends};
+use tables::{Answer, GREATEST_ORDER, Refusal, Sides, TABLE_ROOM, Vector, check_ends};
 
 // What the box act answers: sides, or that there is no point.
 #[derive(Clone, Copy, Debug, PartialEq, Eq)]
@@ -60,32 +57,22 @@ pub fn box_bounds(problem: Centred, limit: i64) -> Result<Option<Sides>, Refusal
     Ok(sides)
 }
 
-// The same with the sides in a buffer of the size that the order calls for. All numbers are lent for one time, as Centred holds them.
-fn enclose_bounds<'a>(
-    bounds: Bounded<'a>,
-    from: &'a [i64],
-    to: &'a [i64],
+// The same with the sides in a buffer of the size that the order calls for.
+fn enclose_centred<E: Element>(
+    problem: Centred,
     limit: i64,
-    centre: &'a [i64],
-    sides: &mut [i64],
+    sides: &mut [E],
 ) -> Result<BoxAnswer, Refusal>
-    requires { LinearTerms bounds.order from.now to.now centre.now × Within limit_range limit
-        × (length sides.old ≡ bounds.order + bounds.order) }
-    ensures { let b = bounds.entry in
-        ◌≡◌ {A = Enclosed (List ℤ)} (record { answer = result; sides = sides.new }) (laid_sides (λ s. s)
-        (boxed b.order (low_of b) (high_of b) (ends_of from.now to.now) limit (nth centre.now)) sides.old) }
+    requires { Within limit_range limit × (length sides.old ≡ E.taken (problem.bounds.order + problem.bounds.order)) }
+    ensures { let k = problem.entry.bounds.order in
+        ◌≡◌ {A = Enclosed (List E)} (record { answer = result; sides = sides.new })
+        (laid_sides (λ x. E.elements x (k + k)) (boxed_of problem.entry limit) sides.old) }
 {
-    let problem = Centred {
-        bounds,
-        from,
-        to,
-        centre,
-    };
-    let n = bounds.order;
+    let n = problem.bounds.order;
     let given = box_bounds(problem, limit)?;
     match given {
         Some(x) => {
-            tables::copy_numbers(n + n, &x, sides);
+            E::store(&x, n + n, sides);
             Ok(BoxAnswer::Sides)
         }
         None => Ok(BoxAnswer::Empty),
@@ -100,39 +87,63 @@ pub fn box_sized(sizes: Sizes, pairs: usize, lengths: Lengths, centre: usize, si
     constraint_sized(sizes, lengths) && (centre == vector && sides == pairs)
 }
 
-// The box, of any numbers at all: n is an order or not, and each slice has any length. The linear terms lie between those of from and to.
-// Refused by the first of the checks 1 to 5, 16, 8 and 9 that fails, or empty, with the buffer kept; else the sides are written, low and
-// high for each k.
-pub fn enclose(
+// The vector of order n that a buffer holds, where the buffers have their sizes; else zeros.
+fn load_terms<E: Element>(n: usize, sized: bool, from: &[E]) -> Vector
+    requires { (n ≤ greatest_order) × (sized ≡ true → length from.now ≡ E.taken n) }
+    ensures { Loaded sized (E.numbers from.now n) result }
+{
+    let mut x = [0i64; GREATEST_ORDER];
+    if sized {
+        E::load(from, n, &mut x);
+    }
+    x
+}
+
+// The box, of any numbers at all, in buffers of numbers or of bytes: n is an order or not, and each buffer has any length. The linear terms
+// lie between those of from and to. Refused by the first of the checks 1 to 5, 16, 8 and 9 that fails, or empty, with the buffer kept; else
+// the sides are written, low and high for each k.
+pub fn enclose<E: Element>(
     n: i64,
-    low: &[i64],
-    high: &[i64],
-    from: &[i64],
-    to: &[i64],
+    low: &[E],
+    high: &[E],
+    from: &[E],
+    to: &[E],
     limit: i64,
-    centre: &[i64],
-    sides: &mut [i64],
+    centre: &[E],
+    sides: &mut [E],
 ) -> Result<BoxAnswer, Refusal>
-    ensures exact { ◌≡◌ {A = Enclosed (List ℤ)} (record { answer = result; sides = sides.new })
-        (enclose n low.now high.now from.now to.now limit centre.now sides.old) }
-    ensures meaning { Meaning result (constraint_of (order_of n) low.now high.now from.now to.now limit) sides.new }
+    ensures exact { ◌≡◌ {A = Enclosed (List E)} (record { answer = result; sides = sides.new })
+        (box_act E.taken E.numbers E.elements n low.now high.now from.now to.now limit centre.now sides.old) }
+    ensures meaning { let k = order_of n in
+        Meaning result (constraint_of k (E.numbers low.now (k * k)) (E.numbers high.now (k * k)) (E.numbers from.now k)
+        (E.numbers to.now k) limit) (E.numbers sides.new (k + k)) }
 {
     let m = order(n)?;
     let sizes = Sizes {
-        table: m * m,
-        vector: m,
+        table: E::taken(m * m),
+        vector: E::taken(m),
     };
+    let pairs = E::taken(m + m);
     let lengths = lengths_of(low.len(), high.len(), from.len(), to.len());
-    let sized = box_sized(sizes, m + m, lengths, centre.len(), sides.len());
-    let within = tables::sized_within(m, sized, from, to, limit, centre);
+    let sized = box_sized(sizes, pairs, lengths, centre.len(), sides.len());
+    let a = load_terms(m, sized, from);
+    let b = load_terms(m, sized, to);
+    let c = load_terms(m, sized, centre);
+    let within = tables::sized_within(m, sized, &a, &b, limit, &c);
     let mut l = [0i64; TABLE_ROOM];
     let mut u = [0i64; TABLE_ROOM];
     enter(n, sized, within, low, high, &mut l, &mut u)?;
-    check_ends(m, from, to)?;
+    check_ends(m, &a, &b)?;
     let bounds = Bounded {
         order: m,
         low: &l,
         high: &u,
     };
-    enclose_bounds(bounds, from, to, limit, centre, sides)
+    let problem = Centred {
+        bounds,
+        from: &a,
+        to: &b,
+        centre: &c,
+    };
+    enclose_centred(problem, limit, sides)
 }
