@@ -1,6 +1,6 @@
 -- The numbers that a buffer spells, loaded over zeros.
-use mathlib.Core.Path.{◌≡◌, refl, sym, ap, ◌∙◌}
-use mathlib.Core.Bool.{Bool, true, false, ◌&&◌}
+use mathlib.Core.Path.{◌≡◌, sym, ap, ◌∙◌}
+use mathlib.Core.Bool.{Bool, true}
 use mathlib.Core.List.{List, ◌++◌}
 use Prim.Native.Nat.{ℕ, ◌≤◌}
 use native.Mathlib.Omega.{arith}
@@ -9,13 +9,11 @@ use lib.ListN.{length, drop, length-append, length-drop, length-replicate}
 use mir.Syntax.{w64}
 use Rattle.words.specs.Numbers.{numbers_of}
 use Rattle.words.proofs.Laws.{length-numbers_of}
-use Rattle.tables.specs.Ranges.{linear_range, centre_range}
-use Rattle.tables.specs.Checks.{linear_within, terms_within, Checked, order_ok, order_of, first_refusal, entry_checks, bounds_checks}
-use Rattle.tables.specs.Checks.{ends_checks}
+use Rattle.tables.specs.Checks.{Checked, order_ok, order_of, first_refusal, entry_checks, bounds_checks}
 use Rattle.tables.specs.Entering.{Laid, Mended, Entered}
 use Rattle.std.specs.Prelude.{Ok}
-use Rattle.tables.proofs.Admission.{zeros, Padded, laid-zeros, range_same, crossed_same, entry-passes, mended-after, entered-laid}
-use Rattle.buffers.specs.Buffers.{table_of, vector_of, Terms}
+use Rattle.tables.proofs.Admission.{zeros, Padded, laid-zeros, entry-passes, mended-after, entered-laid}
+use Rattle.buffers.specs.Buffers.{table_of, Terms}
 
 -- k numbers laid over zeros
 module _ {room k : ℕ} (s : List ℕ) {o o' : List ℤ} (b : o ≡ zeros room) (h : k ≤ room) (q : o' ≡ numbers_of w64 s k ++ drop k o) where
@@ -37,27 +35,6 @@ came-sized {n} {sized} {others} l u {l₀} {u₀} {l'} {u'} {r} e h g t p a =
     let mended : Mended (bounds_checks others (order_of n) l₀ u₀) (order_of n) l₀ u₀ r l' u' = rw (← e) a in
     entered-laid n sized others (λ s. (length-numbers_of w64 l _, length-numbers_of w64 u _)) laid
     (mended-after (entry_checks n sized) passed mended)
-
--- check 3 of the numbers that were loaded is that of the numbers that the buffers spell
-pub terms-spelled : (n : ℕ) (sized : Bool) (a b c : List ℕ) (x y z : List ℤ) (α : ℤ) {r sized' : Bool} {m : ℕ} {β : ℤ} →
-    r ≡ (sized' && terms_within m x y β z) → sized' ≡ sized → m ≡ n → β ≡ α →
-    Terms n sized a x → Terms n sized b y → Terms n sized c z →
-    r ≡ (sized && terms_within n (vector_of n a) (vector_of n b) α (vector_of n c))
-unfolding linear_within terms_within
-terms-spelled n true a b c x y z α e f g h p q t =
-    (rw (f, g, h) at e) ∙ rw (
-      range_same linear_range n (vector_of n a) x (p.numbers refl),
-      range_same linear_range n (vector_of n b) y (q.numbers refl),
-      range_same centre_range n (vector_of n c) z (t.numbers refl),
-    )
-terms-spelled n false a b c x y z α e f g h p q t = rw f at e
-
--- and so is check 16
-pub ends-spelled : (n : ℕ) (a b : List ℕ) (x y : List ℤ) {m : ℕ} {r : Checked} → r ≡ first_refusal (ends_checks m x y) → m ≡ n →
-    Terms n true a x → Terms n true b y →
-    r ≡ first_refusal (ends_checks n (vector_of n a) (vector_of n b))
-unfolding ends_checks
-ends-spelled n a b x y e g p q = (rw g at e) ∙ rw (crossed_same n (vector_of n a) x (vector_of n b) y (p.numbers refl) (q.numbers refl))
 
 -- of equal parts
 pub terms_by : {n m : ℕ} {sized sized' : Bool} {b : List ℕ} {x : List ℤ} → n ≡ m → sized ≡ sized' → Terms n sized b x → Terms m sized' b x

@@ -1,13 +1,11 @@
 -- The box by its steps: flat, far, and else what its numbers give; and what the code states and hands out.
 use mathlib.Core.Path.{◌≡◌, refl, sym, ap, ap₂, ◌∙◌}
 use mathlib.Core.Bool.{Bool, true, false, ◌&&◌}
-use mathlib.Core.List.{List, ◌++◌, append-nil}
+use mathlib.Core.List.{List}
 use Prim.Native.Nat.{ℕ, ◌+◌, ◌≤◌, ◌<◌}
-use native.Mathlib.Omega.{arith}
 use lib.IntN.{ℤ, pos}
 use lib.Signed.{le_z}
-use lib.ListN.{length, take, drop, drop_of_length-le}
-use lib.Seq.{length-take-le}
+use lib.ListN.{length}
 use borrow.Author.Tests.{eqb-true}
 use lib.Dec.{eqb}
 use Rattle.std.specs.Prelude.{Result, Ok, Err, Option, Some, None}
@@ -21,7 +19,6 @@ use Rattle.tables.specs.declared.Refusal.{Refusal}
 use Rattle.tables.specs.declared.problem.Sizes.{Sizes}
 use Rattle.tables.specs.declared.problem.Lengths.{Lengths}
 use Rattle.tables.specs.declared.Refusal.TheVariants.{Flat, Far}
-use Rattle.tables.proofs.Buffers.{copied-whole}
 use Rattle.tables.proofs.Checks.{and_left, and_right, all-at, all_ext, within_of, linear_of}
 use Rattle.tables.proofs.Problems.{constraint_sizes-of}
 use Rattle.tables.proofs.Matrix.{nth-tabulate}
@@ -113,20 +110,6 @@ module _ {A : Type 0} (F : List ℤ → A) (n : ℕ) {b : Box} {r : Result (Opti
   pub given-refused : (k : Refusal) → r ≡ Err k → ◌≡◌ {A = Enclosed A} (record { answer = Err k; sides = s }) (laid_sides F b s)
   unfolding stated
   given-refused k f = given_by (Err k) f
-
--- ---- the first numbers of a list, so many of them
-front : (k : ℕ) (x : List ℤ) → k ≤ length x → take k x ≡ tabulate k (nth x)
-front k x h =
-    let e : length (take k x) ≡ k = length-take-le k x h in
-    let end : length (take k x) ≤ k = omega (arith, e) in
-    rw (drop_of_length-le (take k x) end, append-nil) at (copied-whole {n = k} x (take k x) h e)
-
--- what they are stored as in a buffer of exactly that size
-pub stored-whole : {A : Type 0} (elements : List ℤ → ℕ → List A) (m k : ℕ) (x : List ℤ) (s : List A) → k ≤ length x → length s ≡ m →
-    elements (take k x) k ++ drop m s ≡ elements (tabulate k (nth x)) k
-stored-whole elements m k x s h e =
-    let end : length s ≤ m = omega (arith, e) in
-    rw (drop_of_length-le s end, append-nil, front k x h) refl
 
 -- ---- checks 1 and 2 passed
 pub record BoxSized (z : Sizes) (pairs : ℕ) (b : Lengths) (c s : ℕ) : Type 0 where

@@ -28,8 +28,8 @@ laid_sides F (refused r) b = record { answer = Err r; sides = b }
 unfoldable pub box_sizes : Sizes → ℕ → Lengths → ℕ → ℕ → Bool
 box_sizes z pairs lengths c s = constraint_sized z lengths && (eqb c z.vector && eqb s pairs)
 
--- the box of the numbers that buffers of any length hold, and a buffer that holds anything: so many numbers take `taken` elements, `numbers`
--- are those of a buffer, and `elements` those of a list of numbers
+-- the box of the numbers that buffers of any length hold, and a buffer that holds anything: so many numbers take `taken` elements,
+-- `numbers` are those of a buffer, and `elements` those of a list of numbers
 unfoldable pub box_act : {A : Type 0} → (ℕ → ℕ) → (List A → ℕ → List ℤ) → (List ℤ → ℕ → List A) → ℤ →
     List A → List A → List A → List A → ℤ → List A → List A → Enclosed (List A)
 box_act taken numbers elements n l u a b α c s =

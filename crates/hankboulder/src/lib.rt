@@ -82,7 +82,7 @@ pub extern "C" fn hb_box(
         limit centre.now sides.old) }
     ensures meaning { BoxMeaning n low.now high.now linear_low.now linear_high.now limit result sides.new }
 {
-    answer_code(buffers::boxing::enclose(
+    answer_code(enclosure::enclose::enclose(
         n,
         low,
         high,
