@@ -1,4 +1,5 @@
--- R27.2 and checks 1 and 2 of R27.3 of docs/RULES.md: how many problems there are, what passing these checks says of the orders and of each size, and what
+-- R27.2 and checks 1 and 2 of R27.3 of docs/RULES.md: how many problems there are, what passing these checks says of the orders and of
+-- each size, and what
 -- the act answers where they fail.
 use mathlib.Core.Path.{◌≡◌, refl, sym, ap, ◌∙◌}
 use mathlib.Core.Bool.{Bool, true, false, false≢true, ◌&&◌}
@@ -37,7 +38,8 @@ use Rattle.pool.specs.Required.{counted, Sized, LentSums}
 module _ (unit size : ℕ) where
   count_by : (P : ℕ → Type 0) → (size % unit ≡ 0 → size / unit ≤ greatest_pool → P (size / unit)) → P 0 → P (count_of unit size)
   unfolding count_of
-  count_by P f z = go (eqb (size % unit) 0) (leb (size / unit) greatest_pool) (eqb-true (size % unit) 0) (leb-true (size / unit) greatest_pool)
+  count_by P f z = go (eqb (size % unit) 0) (leb (size / unit) greatest_pool) (eqb-true (size % unit) 0)
+      (leb-true (size / unit) greatest_pool)
     where
       go : (a b : Bool) → (a ≡ true → size % unit ≡ 0) → (b ≡ true → size / unit ≤ greatest_pool) →
           P (elim (a && b) as (λ z. ℕ) [ true ↦ size / unit | false ↦ 0 ])
@@ -133,7 +135,8 @@ module _ (n : ℤ) (m : ℕ) (orders : List ℤ) (sized : Bool) where
 
   module _ (c : Constraint) (p : ℕ → Constraint) where
     -- what holds of each refusal, and of what is left to ask behind 1 and 2, holds of the whole
-    pub pooling_by : (P : Outcome → Type 0) → ((r : Refusal) → P (Err r)) → (Behind n m orders sized → P (checked_pool c p m)) → P (pooling n m orders sized c p)
+    pub pooling_by : (P : Outcome → Type 0) → ((r : Refusal) → P (Err r)) → (Behind n m orders sized → P (checked_pool c p m)) →
+        P (pooling n m orders sized c p)
     unfolding pooling
     pooling_by P f g = after-means Err (first_refusal entry) (checked_pool c p m) P f (λ e. g (entry-behind e))
 
@@ -146,9 +149,13 @@ module _ (n : ℤ) (m : ℕ) (orders : List ℤ) (sized : Bool) where
     pooling-passed e = after-passed Err (checked_pool c p m) e
 
 -- only the first m orders are asked
-pub entry-front : (n : ℤ) (m : ℕ) (x y : List ℤ) (sized : Bool) → ((k : ℕ) → k < m → nth x k ≡ nth y k) → pool_entry_checks n m x sized ≡ pool_entry_checks n m y sized
+pub entry-front : (n : ℤ) (m : ℕ) (x y : List ℤ) (sized : Bool) → ((k : ℕ) → k < m → nth x k ≡ nth y k) →
+    pool_entry_checks n m x sized ≡ pool_entry_checks n m y sized
 unfolding orders_ok orders_same
-entry-front n m x y sized e = rw (all_ext m (λ k. order_ok (nth x k)) (λ k. order_ok (nth y k)) (λ k h. ap order_ok (e k h)), all_ext m (λ k. same (nth x k) n) (λ k. same (nth y k) n) (λ k h. ap (λ (z : ℤ). same z n) (e k h)))
+entry-front n m x y sized e = rw (
+  all_ext m (λ k. order_ok (nth x k)) (λ k. order_ok (nth y k)) (λ k h. ap order_ok (e k h)),
+  all_ext m (λ k. same (nth x k) n) (λ k. same (nth y k) n) (λ k h. ap (λ (z : ℤ). same z n) (e k h)),
+)
 
 -- ---- each size
 pub record PoolSizes (unit n m : ℕ) (b : Lengths) (α : ℕ) (q : Lengths) (αs : ℕ) : Type 0 where
@@ -163,7 +170,8 @@ pub record PoolSizes (unit n m : ℕ) (b : Lengths) (α : ℕ) (q : Lengths) (α
   pub tos : q.linear.high ≡ m * n * unit
   pub limits : αs ≡ m * unit
 
-pub pool-sizes-of : (unit n m : ℕ) (b : Lengths) (α : ℕ) (q : Lengths) (αs : ℕ) → pool_sized unit n m b α q αs ≡ true → PoolSizes unit n m b α q αs
+pub pool-sizes-of : (unit n m : ℕ) (b : Lengths) (α : ℕ) (q : Lengths) (αs : ℕ) → pool_sized unit n m b α q αs ≡ true →
+    PoolSizes unit n m b α q αs
 unfolding pool_sized
 pool-sizes-of unit n m b α q αs e =
     let one : Sizes = record { table = n * n * unit; vector = n * unit } in
@@ -205,4 +213,11 @@ module _ (n m : ℕ) (b : Lent (List ℤ)) (q : Problems (List ℤ))
   pub pool-lent : LentSums n b
   pool-lent =
       let z = sizes in
-      record { low = omega (arith, z.low); high = omega (arith, z.high); from = omega (arith, z.from); to = omega (arith, z.to); limit = z.limit }
+      record {
+        low = omega (arith, z.low);
+        high = omega (arith, z.high);
+        from = omega (arith, z.from);
+        to = omega
+            (arith, z.to);
+        limit = z.limit;
+      }

@@ -58,15 +58,18 @@ Refuses n orders q b r = Leaves n orders q b (Err r) b
 
 -- W63 to W67, with sums and problems of order 1; W68; and the refusals of W69, W70 and W71
 worked :
-    Leaves (pos 1) ones (problems (pos 4 ∷ pos 4 ∷ []) (pos 4 ∷ pos 4 ∷ []) (negsuc 7 ∷ negsuc 7 ∷ []) (negsuc 7 ∷ negsuc 7 ∷ []) ones) (alone (pos 0))
+    Leaves (pos 1) ones (problems (pos 4 ∷ pos 4 ∷ []) (pos 4 ∷ pos 4 ∷ []) (negsuc 7 ∷ negsuc 7 ∷ []) (negsuc 7 ∷ negsuc 7 ∷ []) ones)
+    (alone (pos 0))
     (Ok tt) (sums (pos 8 ∷ []) (pos 8 ∷ []) (negsuc 15 ∷ []) (negsuc 15 ∷ []) (pos 2 ∷ []))
     × Leaves (pos 1) (pos 1 ∷ []) (problems (pos 1 ∷ []) (pos 1 ∷ []) (pos 0 ∷ []) (pos 0 ∷ []) (pos 1 ∷ []))
     (sums (pos 1048576 ∷ []) (pos 1048576 ∷ []) (negsuc 0 ∷ []) (pos 1 ∷ []) (pos 3 ∷ []))
     (Ok tt) (sums (pos 524289 ∷ []) (pos 524289 ∷ []) (negsuc 0 ∷ []) (pos 1 ∷ []) (pos 3 ∷ []))
-    × Refuses (pos 1) (pos 1 ∷ []) (problems (pos 1048576 ∷ []) (pos 1048576 ∷ []) (pos 0 ∷ []) (pos 0 ∷ []) (pos 0 ∷ [])) (alone (pos 1048576)) Refused.Full
+    × Refuses (pos 1) (pos 1 ∷ []) (problems (pos 1048576 ∷ []) (pos 1048576 ∷ []) (pos 0 ∷ []) (pos 0 ∷ []) (pos 0 ∷ []))
+    (alone (pos 1048576)) Refused.Full
     × Refuses (pos 1) ones (pair (pos 1) (pos 1048576)) (alone (pos 1048576)) Refused.Full
     × Leaves (pos 1) ones (pair (pos 524288) (pos 1)) (alone (pos 1048576)) (Ok tt) (alone (pos 524289))
-    × Leaves (pos 2) (pos 2 ∷ []) (problems (pos 2 ∷ pos 1 ∷ pos 0 ∷ pos 2 ∷ []) (pos 3 ∷ pos 2 ∷ pos 3 ∷ pos 3 ∷ []) zeros zeros (pos 0 ∷ []))
+    × Leaves (pos 2) (pos 2 ∷ []) (problems (pos 2 ∷ pos 1 ∷ pos 0 ∷ pos 2 ∷ []) (pos 3 ∷ pos 2 ∷ pos 3 ∷ pos 3 ∷ []) zeros zeros
+    (pos 0 ∷ []))
     (sums (pos 0 ∷ pos 0 ∷ negsuc 0 ∷ pos 0 ∷ []) (pos 0 ∷ pos 2 ∷ pos 1 ∷ pos 0 ∷ []) zeros zeros (pos 0 ∷ []))
     (Ok tt) (sums (pos 2 ∷ pos 1 ∷ pos 1 ∷ pos 2 ∷ []) (pos 3 ∷ pos 3 ∷ pos 3 ∷ pos 3 ∷ []) zeros zeros (pos 0 ∷ []))
     × Refuses (pos 1) (pos 1 ∷ pos 9 ∷ []) (pair (pos 0) (pos 0)) (alone (pos 0)) Refused.Order

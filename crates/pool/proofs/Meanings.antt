@@ -1,4 +1,5 @@
--- D3.10 of docs/RULES.md: what sums explain at a point that every pooled problem allows, the pool explains; so a point that the sums read with K allow too
+-- D3.10 of docs/RULES.md: what sums explain at a point that every pooled problem allows, the pool explains; so a point that the sums read
+-- with K allow too
 -- is allowed by the pool read with K, and by the same sums halved.
 use mathlib.Core.Path.{◌≡◌, refl, sym, ap, ◌∙◌, subst}
 use mathlib.Core.Bool.{Bool, false≢true}
@@ -67,7 +68,8 @@ module _ (c : Constraint) {X : ℕ → ℤ} {q : ℤ} where
       (subst (λ (α : ℤ). Point c.order (at c.order c.low) (at c.order c.high) (ends_in c) α X q) (sym (+ℤ_idl c.limit)) P)
 
 -- D3.10: a point of what sums give with K is one of what the same sums, halved, give with K
-pub halved_allows : (c : Constraint) (K : ℤ) → pos 0 ≤ℤ K → {X : ℕ → ℤ} {q : ℤ} → Allowed (allowing K c) X q → Allowed (allowing K (halved c)) X q
+pub halved_allows : (c : Constraint) (K : ℤ) → pos 0 ≤ℤ K → {X : ℕ → ℤ} {q : ℤ} → Allowed (allowing K c) X q →
+    Allowed (allowing K (halved c)) X q
 halved_allows c K h P = explained_allows (halved c) K P.whole (halved_explains c (pos_nonneg 1) (allowed_explains c K h P))
 
 -- ---- problems, one after the other
@@ -88,7 +90,8 @@ module _ (c : Constraint) (p : ℕ → Constraint) (m : ℕ) (ordered : (k : ℕ
       (λ k l d w. let g = mended_constraint (p k) in
       let o : (p k).order ≡ d.order = ordered k l ∙ sym w.0 in
       let E = mended_explains (p k) (point_explains (p k) (allowed k l)) in
-      fitted_by (Holds Q) g d (λ z. (w.0, problem_explains g d o h w.1 E)) (λ z. (w.0, problem_explains g (halved d) o h (halved_explains d h w.1) E)) refl))
+      fitted_by (Holds Q) g d (λ z. (w.0, problem_explains g d o h w.1 E))
+      (λ z. (w.0, problem_explains g (halved d) o h (halved_explains d h w.1) E)) refl))
       ).1
     where
       Q : Constraint → Type 0
@@ -101,7 +104,8 @@ pub record Pooled (p : ℕ → Constraint) (m : ℕ) (c d : Constraint) : Type 0
   pub explains : Explaining p m c d
   pub allows : Allowing p m c d
 
-module _ (n : ℤ) (m : ℕ) (orders : List ℤ) (sized : Bool) (c : Constraint) (p : ℕ → Constraint) (ordered : (k : ℕ) → k < m → (p k).order ≡ c.order) where
+module _ (n : ℤ) (m : ℕ) (orders : List ℤ) (sized : Bool) (c : Constraint) (p : ℕ → Constraint)
+    (ordered : (k : ℕ) → k < m → (p k).order ≡ c.order) where
   checked_means : {d : Constraint} → checked_pool c p m ≡ Ok d → Pooled p m c d
   checked_means {d} e =
       let f = passing_is c p m ∙ e in
@@ -109,12 +113,14 @@ module _ (n : ℤ) (m : ℕ) (orders : List ℤ) (sized : Bool) (c : Constraint)
       record {
         order = passing-ordered c p m f;
         explains = explains;
-        allows = λ K h X q allowed P. explained_allows d K P.whole (explains K (pos 1) (pos_nonneg 1) X q allowed (allowed_explains c K h P));
+        allows = λ K h X q allowed P. explained_allows d K P.whole
+            (explains K (pos 1) (pos_nonneg 1) X q allowed (allowed_explains c K h P));
       }
 
   -- what holds of each refusal, and of sums that are taken behind checks 1 and 2, holds of the whole
   pub pooling-means : (P : Outcome → Type 0) → ((r : Refusal) → P (Err r)) →
-      ((d : Constraint) → Behind n m orders sized → checked_pool c p m ≡ Ok d → Pooled p m c d → P (Ok d)) → P (pooling n m orders sized c p)
+      ((d : Constraint) → Behind n m orders sized → checked_pool c p m ≡ Ok d → Pooled p m c d → P (Ok d)) →
+      P (pooling n m orders sized c p)
   pooling-means P f g = pooling_by n m orders sized c p P f (λ b. go b (checked_pool c p m) refl)
     where
       go : Behind n m orders sized → (o : Outcome) → checked_pool c p m ≡ o → P o
@@ -130,8 +136,10 @@ pub pool-means : (n : ℤ) (orders : List ℤ) (q : Problems (List ℤ)) (b : Le
     Meaning j.answer (problem_at (order_of n) q) (count_of 1 (length orders)) (sums_of (order_of n) b) (sums_of (order_of n) j.sums))
 unfolding pool tabulate
 pool-means n orders q b =
-    pooling-means n m orders (pool_sized 1 (order_of n) m (sums_lengths b) (length b.limit) (problems_lengths q) (length q.limits)) c p (λ k h. refl)
-    (λ (o : Outcome). let j = laid_sums (λ t. t) (λ x. x) (λ α. tabulate 1 (λ i. α)) o b in Meaning j.answer p m c (sums_of (order_of n) j.sums))
+    pooling-means n m orders (pool_sized 1 (order_of n) m (sums_lengths b) (length b.limit) (problems_lengths q) (length q.limits)) c p
+    (λ k h. refl)
+    (λ (o : Outcome). let j = laid_sums (λ t. t) (λ x. x) (λ α. tabulate 1 (λ i. α)) o b in
+    Meaning j.answer p m c (sums_of (order_of n) j.sums))
     (λ r. record { explains = λ e. absurd (false≢true cc); allows = λ e. absurd (false≢true cc) })
     (λ d behind e w. subst (Meaning (Ok tt) p m c) (by_order d w.order) (record { explains = λ e. w.explains; allows = λ e. w.allows }))
   where

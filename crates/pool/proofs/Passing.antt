@@ -1,4 +1,5 @@
--- R27.3 of docs/RULES.md: one pass through the problems, each checked and then added with the earliest refusal kept, gives what checks give that are
+-- R27.3 of docs/RULES.md: one pass through the problems, each checked and then added with the earliest refusal kept, gives what checks
+-- give that are
 -- each completed over all of the input before the next; and what a pass takes is in its ranges and has the order of the sums.
 use mathlib.Core.Path.{◌≡◌, refl, sym, ap, ap₂, ◌∙◌, subst}
 use mathlib.Core.Bool.{Bool, true, false, false≢true, ◌&&◌}
@@ -110,7 +111,8 @@ first_both (r ∷ rs) h t s = go t.0 s.0 (first_both rs h.1 t.1 s.1)
     later : (t : Tests rs) → IfRefused (λ s. place r < place s) (found t)
     later = first_is (λ s. place r < place s) rs h.0
 
-    go : (a b : Bool) {k : Checked} → k ≡ sooner (found s.1) (found t.1) → first (a && b) k ≡ sooner (first b (found s.1)) (first a (found t.1))
+    go : (a b : Bool) {k : Checked} → k ≡ sooner (found s.1) (found t.1) →
+        first (a && b) k ≡ sooner (first b (found s.1)) (first a (found t.1))
     go true true e = e
     go true false e = sym (sooner-first r (found t.1) (later t.1))
     go false true e = sym (sooner-second r (found s.1) (later s.1))
@@ -175,7 +177,8 @@ module _ (c : Constraint) (p : ℕ → Constraint) where
   pool_asks (suc m) = ap₂ of_both (pool_asks m) (own_asks (p m)) ∙ asking_both four (tests m) (own (p m))
 
   -- the checks with one problem more
-  pool-first : (m : ℕ) → first_refusal (pool_checks c p (suc m)) ≡ sooner (first_refusal (own_checks (p m))) (first_refusal (pool_checks c p m))
+  pool-first : (m : ℕ) → first_refusal (pool_checks c p (suc m)) ≡ sooner (first_refusal (own_checks (p m)))
+      (first_refusal (pool_checks c p m))
   pool-first m = rw (pool_asks (suc m), pool_asks m, own_asks (p m)) (first_both four four_rising (tests m) (own (p m)))
 
   pub passing_is : (m : ℕ) → passing c p m ≡ checked_pool c p m
@@ -185,7 +188,8 @@ module _ (c : Constraint) (p : ℕ → Constraint) where
       ap (next (p m)) (passing_is m)
       ∙ go (first_refusal (own_checks (p m))) (first_refusal (pool_checks c p m)) (pooled c p m)
       (rw (own_asks (p m)) (first_is _ four before_full (own (p m))))
-      (pooled-holds (λ d. Unit {0}) m tt (λ k h d u. fitted_by (Holds (λ d. Unit {0})) (mended_constraint (p k)) d (λ w. tt) (λ w. tt) refl))
+      (pooled-holds (λ d. Unit {0}) m tt (λ k h d u. fitted_by (Holds (λ d. Unit {0})) (mended_constraint (p k)) d (λ w. tt)
+      (λ w. tt) refl))
       ∙ ap (λ (k : Checked). after Err k (added_next (mended_constraint (p m)) (pooled c p m))) (sym (pool-first m))
     where
       go : (k l : Checked) (o : Outcome) → IfRefused (λ r. place r ≤ place Full) k → Holds (λ d. Unit {0}) o →
@@ -217,13 +221,15 @@ module _ (c : Constraint) (p : ℕ → Constraint) where
   passing-within m h k e =
       let t = passing-taken m e in
       subst (Holds (λ d. sums_within d ≡ true)) t.1
-      (pooled-holds (λ d. sums_within d ≡ true) m (mended-within c h k (pool-own m t.0)) (λ k h d w. fitted_by (Holds (λ d. sums_within d ≡ true)) (mended_constraint (p k)) d (λ e. e) (λ e. e) refl))
+      (pooled-holds (λ d. sums_within d ≡ true) m (mended-within c h k (pool-own m t.0))
+      (λ k h d w. fitted_by (Holds (λ d. sums_within d ≡ true)) (mended_constraint (p k)) d (λ e. e) (λ e. e) refl))
 
   pub passing-ordered : (m : ℕ) {d : Constraint} → passing c p m ≡ Ok d → d.order ≡ c.order
   unfolding plus halved
   passing-ordered m e =
       subst (Holds (λ d. d.order ≡ c.order)) (passing-taken m e).1
-      (pooled-holds (λ d. d.order ≡ c.order) m refl (λ k h d w. fitted_by (Holds (λ d. d.order ≡ c.order)) (mended_constraint (p k)) d (λ e. w) (λ e. w) refl))
+      (pooled-holds (λ d. d.order ≡ c.order) m refl (λ k h d w. fitted_by (Holds (λ d. d.order ≡ c.order)) (mended_constraint (p k)) d
+      (λ e. w) (λ e. w) refl))
 
   -- so the code may go on with what it states
   pub passing_ready : (m : ℕ) {r : Checked} (s : SumsMut) → c.order * c.order ≤ length c.low → c.order * c.order ≤ length c.high →

@@ -29,12 +29,16 @@ nth-numbers w s (suc k) i h = go (ℕ_discrete i k) (λ l. nth-numbers w s k i l
     e : length (numbers_of w s k) ≡ k
     e = length-numbers_of w s k
 
-    go : Dec (i ≡ k) → (i < k → nth (numbers_of w s k) i ≡ signed_at w s (i * bytes w)) → nth (numbers_of w s (suc k)) i ≡ signed_at w s (i * bytes w)
-    go (yes q) f = rw q (ap (nth (numbers_of w s (suc k))) (sym e) ∙ get_or-append_seam (numbers_of w s k) (signed_at w s (k * bytes w)) [] (pos 0))
-    go (no q) f = get_or-append (numbers_of w s k) (signed_at w s (k * bytes w) ∷ []) (pos 0) i (omega (arith, e, h, q)) ∙ f (omega (arith, h, q))
+    go : Dec (i ≡ k) → (i < k → nth (numbers_of w s k) i ≡ signed_at w s (i * bytes w)) →
+        nth (numbers_of w s (suc k)) i ≡ signed_at w s (i * bytes w)
+    go (yes q) f = rw q (ap (nth (numbers_of w s (suc k))) (sym e)
+        ∙ get_or-append_seam (numbers_of w s k) (signed_at w s (k * bytes w)) [] (pos 0))
+    go (no q) f = get_or-append (numbers_of w s k) (signed_at w s (k * bytes w) ∷ []) (pos 0) i (omega (arith, e, h, q))
+        ∙ f (omega (arith, h, q))
 
 -- the numbers of problem k
-pub part-spelled : {k m : ℕ} (s : ℕ) (x : List ℕ) → k < m → part_of s k (numbers_of w64 x (m * s)) ≡ tabulate s (λ i. signed_at w64 x ((k * s + i) * bytes w64))
+pub part-spelled : {k m : ℕ} (s : ℕ) (x : List ℕ) → k < m → part_of s k (numbers_of w64 x (m * s)) ≡ tabulate s
+    (λ i. signed_at w64 x ((k * s + i) * bytes w64))
 part-spelled {k} {m} s x h = tabulate_ext s _ _ (λ i l. nth-numbers w64 x (m * s) (k * s + i) (omega (arith, part_inside s h, l)))
 
 -- ---- check 2 passes

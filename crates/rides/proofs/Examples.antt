@@ -28,7 +28,14 @@ use Rattle.rides.specs.Rides.{no_sums, gathered}
 
 -- rolling 1, climb 1/32, air -1/32, start -0, draw 2: 16 times them lie from 16 to 16, 0 to 1, -1 to 0, 0 to 0, 32 to 32
 abbrev sample : Float → Sample
-sample draw = record { rolling = fin false 1 (pos 0); climb = fin false 1 (negsuc 4); air = fin true 1 (negsuc 4); start = fin true 0 (pos 0); draw = draw }
+sample draw = record {
+  rolling = fin false 1 (pos 0);
+  climb = fin false 1 (negsuc 4);
+  air = fin true 1 (negsuc 4);
+  start = fin true 0
+      (pos 0);
+  draw = draw;
+}
 
 abbrev low : List ℤ
 low =
@@ -61,11 +68,14 @@ apart j l lt u ut = constraint_of 4 (halves no_sums.low j l lt) (halves no_sums.
 abbrev drawn : Sample
 drawn = sample (fin false 1 (pos 1))
 
--- Sums of nothing; sums from 3 to 8 and from 1 to 5, which are mended to 3 to 5 in both places, and from 6 to 8 and from 1 to 5, which leave no number;
--- and sums of which one half is -2^20 and the other 0: mended they are sums of nothing, and the half that is mended away would have left its range.
+-- Sums of nothing; sums from 3 to 8 and from 1 to 5, which are mended to 3 to 5 in both places, and from 6 to 8 and from 1 to 5, which
+-- leave no number;
+-- and sums of which one half is -2^20 and the other 0: mended they are sums of nothing, and the half that is mended away would have left
+-- its range.
 taken :
     (gathered drawn no_sums ≡ Ok (summed low high))
-    × (gathered drawn (apart 1 (pos 3) (pos 1) (pos 8) (pos 5)) ≡ Ok (summed (halves low 1 (pos 3) (pos 3)) (halves high 1 (pos 21) (pos 21))))
+    × (gathered drawn (apart 1 (pos 3) (pos 1) (pos 8) (pos 5)) ≡ Ok
+    (summed (halves low 1 (pos 3) (pos 3)) (halves high 1 (pos 21) (pos 21))))
     × (gathered drawn (apart 1 (pos 6) (pos 1) (pos 8) (pos 5)) ≡ Err Refused.Lopsided)
     × (gathered drawn (apart 2 (negsuc 1048575) (pos 0) (pos 0) (pos 0)) ≡ Ok (summed low high))
     × (sums_within (plus (gains_of drawn) (apart 2 (negsuc 1048575) (pos 0) (pos 0) (pos 0))) ≡ false)

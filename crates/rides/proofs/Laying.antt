@@ -49,6 +49,8 @@ sums-sizes-of unit n b α e =
     }
 
 -- where n is an order and the buffers have their sizes, 3, 4, 5, 16 and 18 are all that is left to ask
-pub sums-sized : (F : ℕ → Neighbours) (D : Neighbours) (n : ℤ) (sized : Bool) (c : Constraint) → order_ok n ≡ true → sized ≡ true → c.order ≡ order_of n → checked_sums F D c ≡ entered_sums F D n sized c
+pub sums-sized : (F : ℕ → Neighbours) (D : Neighbours) (n : ℤ) (sized : Bool) (c : Constraint) → order_ok n ≡ true → sized ≡ true →
+    c.order ≡ order_of n → checked_sums F D c ≡ entered_sums F D n sized c
 unfolding checked_sums
-sums-sized F D n sized c o z e = sym (constraint_sized_lem Err n sized (terms_in (within limit_range c.limit) c) c (added_within F D c) o z e)
+sums-sized F D n sized c o z e = sym (constraint_sized_lem Err n sized (terms_in (within limit_range c.limit) c) c
+    (added_within F D c) o z e)

@@ -33,11 +33,13 @@ by_order : (d : Constraint) {n : ℕ} {u v : ℤ} {X : ℕ → ℤ} {p : ℤ} �
     Explained (constraint_of n d.low d.high d.linear.low d.linear.high d.limit) u v X p
 by_order d e P = rw (← e) P
 
-pub gather-means : (s : Sample) → Narrow s → (n : ℤ) (b : Lent (List ℤ)) → (let j = gather s n b in Meaning s j.answer (sums_of (order_of n) b) (sums_of (order_of n) j.sums))
+pub gather-means : (s : Sample) → Narrow s → (n : ℤ) (b : Lent (List ℤ)) →
+    (let j = gather s n b in Meaning s j.answer (sums_of (order_of n) b) (sums_of (order_of n) j.sums))
 unfolding gather tabulate
 gather-means s narrow n b = record {
   explains =
-      by_outcome s n sized c (λ (o : Outcome). let j = laid_sums (λ t. t) (λ x. x) (λ α. tabulate 1 (λ i. α)) o b in j.answer ≡ Ok tt → Explaining s c (sums_of (order_of n) j.sums))
+      by_outcome s n sized c (λ (o : Outcome). let j = laid_sums (λ t. t) (λ x. x) (λ α. tabulate 1 (λ i. α)) o b in j.answer ≡ Ok tt →
+      Explaining s c (sums_of (order_of n) j.sums))
       (λ z d f q u v w X p P. by_order d (fitted-ordered (gains_of s) (mended_constraint c) f)
       (added_explains s X p (mended_constraint c) (sums-sizes-of _ _ _ _ z).order (≤ℤ_trans (pos_nonneg 1) w) (mended_explains c P) f))
       (λ r q. absurd (false≢true cc));

@@ -24,10 +24,12 @@ use Rattle.rides.proofs.Wanted.{allowed}
 pub limit_fits : (K α : ℤ) → limits_in K α ≡ true → SFits w64 (K +ℤ α)
 unfolding limits_in
 limit_fits K α e =
-    fits_within (within_of limit_range (K +ℤ α) (and_right (le_z K (pos allowance_range)) _ (and_right (le_z (pos 0) K) _ (and_right (within limit_range α) _ e)))) (omega arith)
+    fits_within (within_of limit_range (K +ℤ α) (and_right (le_z K (pos allowance_range)) _
+    (and_right (le_z (pos 0) K) _ (and_right (within limit_range α) _ e)))) (omega arith)
 
 -- where n is an order and the buffers have their sizes, 3, 4, 5 and 16 are all that is left to ask
-pub reading-sized : (n : ℤ) (sized : Bool) (K : ℤ) (c : Constraint) → order_ok n ≡ true → sized ≡ true → c.order ≡ order_of n → checked_reading K c ≡ read_sums n sized K c
+pub reading-sized : (n : ℤ) (sized : Bool) (K : ℤ) (c : Constraint) → order_ok n ≡ true → sized ≡ true → c.order ≡ order_of n →
+    checked_reading K c ≡ read_sums n sized K c
 unfolding checked_reading read_sums
 reading-sized n sized K c o z e = sym (constraint_sized_lem Err n sized (terms_in (limits_in K c.limit) c) c (read_limit K c) o z e)
 

@@ -1,4 +1,5 @@
--- What is wanted of gathered rides: a point whose squares are at most K together is allowed by the sums with the allowance K, and so lies in every box of them.
+-- What is wanted of gathered rides: a point whose squares are at most K together is allowed by the sums with the allowance K, and so lies
+-- in every box of them.
 use mathlib.Core.Path.{◌≡◌, refl, ap, subst, ◌∙◌}
 use mathlib.Core.Bool.{Bool, true, false}
 use mathlib.Core.List.{List, [], ◌∷◌}
@@ -54,7 +55,8 @@ module _ (c : Constraint) {u v : ℤ} {X : ℕ → ℤ} {p : ℤ} where
         terms = P.terms;
         scale = s;
         between = P.between;
-        under = *ℤ_cancel t h (order (t ∷ u ∷ v ∷ c.limit ∷ p ∷ q ∷ s ∷ form c.order P.matrix X ∷ sum c.order (λ k. P.terms k *ℤ X k) ∷ []) P.under (search solver depth 40 fits 20000) (omega arith));
+        under = *ℤ_cancel t h (order (t ∷ u ∷ v ∷ c.limit ∷ p ∷ q ∷ s ∷ form c.order P.matrix X ∷ sum c.order
+            (λ k. P.terms k *ℤ X k) ∷ []) P.under (search solver depth 40 fits 20000) (omega arith));
       }
 
   -- explained up to K: allowed with the allowance K
@@ -62,7 +64,8 @@ module _ (c : Constraint) {u v : ℤ} {X : ℕ → ℤ} {p : ℤ} where
   allowed one-v one-p K h P =
       let q = P.denominator in
       let s = P.scale in
-      let room = *ℤ-nonneg (*ℤ-nonneg (square_nonneg p) (≤ℤ_trans (pos_nonneg 1) P.member.whole)) (≤ℤ_trans (pos_nonneg 1) P.between.whole) in
+      let room = *ℤ-nonneg (*ℤ-nonneg (square_nonneg p) (≤ℤ_trans (pos_nonneg 1) P.member.whole))
+      (≤ℤ_trans (pos_nonneg 1) P.between.whole) in
       record {
         matrix = P.matrix;
         denominator = q;
@@ -81,7 +84,8 @@ abbrev pub with_sample : Sample → Constraint → Outcome
 with_sample s c = fitted (gains_of s) (mended_constraint c)
 
 module _ (s : Sample) (n : ℤ) (sized : Bool) (c : Constraint) where
-  pub by_outcome : (P : Outcome → Type 0) → (sized ≡ true → (d : Constraint) → with_sample s c ≡ Ok d → P (Ok d)) → ((r : Refusal) → P (Err r)) → P (gathering s n sized c)
+  pub by_outcome : (P : Outcome → Type 0) → (sized ≡ true → (d : Constraint) → with_sample s c ≡ Ok d → P (Ok d)) →
+      ((r : Refusal) → P (Err r)) → P (gathering s n sized c)
   unfolding gathering
   by_outcome P f g = go (sample_fits s)
     where
@@ -89,8 +93,13 @@ module _ (s : Sample) (n : ℤ) (sized : Bool) (c : Constraint) where
       last z (Ok d) e = f z d e
       last z (Err r) e = g r
 
-      go : (b : Bool) → P (elim b as (λ z. Outcome) [ true ↦ entered_sums (factor_next s) (draw_next s) n sized c | false ↦ Err Refused.Sample ])
-      go true = constraint_means Err n sized (terms_in (within limit_range c.limit) c) c (with_sample s c) P g (λ d. last d.sizes (with_sample s c) refl)
+      go : (b : Bool) → P (elim b as (λ z. Outcome) [
+        | true ↦ entered_sums (factor_next s)
+            (draw_next s) n sized c
+        | false ↦ Err Refused.Sample
+      ])
+      go true = constraint_means Err n sized (terms_in (within limit_range c.limit) c) c (with_sample s c) P g
+          (λ d. last d.sizes (with_sample s c) refl)
       go false = g Refused.Sample
 
 -- ---- no sample: the sums of zeros explain 0 at every point
@@ -116,11 +125,13 @@ none_explained v X p =
       };
       under =
           order (v ∷ p ∷ form factor_count (λ i j. pos 0) X ∷ sum factor_count (λ k. pos 0 *ℤ X k) ∷ [])
-          (ap (λ (z : ℤ). v *ℤ z) no-form & ap (λ (z : ℤ). v *ℤ (pos 2 *ℤ p) *ℤ z) no-sum) (search solver depth 40 fits 20000) (omega arith);
+          (ap (λ (z : ℤ). v *ℤ z) no-form & ap (λ (z : ℤ). v *ℤ (pos 2 *ℤ p) *ℤ z) no-sum) (search solver depth 40 fits 20000)
+          (omega arith);
     }
   where
     no-form : form factor_count (λ i j. pos 0) X ≡ pos 0
-    no-form = sum-none factor_count _ (λ i h. sum-none factor_count _ (λ j k. ring (X i ∷ X j ∷ []) (search solver depth 40 fits 20000) refl))
+    no-form = sum-none factor_count _ (λ i h. sum-none factor_count _
+        (λ j k. ring (X i ∷ X j ∷ []) (search solver depth 40 fits 20000) refl))
 
     no-sum : sum factor_count (λ k. pos 0 *ℤ X k) ≡ pos 0
     no-sum = sum-none factor_count _ (λ k h. ring (X k ∷ []) (search solver depth 40 fits 20000) refl)
@@ -137,20 +148,25 @@ module _ (X : ℕ → ℤ) (p : ℤ) (whole : pos 1 ≤ℤ p) where
   abbrev σ : Sample → ℤ
   σ s = misfit s X p *ℤ misfit s X p
 
-  taken_explained : (s : Sample) (c : Constraint) → c.order ≡ factor_count → (u : ℤ) → Explained c u Z X p → {d : Constraint} → with_sample s c ≡ Ok d → Explained d (u +ℤ σ s) Z X p
+  taken_explained : (s : Sample) (c : Constraint) → c.order ≡ factor_count → (u : ℤ) → Explained c u Z X p → {d : Constraint} →
+      with_sample s c ≡ Ok d → Explained d (u +ℤ σ s) Z X p
   taken_explained s c e u P {d} q =
       reduced d Z one-Z
       (subst (λ (z : ℤ). Explained d z (Z *ℤ Z) X p) (ring (u ∷ Z ∷ misfit s X p ∷ []) (search solver depth 40 fits 20000) refl)
       (added_explains s X p (mended_constraint c) e (≤ℤ_trans (pos_nonneg 1) one-Z) (mended_explains c P) q))
 
-  all_explained : (ss : List Sample) (c : Constraint) → c.order ≡ factor_count → (u : ℤ) → Explained c u Z X p → Explained (gathered_all ss c) (u +ℤ squares ss c X p) Z X p
+  all_explained : (ss : List Sample) (c : Constraint) → c.order ≡ factor_count → (u : ℤ) → Explained c u Z X p →
+      Explained (gathered_all ss c) (u +ℤ squares ss c X p) Z X p
   unfolding gathered_all squares sums_after if_taken
   all_explained [] c e u P = subst (λ (z : ℤ). Explained c z Z X p) (ring (u ∷ []) (search solver depth 40 fits 20000) refl) P
   all_explained (s ∷ ss) c e u P =
-      by_outcome s (pos factor_count) true c (λ (t : Outcome). Explained (gathered_all ss (sums_after c t)) (u +ℤ (if_taken t (σ s) +ℤ squares ss (sums_after c t) X p)) Z X p)
-      (λ q d f. subst (λ (z : ℤ). Explained (gathered_all ss d) z Z X p) (ring (u ∷ misfit s X p ∷ squares ss d X p ∷ []) (search solver depth 40 fits 20000) refl)
+      by_outcome s (pos factor_count) true c (λ (t : Outcome). Explained (gathered_all ss (sums_after c t))
+      (u +ℤ (if_taken t (σ s) +ℤ squares ss (sums_after c t) X p)) Z X p)
+      (λ q d f. subst (λ (z : ℤ). Explained (gathered_all ss d) z Z X p)
+      (ring (u ∷ misfit s X p ∷ squares ss d X p ∷ []) (search solver depth 40 fits 20000) refl)
       (all_explained ss d (fitted-ordered (gains_of s) (mended_constraint c) f ∙ e) (u +ℤ σ s) (taken_explained s c e u P f)))
-      (λ r. subst (λ (z : ℤ). Explained (gathered_all ss c) z Z X p) (ring (u ∷ squares ss c X p ∷ []) (search solver depth 40 fits 20000) refl) (all_explained ss c e u P))
+      (λ r. subst (λ (z : ℤ). Explained (gathered_all ss c) z Z X p)
+      (ring (u ∷ squares ss c X p ∷ []) (search solver depth 40 fits 20000) refl) (all_explained ss c e u P))
 
   -- a point whose squares are at most K is allowed by the sums, begun at 0, with the allowance K
   pub gathered_allows : (ss : List Sample) (K : ℤ) → squares ss no_sums X p ≤ℤ (K *ℤ Z) → Allowed (allowing K (gathered_all ss no_sums)) X p

@@ -1,4 +1,5 @@
--- What a sample explains, R23.3 of docs/RULES.md: at X over p the square of how far it is; and so do sums with the sample in them, beside what they did.
+-- What a sample explains, R23.3 of docs/RULES.md: at X over p the square of how far it is; and so do sums with the sample in them, beside
+-- what they did.
 use mathlib.Core.Path.{◌≡◌, refl, sym, ap, ◌∙◌}
 use mathlib.Core.Logic.{◌⊎◌, inl, inr}
 use mathlib.Core.List.{[], ◌∷◌}
@@ -52,19 +53,23 @@ module _ (x y : ℤ) where
   v = whole_next_to y w
 
   least_is : (w *ℤ w *ℤ least_product u v) ≤ℤ (x *ℤ y)
-  least_is = product_low w u.low u.high v.low v.high x y nonneg (next x).below.low (next x).above.high (next y).below.low (next y).above.high
+  least_is = product_low w u.low u.high v.low v.high x y nonneg (next x).below.low (next x).above.high (next y).below.low
+      (next y).above.high
 
   greatest_is : (x *ℤ y) ≤ℤ (w *ℤ w *ℤ greatest_product u v)
-  greatest_is = product_high w u.low u.high v.low v.high x y nonneg (next x).below.low (next x).above.high (next y).below.low (next y).above.high
+  greatest_is = product_high w u.low u.high v.low v.high x y nonneg (next x).below.low (next x).above.high (next y).below.low
+      (next y).above.high
 
 -- where no whole number lies strictly between l and h, x² over w² is no less than the least square of the ends
 module _ (l h x : ℤ) (f : IsFloor x w l) (c : IsCeil x w h) where
   -- the end nearer to 0 is on the side of x
   low-nonneg : pos 0 ≤ℤ x → pos 0 ≤ℤ l
-  low-nonneg p = ≤_unless (λ k. order (w ∷ l ∷ x ∷ []) (*ℤ_mono nonneg (<_suc k) & f.high & p) (search solver depth 40 fits 20000) (omega arith))
+  low-nonneg p = ≤_unless (λ k. order (w ∷ l ∷ x ∷ []) (*ℤ_mono nonneg (<_suc k) & f.high & p) (search solver depth 40 fits 20000)
+      (omega arith))
 
   high-negative : x ≤ℤ pos 0 → h ≤ℤ pos 0
-  high-negative p = ≤_unless (λ k. order (w ∷ h ∷ x ∷ []) (*ℤ_mono nonneg (<_suc k) & c.low & p) (search solver depth 40 fits 20000) (omega arith))
+  high-negative p = ≤_unless (λ k. order (w ∷ h ∷ x ∷ []) (*ℤ_mono nonneg (<_suc k) & c.low & p) (search solver depth 40 fits 20000)
+      (omega arith))
 
   square_low : (w *ℤ w *ℤ min_ℤ (l *ℤ l) (h *ℤ h)) ≤ℤ (x *ℤ x)
   square_low = go (≤ℤ_total (pos 0) x)
@@ -72,12 +77,14 @@ module _ (l h x : ℤ) (f : IsFloor x w l) (c : IsCeil x w h) where
       go : (pos 0 ≤ℤ x) ⊎ (x ≤ℤ pos 0) → (w *ℤ w *ℤ min_ℤ (l *ℤ l) (h *ℤ h)) ≤ℤ (x *ℤ x)
       go (inl p) =
           let z = *ℤ-nonneg nonneg (low-nonneg p) in
-          order (w ∷ l ∷ x ∷ min_ℤ (l *ℤ l) (h *ℤ h) ∷ []) (product_mono z z f.low f.low & *ℤ_mono (*ℤ-nonneg nonneg nonneg) (min_≤ˡ (l *ℤ l) (h *ℤ h)))
+          order (w ∷ l ∷ x ∷ min_ℤ (l *ℤ l) (h *ℤ h) ∷ []) (product_mono z z f.low f.low & *ℤ_mono (*ℤ-nonneg nonneg nonneg)
+          (min_≤ˡ (l *ℤ l) (h *ℤ h)))
           (search solver depth 40 fits 20000) (omega arith)
       go (inr p) =
           let z = *ℤ-nonneg nonneg (gap-nonneg (high-negative p)) in
           let k : (w *ℤ (pos 0 -ℤ h)) ≤ℤ (pos 0 -ℤ x) = order (w ∷ h ∷ x ∷ []) c.high (search solver depth 40 fits 20000) (omega arith) in
-          order (w ∷ h ∷ x ∷ min_ℤ (l *ℤ l) (h *ℤ h) ∷ []) (product_mono z z k k & *ℤ_mono (*ℤ-nonneg nonneg nonneg) (min_≤ʳ (l *ℤ l) (h *ℤ h)))
+          order (w ∷ h ∷ x ∷ min_ℤ (l *ℤ l) (h *ℤ h) ∷ []) (product_mono z z k k & *ℤ_mono (*ℤ-nonneg nonneg nonneg)
+          (min_≤ʳ (l *ℤ l) (h *ℤ h)))
           (search solver depth 40 fits 20000) (omega arith)
 
 -- ---- what a sample explains
@@ -134,8 +141,11 @@ module _ (s : Sample) (X : ℕ → ℤ) (p : ℤ) where
         scale = Q;
         between = record {
           whole = whole-* one one;
-          low = λ i h. rw (nth-tabulate n (from_gain ends draw) i h) (order (w ∷ F i ∷ D ∷ greatest_product (ends i) draw ∷ []) (greatest_is (F i) D) (search solver depth 40 fits 20000) (omega arith));
-          high = λ i h. rw (nth-tabulate n (to_gain ends draw) i h) (order (w ∷ F i ∷ D ∷ least_product (ends i) draw ∷ []) (least_is (F i) D) (search solver depth 40 fits 20000) (omega arith));
+          low = λ i h. rw (nth-tabulate n (from_gain ends draw) i h)
+              (order (w ∷ F i ∷ D ∷ greatest_product (ends i) draw ∷ []) (greatest_is (F i) D) (search solver depth 40 fits 20000)
+              (omega arith));
+          high = λ i h. rw (nth-tabulate n (to_gain ends draw) i h)
+              (order (w ∷ F i ∷ D ∷ least_product (ends i) draw ∷ []) (least_is (F i) D) (search solver depth 40 fits 20000) (omega arith));
         };
         under =
             order (w ∷ p ∷ D ∷ φ ∷ m ∷ form n (λ i j. F i *ℤ F j) X ∷ sum n (λ i. (pos 0 -ℤ F i *ℤ D) *ℤ X i) ∷ [])
@@ -145,7 +155,9 @@ module _ (s : Sample) (X : ℕ → ℤ) (p : ℤ) where
       }
 
   -- sums with the sample in them explain, beside what they did, the square of how far it is
-  pub added_explains : (c : Constraint) → c.order ≡ factor_count → {u v : ℤ} → pos 0 ≤ℤ v → Explained c u v X p → {d : Constraint} → fitted (gains_of s) c ≡ Ok d →
+  pub added_explains : (c : Constraint) → c.order ≡ factor_count → {u v : ℤ} → pos 0 ≤ℤ v → Explained c u v X p → {d : Constraint} →
+      fitted (gains_of s) c ≡ Ok d →
       (let z = p *ℤ p *ℤ (sixteenth *ℤ sixteenth) in Explained d (u *ℤ z +ℤ misfit s X p *ℤ misfit s X p *ℤ v) (v *ℤ z) X p)
   unfolding gains
-  added_explains c ordered h P = fitted_explains (gains_of s) c (sym ordered) h (*ℤ-nonneg (square_nonneg p) (*ℤ-nonneg nonneg nonneg)) P sample_explains
+  added_explains c ordered h P = fitted_explains (gains_of s) c (sym ordered) h
+      (*ℤ-nonneg (square_nonneg p) (*ℤ-nonneg nonneg nonneg)) P sample_explains

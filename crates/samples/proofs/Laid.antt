@@ -28,10 +28,17 @@ use Rattle.samples.proofs.Room.{near_within, gains-near}
 module _ {l u a b : List ℤ} (z : Arrays l u a b) where
   pub arrays_front : (α : ℤ) → sums_at factor_count l u a b α ≡ constraint_of factor_count l u a b α
   arrays_front α =
-      constraint_by (front-whole (factor_count * factor_count) l z.low) (front-whole (factor_count * factor_count) u z.high) (front-whole factor_count a z.linear_low) (front-whole factor_count b z.linear_high) refl
+      constraint_by (front-whole (factor_count * factor_count) l z.low) (front-whole (factor_count * factor_count) u z.high)
+      (front-whole factor_count a z.linear_low) (front-whole factor_count b z.linear_high) refl
 
   pub arrays_rooms : Rooms factor_count l u a b
-  arrays_rooms = record { low = omega (arith, z.low); high = omega (arith, z.high); linear_low = omega (arith, z.linear_low); linear_high = omega (arith, z.linear_high) }
+  arrays_rooms = record {
+    low = omega (arith, z.low);
+    high = omega (arith, z.high);
+    linear_low = omega
+        (arith, z.linear_low);
+    linear_high = omega (arith, z.linear_high);
+  }
 
 -- ---- what a sample adds
 module _ (F : ℕ → Neighbours) (D : Neighbours) {l u a b : List ℤ} {α : ℤ} (e : constraint_of factor_count l u a b α ≡ gains F D) where
@@ -47,7 +54,8 @@ module _ (F : ℕ → Neighbours) (D : Neighbours) {l u a b : List ℤ} {α : �
   pub gains-front : sums_at factor_count l u a b α ≡ gains F D
   gains-front = arrays_front gains_arrays α ∙ e
 
-pub gains-ranged : (m : Measures) → MeasuresNear m → {l u a b : List ℤ} {α : ℤ} → constraint_of factor_count l u a b α ≡ gains (factor_of m) m.draw → Ranged factor_count l u a b α
+pub gains-ranged : (m : Measures) → MeasuresNear m → {l u a b : List ℤ} {α : ℤ} →
+    constraint_of factor_count l u a b α ≡ gains (factor_of m) m.draw → Ranged factor_count l u a b α
 unfolding gains
 gains-ranged m near e = record {
   rooms = arrays_rooms (gains_arrays (factor_of m) m.draw e);
@@ -60,6 +68,7 @@ module _ (F : ℕ → Neighbours) (D : Neighbours) (c : Constraint) where
   unfolding checked_sums
   sums-refused {r} e = sym (after-refused Err r _ e)
 
-  pub sums-added : {g d : Constraint} → first_refusal (own_checks c) ≡ Ok tt → g ≡ gains F D → d ≡ mended_constraint c → fitted g d ≡ checked_sums F D c
+  pub sums-added : {g d : Constraint} → first_refusal (own_checks c) ≡ Ok tt → g ≡ gains F D → d ≡ mended_constraint c →
+      fitted g d ≡ checked_sums F D c
   unfolding checked_sums
   sums-added e f h = ap₂ fitted f h ∙ after-passed Err (added_within F D c) e

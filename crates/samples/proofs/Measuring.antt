@@ -46,7 +46,8 @@ module _ (F G : ℕ → Neighbours) (D : Neighbours) (same : (i : ℕ) → i < f
   -- to the mended sums too
   pub entered-same : (c : Constraint) (n : ℤ) (sized : Bool) → entered_sums F D n sized c ≡ entered_sums G D n sized c
   entered-same c n sized =
-      ap (λ (g : Constraint). constraint_entered Err n sized (terms_in (within limit_range c.limit) c) c (fitted g (mended_constraint c))) gains-same
+      ap (λ (g : Constraint). constraint_entered Err n sized (terms_in (within limit_range c.limit) c) c
+      (fitted g (mended_constraint c))) gains-same
 
 -- ---- a number of a sample, of 32 bits and in range, lies between small ones
 module _ (x : Float) (f : fits binary32 x ≡ true) (r : in_range x ≡ true) where
@@ -98,7 +99,8 @@ module _ (s : Declared.Sample) where
   unfolding measured
   measured_inside {m} e = go (sample_fits s) refl e
     where
-      go : (b : Bool) → sample_fits s ≡ b → Some m ≡ elim b [ true ↦ Some (measures_of s) | false ↦ None ] → (b ≡ true) × (m ≡ measures_of s)
+      go : (b : Bool) → sample_fits s ≡ b → Some m ≡ elim b [ true ↦ Some (measures_of s) | false ↦ None ] →
+          (b ≡ true) × (m ≡ measures_of s)
       go true q e = (refl, cc)
       go false q e = absurd (false≢true cc)
 
@@ -113,7 +115,8 @@ module _ (s : Declared.Sample) where
   pub inside_near : Narrow s → {m : Measures} → Some m ≡ measured s → MeasuresNear m
   inside_near n e = let f = measured_inside e in rw f.1 (measures_near s n f.0)
 
-  pub gathering_inside : (n : ℤ) (sized : Bool) (c : Constraint) {m : Measures} → Some m ≡ measured s → entered_sums (factor_of m) m.draw n sized c ≡ gathering s n sized c
+  pub gathering_inside : (n : ℤ) (sized : Bool) (c : Constraint) {m : Measures} → Some m ≡ measured s →
+      entered_sums (factor_of m) m.draw n sized c ≡ gathering s n sized c
   unfolding gathering
   gathering_inside n sized c {m} e =
       let f = measured_inside e in

@@ -64,18 +64,32 @@ module _ (m : Measures) (n : MeasuresNear m) where
   near h = clean (fits_within h (omega arith))
 
   pub lows_read : read_lows m ≡ lows_of m
-  lows_read = rw (near (n.low 0 (omega arith)), near (n.low 1 (omega arith)), near (n.low 2 (omega arith)), near (n.low 3 (omega arith)), near (n.low 4 (omega arith)))
+  lows_read = rw (
+    near (n.low 0 (omega arith)),
+    near (n.low 1 (omega arith)),
+    near (n.low 2 (omega arith)),
+    near (n.low 3 (omega arith)),
+    near (n.low 4 (omega arith)),
+  )
 
   pub highs_read : read_highs m ≡ highs_of m
-  highs_read = rw (near (n.high 0 (omega arith)), near (n.high 1 (omega arith)), near (n.high 2 (omega arith)), near (n.high 3 (omega arith)), near (n.high 4 (omega arith)))
+  highs_read = rw (
+    near (n.high 0 (omega arith)),
+    near (n.high 1 (omega arith)),
+    near (n.high 2 (omega arith)),
+    near (n.high 3 (omega arith)),
+    near (n.high 4 (omega arith)),
+  )
 
   pub near-read : NumbersNear (read_lows m) (read_highs m)
   near-read = rw (lows_read, highs_read) n
 
   -- what these numbers add
-  pub gains-read : gains (between (read_lows m) (read_highs m)) (between (read_lows m) (read_highs m) factor_count) ≡ gains (factor_of m) m.draw
+  pub gains-read : gains (between (read_lows m) (read_highs m)) (between (read_lows m) (read_highs m) factor_count) ≡ gains
+      (factor_of m) m.draw
   gains-read = ap₂ (λ (a b : List ℤ). gains (between a b) (between a b factor_count)) lows_read highs_read
 
 -- sums of equal parts
-pub constraint_by : {n : ℕ} {l l' u u' a a' b b' : List ℤ} {α α' : ℤ} → l ≡ l' → u ≡ u' → a ≡ a' → b ≡ b' → α ≡ α' → constraint_of n l u a b α ≡ constraint_of n l' u' a' b' α'
+pub constraint_by : {n : ℕ} {l l' u u' a a' b b' : List ℤ} {α α' : ℤ} → l ≡ l' → u ≡ u' → a ≡ a' → b ≡ b' → α ≡ α' →
+    constraint_of n l u a b α ≡ constraint_of n l' u' a' b' α'
 constraint_by e f g h k = rw (e, f, g, h, k)

@@ -24,11 +24,13 @@ module _ (w a b c d x y : ℤ) (nonneg : pos 0 ≤ℤ w) (xl : (w *ℤ a) ≤ℤ
     where
       first : (w *ℤ least) ≤ℤ (a *ℤ y)
       first = order (w ∷ a ∷ y ∷ least ∷ min_ℤ (c *ℤ a) (d *ℤ a) ∷ [])
-          (times-low w c d y a nonneg yl yh & *ℤ_mono nonneg (min_≤ˡ (min_ℤ (c *ℤ a) (d *ℤ a)) (min_ℤ (c *ℤ b) (d *ℤ b)))) (search solver depth 40 fits 20000) (omega arith)
+          (times-low w c d y a nonneg yl yh & *ℤ_mono nonneg (min_≤ˡ (min_ℤ (c *ℤ a) (d *ℤ a)) (min_ℤ (c *ℤ b) (d *ℤ b))))
+          (search solver depth 40 fits 20000) (omega arith)
 
       second : (w *ℤ least) ≤ℤ (b *ℤ y)
       second = order (w ∷ b ∷ y ∷ least ∷ min_ℤ (c *ℤ b) (d *ℤ b) ∷ [])
-          (times-low w c d y b nonneg yl yh & *ℤ_mono nonneg (min_≤ʳ (min_ℤ (c *ℤ a) (d *ℤ a)) (min_ℤ (c *ℤ b) (d *ℤ b)))) (search solver depth 40 fits 20000) (omega arith)
+          (times-low w c d y b nonneg yl yh & *ℤ_mono nonneg (min_≤ʳ (min_ℤ (c *ℤ a) (d *ℤ a)) (min_ℤ (c *ℤ b) (d *ℤ b))))
+          (search solver depth 40 fits 20000) (omega arith)
 
   pub product_high : (x *ℤ y) ≤ℤ (w *ℤ w *ℤ greatest)
   product_high =
@@ -38,8 +40,10 @@ module _ (w a b c d x y : ℤ) (nonneg : pos 0 ≤ℤ w) (xl : (w *ℤ a) ≤ℤ
     where
       first : (a *ℤ y) ≤ℤ (w *ℤ greatest)
       first = order (w ∷ a ∷ y ∷ greatest ∷ max_ℤ (c *ℤ a) (d *ℤ a) ∷ [])
-          (times-high w c d y a nonneg yl yh & *ℤ_mono nonneg (≤_maxˡ (max_ℤ (c *ℤ a) (d *ℤ a)) (max_ℤ (c *ℤ b) (d *ℤ b)))) (search solver depth 40 fits 20000) (omega arith)
+          (times-high w c d y a nonneg yl yh & *ℤ_mono nonneg (≤_maxˡ (max_ℤ (c *ℤ a) (d *ℤ a)) (max_ℤ (c *ℤ b) (d *ℤ b))))
+          (search solver depth 40 fits 20000) (omega arith)
 
       second : (b *ℤ y) ≤ℤ (w *ℤ greatest)
       second = order (w ∷ b ∷ y ∷ greatest ∷ max_ℤ (c *ℤ b) (d *ℤ b) ∷ [])
-          (times-high w c d y b nonneg yl yh & *ℤ_mono nonneg (≤_maxʳ (max_ℤ (c *ℤ a) (d *ℤ a)) (max_ℤ (c *ℤ b) (d *ℤ b)))) (search solver depth 40 fits 20000) (omega arith)
+          (times-high w c d y b nonneg yl yh & *ℤ_mono nonneg (≤_maxʳ (max_ℤ (c *ℤ a) (d *ℤ a)) (max_ℤ (c *ℤ b) (d *ℤ b))))
+          (search solver depth 40 fits 20000) (omega arith)

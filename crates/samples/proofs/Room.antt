@@ -37,12 +37,15 @@ use Rattle.samples.proofs.Near.{product_range, least_square_within, least-within
 use Rattle.samples.proofs.Measuring.{Narrow, gains-same, factor-same, measures_near}
 
 -- ---- sums whose numbers are in their ranges
-pub sums-within : (c : Constraint) → ((k : ℕ) → k < c.order → Within linear_range (nth c.linear.low k) × Within linear_range (nth c.linear.high k)) →
-    Within limit_range c.limit → ((k : ℕ) → k < c.order * c.order → Within entry_range (nth c.low k) × Within entry_range (nth c.high k)) → sums_within c ≡ true
+pub sums-within : (c : Constraint) → ((k : ℕ) → k < c.order →
+    Within linear_range (nth c.linear.low k) × Within linear_range (nth c.linear.high k)) →
+    Within limit_range c.limit → ((k : ℕ) → k < c.order * c.order → Within entry_range (nth c.low k) × Within entry_range (nth c.high k)) →
+    sums_within c ≡ true
 unfolding sums_within linear_within tables_within all_within
 sums-within c x α t =
     and_of (and_of (all_of _ c.order (λ k h. within_true (x k h).0)) (all_of _ c.order (λ k h. within_true (x k h).1)))
-    (and_of (within_true α) (and_of (all_of _ (c.order * c.order) (λ k h. within_true (t k h).0)) (all_of _ (c.order * c.order) (λ k h. within_true (t k h).1))))
+    (and_of (within_true α) (and_of (all_of _ (c.order * c.order) (λ k h. within_true (t k h).0))
+    (all_of _ (c.order * c.order) (λ k h. within_true (t k h).1))))
 
 -- ---- numbers as small as those that a sample adds to sums of order n
 pub record GainsNear (n : ℕ) (g : Constraint) : Type 0 where
@@ -52,7 +55,8 @@ pub record GainsNear (n : ℕ) (g : Constraint) : Type 0 where
 
 pub near_within : (g : Constraint) → GainsNear g.order g → sums_within g ≡ true
 near_within g w =
-    sums-within g (λ k h. let x = w.linear k h in (within_more (omega arith) x.0, within_more (omega arith) x.1)) (within_more (omega arith) w.limit)
+    sums-within g (λ k h. let x = w.linear k h in (within_more (omega arith) x.0, within_more (omega arith) x.1))
+    (within_more (omega arith) w.limit)
     (λ k h. let x = w.tables k h in (within_more (omega arith) x.0, within_more (omega arith) x.1))
 
 -- ---- half of a range, and what a sample adds, are together inside the range
@@ -77,7 +81,8 @@ module _ (r : ℕ) (room : product_range ≤ r) {x y : ℤ} (h : Within (2 * r) 
   high_room = within_more (omega arith) (within-+ (half_up_lem r h) k)
 
 -- number k of m numbers that are halved and added to
-added-half : (m : ℕ) (f : ℤ → ℤ) (g x : List ℤ) (k : ℕ) → k < m → nth (added_to m g (tabulate m (λ k. f (nth x k)))) k ≡ f (nth x k) +ℤ nth g k
+added-half : (m : ℕ) (f : ℤ → ℤ) (g x : List ℤ) (k : ℕ) → k < m →
+    nth (added_to m g (tabulate m (λ k. f (nth x k)))) k ≡ f (nth x k) +ℤ nth g k
 added-half m f g x k h = nth-tabulate m _ k h ∙ ap (λ (z : ℤ). z +ℤ nth g k) (nth-tabulate m _ k h)
 
 pub room_after_halving : (g c : Constraint) → GainsNear c.order g → sums_within c ≡ true → sums_within (plus g (halved c)) ≡ true
@@ -124,7 +129,8 @@ gains-near {a} {b} near =
 
 -- of a sample that 17 lets through
 pub sample-near : (s : Declared.Sample) → Narrow s → sample_fits s ≡ true → GainsNear factor_count (gains_of s)
-sample-near s w e = rw (← gains-same (factor_of (measures_of s)) (factor_next s) (draw_next s) (factor-same s)) (gains-near (measures_near s w e))
+sample-near s w e = rw (← gains-same (factor_of (measures_of s)) (factor_next s) (draw_next s) (factor-same s))
+    (gains-near (measures_near s w e))
 
 -- ---- gathering
 -- checks of which none refuses by r
@@ -133,7 +139,8 @@ Others r [] = Unit {0}
 Others r (c ∷ cs) = (c.otherwise ≡ r → ⊥) × Others r cs
 
 -- refused by r: not by them
-behind-checks : (r : Refusal) (cs : List Check) (a : Outcome) → Others r cs → after Err (first_refusal cs) a ≡ Err r → (first_refusal cs ≡ Ok tt) × (a ≡ Err r)
+behind-checks : (r : Refusal) (cs : List Check) (a : Outcome) → Others r cs → after Err (first_refusal cs) a ≡ Err r →
+    (first_refusal cs ≡ Ok tt) × (a ≡ Err r)
 unfolding after first_refusal
 behind-checks r [] a w e = (refl, e)
 behind-checks r (c ∷ cs) a w e = go c.passes e (behind-checks r cs a w.1)
@@ -152,7 +159,8 @@ pub record TablesRoom (c : Constraint) : Type 0 where
   pub low : factor_count * factor_count ≤ length c.low
   pub high : factor_count * factor_count ≤ length c.high
 
-pub never_full : (s : Declared.Sample) → Narrow s → (n : ℤ) (sized : Bool) (c : Constraint) → c.order ≡ order_of n → (sized ≡ true → TablesRoom c) → gathering s n sized c ≡ Err Full → ⊥
+pub never_full : (s : Declared.Sample) → Narrow s → (n : ℤ) (sized : Bool) (c : Constraint) → c.order ≡ order_of n →
+    (sized ≡ true → TablesRoom c) → gathering s n sized c ≡ Err Full → ⊥
 unfolding gathering constraint_entered entered entry_checks bounds_checks ends_checks
 never_full s narrow n sized c ordered roomy e = go (sample_fits s) refl e
   where
@@ -171,8 +179,13 @@ never_full s narrow n sized c ordered roomy e = go (sample_fits s) refl e
         let r = roomy b.sizes in
         let passed : first_refusal (own_checks c) ≡ Ok tt = more-checks (bounds_checks terms c.order c.low c.high) (constraint_ends c)
         (subst (λ (m : ℕ). first_refusal (bounds_checks terms m c.low c.high) ≡ Ok tt) (sym ordered) b.checked) ∙ ends.0 in
-        fitted_never (gains_of s) (mended_constraint c) (rw r.order (sample-near s narrow f)) (mended-within c (rw r.order r.low) (rw r.order r.high) passed) Full ends.1
+        fitted_never (gains_of s) (mended_constraint c) (rw r.order (sample-near s narrow f))
+        (mended-within c (rw r.order r.low) (rw r.order r.high) passed) Full ends.1
 
-    go : (b : Bool) → sample_fits s ≡ b → elim b as (λ z. Outcome) [ true ↦ entered_sums (factor_next s) (draw_next s) n sized c | false ↦ Err Sample ] ≡ Err Full → ⊥
+    go : (b : Bool) → sample_fits s ≡ b → elim b as (λ z. Outcome) [
+      | true ↦ entered_sums (factor_next s)
+          (draw_next s) n sized c
+      | false ↦ Err Sample
+    ] ≡ Err Full → ⊥
     go true f e = inside f e
     go false f e = false≢true cc

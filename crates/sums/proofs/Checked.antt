@@ -20,7 +20,8 @@ use Rattle.tables.proofs.Admission.{bounds-mended}
 use Rattle.sums.specs.Sums.{terms_in, sums_checks, own_checks, sums_within}
 
 -- ---- checks, and then more of them
-pub both_checks : (cs ds : List Check) {k r : Checked} → k ≡ first_refusal cs → r ≡ after Err k (first_refusal ds) → r ≡ first_refusal (cs ++ ds)
+pub both_checks : (cs ds : List Check) {k r : Checked} → k ≡ first_refusal cs → r ≡ after Err k (first_refusal ds) →
+    r ≡ first_refusal (cs ++ ds)
 unfolding after
 both_checks cs ds {k} e f = f ∙ go k e
   where
@@ -29,7 +30,8 @@ both_checks cs ds {k} e f = f ∙ go k e
     go (Err r) e = sym (no-more-checks cs ds r (sym e))
 
 -- of tables that are mended where the first ones pass
-pub mended_both : (cs ds : List Check) {n : ℕ} {l u l' u' : List ℤ} {k r : Checked} → Mended cs n l u k l' u' → r ≡ after Err k (first_refusal ds) →
+pub mended_both : (cs ds : List Check) {n : ℕ} {l u l' u' : List ℤ} {k r : Checked} → Mended cs n l u k l' u' →
+    r ≡ after Err k (first_refusal ds) →
     Mended (cs ++ ds) n l u r l' u'
 mended_both cs ds m e =
     let answered = both_checks cs ds m.answered e in
@@ -42,7 +44,8 @@ mended_both cs ds m e =
     }
 
 -- entries of both tables
-tables-of : (m : ℕ) (l u : List ℤ) → tables_within m l u ≡ true → (k : ℕ) → k < m → Within entry_range (nth l k) × Within entry_range (nth u k)
+tables-of : (m : ℕ) (l u : List ℤ) → tables_within m l u ≡ true → (k : ℕ) → k < m →
+    Within entry_range (nth l k) × Within entry_range (nth u k)
 unfolding tables_within all_within
 tables-of m l u e k h = (
   within_of entry_range (nth l k) (all-at _ m (and_left _ (all_within entry_range m u) e) k h),
@@ -75,7 +78,8 @@ sums-mended limits c h k e =
     ∙ sym (more-checks bounds (constraint_ends c) passed) ∙ e
 
 -- sums that passed 3, 4, 5 and 16 are, mended, in their ranges
-pub mended-within : (c : Constraint) → c.order * c.order ≤ length c.low → c.order * c.order ≤ length c.high → first_refusal (own_checks c) ≡ Ok tt →
+pub mended-within : (c : Constraint) → c.order * c.order ≤ length c.low → c.order * c.order ≤ length c.high →
+    first_refusal (own_checks c) ≡ Ok tt →
     sums_within (mended_constraint c) ≡ true
 unfolding sums_within
 mended-within c h k e =
@@ -92,7 +96,8 @@ module _ (c : Constraint) (e : sums_within c ≡ true) where
 
   pub within_linear : (k : ℕ) → k < c.order → Within linear_range (nth c.linear.low k) × Within linear_range (nth c.linear.high k)
   unfolding sums_within
-  within_linear = linear_of c.order c.linear.low c.linear.high (and_left _ (within limit_range c.limit && tables_within (c.order * c.order) c.low c.high) e)
+  within_linear = linear_of c.order c.linear.low c.linear.high
+      (and_left _ (within limit_range c.limit && tables_within (c.order * c.order) c.low c.high) e)
 
   pub within-limit : Within limit_range c.limit
   within-limit = within_of limit_range c.limit (and_left _ (tables_within (c.order * c.order) c.low c.high) beside)

@@ -1,4 +1,5 @@
--- R23.3 of docs/RULES.md: what sums explain, they explain mended and halved; and with something added to them they explain both parts together.
+-- R23.3 of docs/RULES.md: what sums explain, they explain mended and halved; and with something added to them they explain both parts
+-- together.
 use mathlib.Core.Path.{◌≡◌, refl, sym, ap, ap₂, ◌∙◌}
 use mathlib.Core.Bool.{Bool, true, false, false≢true}
 use mathlib.Core.List.{[], ◌∷◌}
@@ -71,8 +72,10 @@ halved_explains c {u} {v} {X} {p} h P =
       member = record {
         whole = whole-* two P.member.whole;
         symmetric = P.member.symmetric;
-        low = λ i j h k. rw (nth-tabulate (n * n) (λ k. half_down (nth c.low k)) (i * n + j) (inside h k)) (from-half _ q-nonneg (P.member.low i j h k));
-        high = λ i j h k. rw (nth-tabulate (n * n) (λ k. half_up (nth c.high k)) (i * n + j) (inside h k)) (to-half _ q-nonneg (P.member.high i j h k));
+        low = λ i j h k. rw (nth-tabulate (n * n) (λ k. half_down (nth c.low k)) (i * n + j) (inside h k))
+            (from-half _ q-nonneg (P.member.low i j h k));
+        high = λ i j h k. rw (nth-tabulate (n * n) (λ k. half_up (nth c.high k)) (i * n + j) (inside h k))
+            (to-half _ q-nonneg (P.member.high i j h k));
       };
       terms = P.terms;
       scale = pos 2 *ℤ s;
@@ -97,7 +100,8 @@ to_both : (x y : ℤ) {d e a b : ℤ} → pos 0 ≤ℤ d → pos 0 ≤ℤ e → 
 to_both x y {d} {e} {a} {b} h k l m =
     order (d ∷ e ∷ x ∷ y ∷ a ∷ b ∷ []) (*ℤ_mono k l & *ℤ_mono h m) (search solver depth 40 fits 20000) (omega arith)
 
-module _ (g c : Constraint) (ordered : g.order ≡ c.order) {u v u' v' : ℤ} {X : ℕ → ℤ} {p : ℤ} (v-nonneg : pos 0 ≤ℤ v) (v'-nonneg : pos 0 ≤ℤ v')
+module _ (g c : Constraint) (ordered : g.order ≡ c.order) {u v u' v' : ℤ} {X : ℕ → ℤ} {p : ℤ} (v-nonneg : pos 0 ≤ℤ v)
+    (v'-nonneg : pos 0 ≤ℤ v')
     (P : Explained c u v X p) (Q : Explained g u' v' X p) where
   abbrev n : ℕ
   n = c.order
@@ -142,7 +146,8 @@ module _ (g c : Constraint) (ordered : g.order ≡ c.order) {u v u' v' : ℤ} {X
   s'-nonneg = ≤ℤ_trans (pos_nonneg 1) added.between.whole
 
   forms : form n N X ≡ q' *ℤ form n P.matrix X +ℤ q *ℤ form n added.matrix X
-  forms = form-+ n (λ i j. q' *ℤ P.matrix i j) (λ i j. q *ℤ added.matrix i j) X ∙ ap₂ ◌+ℤ◌ (form-* n q' P.matrix X) (form-* n q added.matrix X)
+  forms = form-+ n (λ i j. q' *ℤ P.matrix i j) (λ i j. q *ℤ added.matrix i j) X
+      ∙ ap₂ ◌+ℤ◌ (form-* n q' P.matrix X) (form-* n q added.matrix X)
 
   linears : sum n (λ k. A k *ℤ X k) ≡ s' *ℤ a +ℤ s *ℤ a'
   linears =
@@ -153,7 +158,8 @@ module _ (g c : Constraint) (ordered : g.order ≡ c.order) {u v u' v' : ℤ} {X
   pub plus_explains : Explained (plus g c) (u *ℤ v' +ℤ u' *ℤ v) (v *ℤ v') X p
   unfolding plus at
   plus_explains = record {
-    nonneg = order (u ∷ v ∷ u' ∷ v' ∷ []) (*ℤ-nonneg P.nonneg v'-nonneg & *ℤ-nonneg added.nonneg v-nonneg) (search solver depth 40 fits 20000) (omega arith);
+    nonneg = order (u ∷ v ∷ u' ∷ v' ∷ []) (*ℤ-nonneg P.nonneg v'-nonneg & *ℤ-nonneg added.nonneg v-nonneg)
+        (search solver depth 40 fits 20000) (omega arith);
     matrix = N;
     denominator = q *ℤ q';
     member = record {
@@ -175,7 +181,8 @@ module _ (g c : Constraint) (ordered : g.order ≡ c.order) {u v u' v' : ℤ} {X
     };
     under =
         order
-        (u ∷ v ∷ u' ∷ v' ∷ c.limit ∷ g.limit ∷ p ∷ q ∷ q' ∷ s ∷ s' ∷ form n N X ∷ form n P.matrix X ∷ form n added.matrix X ∷ sum n (λ k. A k *ℤ X k) ∷ a ∷ a' ∷ [])
+        (u ∷ v ∷ u' ∷ v' ∷ c.limit ∷ g.limit ∷ p ∷ q ∷ q' ∷ s ∷ s' ∷ form n N X ∷ form n P.matrix X ∷ form n added.matrix X ∷ sum n
+        (λ k. A k *ℤ X k) ∷ a ∷ a' ∷ [])
         (ap (λ (z : ℤ). v *ℤ v' *ℤ (s *ℤ s') *ℤ z) forms & ap (λ (z : ℤ). v *ℤ v' *ℤ (pos 2 *ℤ p *ℤ (q *ℤ q')) *ℤ z) linears
         & *ℤ_mono (*ℤ-nonneg v'-nonneg (*ℤ-nonneg q'-nonneg s'-nonneg)) P.under
         & *ℤ_mono (*ℤ-nonneg v-nonneg (*ℤ-nonneg q-nonneg s-nonneg)) added.under)
@@ -184,11 +191,13 @@ module _ (g c : Constraint) (ordered : g.order ≡ c.order) {u v u' v' : ℤ} {X
 
 -- ---- adding with at most one halving
 pub fitted_cases : (P : Outcome → Type 0) (g c : Constraint) → (sums_within (plus g c) ≡ true → P (Ok (plus g c))) →
-    (sums_within (plus g (halved c)) ≡ true → P (Ok (plus g (halved c)))) → (sums_within (plus g (halved c)) ≡ false → P (Err Full)) → P (fitted g c)
+    (sums_within (plus g (halved c)) ≡ true → P (Ok (plus g (halved c)))) → (sums_within (plus g (halved c)) ≡ false → P (Err Full)) →
+    P (fitted g c)
 unfolding fitted added_in
 fitted_cases P g c f k r = go (sums_within (plus g c)) refl
   where
-    halves : (b : Bool) → sums_within (plus g (halved c)) ≡ b → P (elim b as (λ z. Outcome) [ true ↦ Ok (plus g (halved c)) | false ↦ Err Full ])
+    halves : (b : Bool) → sums_within (plus g (halved c)) ≡ b →
+        P (elim b as (λ z. Outcome) [ true ↦ Ok (plus g (halved c)) | false ↦ Err Full ])
     halves true e = k e
     halves false e = r e
 
@@ -203,7 +212,8 @@ fitted_by P g c f k r = fitted_cases P g c f k (λ e. r)
 pub taken-same : {c d : Constraint} → ◌≡◌ {A = Outcome} (Ok c) (Ok d) → c ≡ d
 taken-same e = cc
 
-pub fitted_explains : (g c : Constraint) → g.order ≡ c.order → {u v u' v' : ℤ} {X : ℕ → ℤ} {p : ℤ} → pos 0 ≤ℤ v → pos 0 ≤ℤ v' → Explained c u v X p →
+pub fitted_explains : (g c : Constraint) → g.order ≡ c.order → {u v u' v' : ℤ} {X : ℕ → ℤ} {p : ℤ} → pos 0 ≤ℤ v → pos 0 ≤ℤ v' →
+    Explained c u v X p →
     Explained g u' v' X p → {d : Constraint} → fitted g c ≡ Ok d → Explained d (u *ℤ v' +ℤ u' *ℤ v) (v *ℤ v') X p
 unfolding halved
 fitted_explains g c ordered {u} {v} {u'} {v'} {X} {p} h k P Q {d} =
@@ -216,5 +226,6 @@ fitted_explains g c ordered {u} {v} {u'} {v'} {X} {p} h k P Q {d} =
 pub fitted-ordered : (g c : Constraint) {d : Constraint} → fitted g c ≡ Ok d → d.order ≡ c.order
 unfolding plus halved
 fitted-ordered g c {d} =
-    fitted_by (λ o. o ≡ Ok d → d.order ≡ c.order) g c (λ w e. ap (λ (t : Constraint). t.order) (sym (taken-same e))) (λ w e. ap (λ (t : Constraint). t.order) (sym (taken-same e)))
+    fitted_by (λ o. o ≡ Ok d → d.order ≡ c.order) g c (λ w e. ap (λ (t : Constraint). t.order) (sym (taken-same e)))
+    (λ w e. ap (λ (t : Constraint). t.order) (sym (taken-same e)))
     (λ e. absurd (false≢true cc))

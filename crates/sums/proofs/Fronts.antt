@@ -1,4 +1,5 @@
--- Sums at the front of lists: the first numbers of a list, what is added to sums and their halves, sums in their ranges, and sums whose bounds are mended.
+-- Sums at the front of lists: the first numbers of a list, what is added to sums and their halves, sums in their ranges, and sums whose
+-- bounds are mended.
 use mathlib.Core.Path.{◌≡◌, refl, sym, ap, ap₂, ◌∙◌}
 use mathlib.Core.Bool.{Bool, true}
 use mathlib.Core.List.{List}
@@ -72,21 +73,26 @@ unfolding nowhere_crossed
 crossed_front m l u = all_ext m _ _ (λ k h. rw (nth-front m l k h, nth-front m u k h))
 
 -- ---- sums, by their parts
-pub constraint_by : {n : ℕ} {l l' u u' a a' b b' : List ℤ} {α α' : ℤ} → l ≡ l' → u ≡ u' → a ≡ a' → b ≡ b' → α ≡ α' → constraint_of n l u a b α ≡ constraint_of n l' u' a' b' α'
+pub constraint_by : {n : ℕ} {l l' u u' a a' b b' : List ℤ} {α α' : ℤ} → l ≡ l' → u ≡ u' → a ≡ a' → b ≡ b' → α ≡ α' →
+    constraint_of n l u a b α ≡ constraint_of n l' u' a' b' α'
 constraint_by e f g h i = rw (e, f, g, h, i)
 
 -- what is added to sums
 pub plus-front : (n : ℕ) (gl gu ga gb : List ℤ) (β : ℤ) (l u a b : List ℤ) (α : ℤ) →
-    plus (sums_at n gl gu ga gb β) (sums_at n l u a b α) ≡ constraint_of n (added_to (n * n) gl l) (added_to (n * n) gu u) (added_to n ga a) (added_to n gb b) (α +ℤ β)
+    plus (sums_at n gl gu ga gb β) (sums_at n l u a b α) ≡ constraint_of n (added_to (n * n) gl l) (added_to (n * n) gu u)
+    (added_to n ga a) (added_to n gb b) (α +ℤ β)
 unfolding plus
-plus-front n gl gu ga gb β l u a b α = constraint_by (added-front (n * n) gl l) (added-front (n * n) gu u) (added-front n ga a) (added-front n gb b) refl
+plus-front n gl gu ga gb β l u a b α = constraint_by (added-front (n * n) gl l) (added-front (n * n) gu u) (added-front n ga a)
+    (added-front n gb b) refl
 
 -- and their halves
 pub halved-front : (n : ℕ) (l u a b : List ℤ) (α : ℤ) →
     halved (sums_at n l u a b α)
-    ≡ constraint_of n (tabulate (n * n) (λ k. half_down (nth l k))) (tabulate (n * n) (λ k. half_up (nth u k))) (tabulate n (λ k. half_down (nth a k))) (tabulate n (λ k. half_up (nth b k))) (half_up α)
+    ≡ constraint_of n (tabulate (n * n) (λ k. half_down (nth l k))) (tabulate (n * n) (λ k. half_up (nth u k)))
+    (tabulate n (λ k. half_down (nth a k))) (tabulate n (λ k. half_up (nth b k))) (half_up α)
 unfolding halved
-halved-front n l u a b α = constraint_by (front_each (n * n) l half_down) (front_each (n * n) u half_up) (front_each n a half_down) (front_each n b half_up) refl
+halved-front n l u a b α = constraint_by (front_each (n * n) l half_down) (front_each (n * n) u half_up) (front_each n a half_down)
+    (front_each n b half_up) refl
 
 -- lists that are written with sums c
 pub sums-filled : {n : ℕ} {l u a b l' u' a' b' : List ℤ} {α α' : ℤ} {f g p q : ℕ → ℤ} {c : Constraint} → Rooms n l u a b →
@@ -157,14 +163,17 @@ sums-ranged e s = record { rooms = s.rooms; within = ap sums_within s.sums ∙ e
 -- ---- mended bounds
 pub front-mended : (m : ℤ → ℤ → ℤ) (n : ℕ) (t : List ℤ) → front (n * n) (mended_by m n t) ≡ mended_by m n (front (n * n) t)
 front-mended m n t =
-    front_is (n * n) (mended_by m n t) (mended_by m n (front (n * n) t)) (mended-length m n _ (omega (arith, length_front (n * n) t)) ∙ length_front (n * n) t)
+    front_is (n * n) (mended_by m n t) (mended_by m n (front (n * n) t))
+    (mended-length m n _ (omega (arith, length_front (n * n) t)) ∙ length_front (n * n) t)
     (λ k h.
     let i : k / n < n = row_inside n k h in
     let j : k % n < n = column_inside n k h in
-    nth-at n k _ ∙ at-mended m n t _ _ i j ∙ ap₂ m (sym (at_front n t _ _ i j)) (sym (at_front n t _ _ j i)) ∙ sym (at-mended m n _ _ _ i j) ∙ sym (nth-at n k _))
+    nth-at n k _ ∙ at-mended m n t _ _ i j ∙ ap₂ m (sym (at_front n t _ _ i j)) (sym (at_front n t _ _ j i))
+    ∙ sym (at-mended m n _ _ _ i j) ∙ sym (nth-at n k _))
 
 -- only the front is checked, and no limit but by `limits`
-pub checks-front : (limits : Bool) (n : ℕ) (l u a b : List ℤ) (α β : ℤ) → sums_checks limits (constraint_of n l u a b α) ≡ sums_checks limits (sums_at n l u a b β)
+pub checks-front : (limits : Bool) (n : ℕ) (l u a b : List ℤ) (α β : ℤ) →
+    sums_checks limits (constraint_of n l u a b α) ≡ sums_checks limits (sums_at n l u a b β)
 unfolding bounds_checks ends_checks linear_within tables_within
 checks-front limits n l u a b α β =
     rw (
@@ -180,7 +189,8 @@ checks-front limits n l u a b α β =
     )
 
 -- what the code leaves that checks sums and mends their bounds
-module _ (limits : Bool) {n : ℕ} {l u a b : List ℤ} (z : Rooms n l u a b) {r : Checked} {l' u' : List ℤ} (m : Mended (sums_checks limits (constraint_of n l u a b (pos 0))) n l u r l' u') where
+module _ (limits : Bool) {n : ℕ} {l u a b : List ℤ} (z : Rooms n l u a b) {r : Checked} {l' u' : List ℤ}
+    (m : Mended (sums_checks limits (constraint_of n l u a b (pos 0))) n l u r l' u') where
   pub mended_rooms : Rooms n l' u' a b
   mended_rooms = record { low = rw m.low-size z.low; high = rw m.high-size z.high; linear_low = z.linear_low; linear_high = z.linear_high }
 
@@ -190,14 +200,17 @@ module _ (limits : Bool) {n : ℕ} {l u a b : List ℤ} (z : Rooms n l u a b) {r
 
     module _ (e : r ≡ Ok tt) where
       pub mended-front : sums_at n l' u' a b α ≡ mended_constraint (sums_at n l u a b α)
-      mended-front = constraint_by (ap (front (n * n)) (m.low e) ∙ front-mended max_ℤ n l) (ap (front (n * n)) (m.high e) ∙ front-mended min_ℤ n u) refl refl refl
+      mended-front = constraint_by (ap (front (n * n)) (m.low e) ∙ front-mended max_ℤ n l)
+          (ap (front (n * n)) (m.high e) ∙ front-mended min_ℤ n u) refl refl refl
 
       pub mended-ranged : limits ≡ within limit_range α → Ranged n l' u' a b α
       unfolding sums_within
       mended-ranged q =
           let c = mended_constraint (sums_at n l u a b α) in
-          let p = sums-mended limits (sums_at n l u a b α) (omega (arith, length_front (n * n) l)) (omega (arith, length_front (n * n) u)) (sym mended_answer ∙ e) in
+          let p = sums-mended limits (sums_at n l u a b α) (omega (arith, length_front (n * n) l)) (omega (arith, length_front (n * n) u))
+          (sym mended_answer ∙ e) in
           record {
             rooms = mended_rooms;
-            within = ap sums_within mended-front ∙ and_of (linear_passed limits c p) (and_of (sym q ∙ limits_passed limits c p) (tables-passed limits c p));
+            within = ap sums_within mended-front ∙ and_of (linear_passed limits c p)
+                (and_of (sym q ∙ limits_passed limits c p) (tables-passed limits c p));
           }

@@ -21,8 +21,13 @@ pub record Replaced (s m : ℕ) (f : ℕ → ℤ) (x₀ x : List ℤ) : Type 0 w
 
 module _ {s : ℕ} {f : ℕ → ℤ} {x₀ : List ℤ} where
   pub replaced_more : {x : List ℤ} {m : ℕ} {v : ℤ} → m < s → v ≡ f m → Replaced s m f x₀ x → Replaced s (suc m) f x₀ (set x m v)
-  replaced_more {x} {m} {v} h e w = record { front = filled_more h e w.front; rest = λ k l. get_or-set_other x m k v (pos 0) (λ q. omega arith) ∙ w.rest k (omega arith) }
+  replaced_more {x} {m} {v} h e w = record {
+    front = filled_more h e w.front;
+    rest = λ k l. get_or-set_other x m k v (pos 0)
+        (λ q. omega arith) ∙ w.rest k (omega arith);
+  }
 
 -- the next number to be replaced, as the code reads it
-pub read_next : {s m : ℕ} {f : ℕ → ℤ} {x₀ : List ℤ} (x : List ℤ) → mag (nth x m) < 2 ^ 63 → Replaced s m f x₀ x → to_z w64 (of_z w64 (nth x m)) ≡ nth x₀ m
+pub read_next : {s m : ℕ} {f : ℕ → ℤ} {x₀ : List ℤ} (x : List ℤ) → mag (nth x m) < 2 ^ 63 → Replaced s m f x₀ x →
+    to_z w64 (of_z w64 (nth x m)) ≡ nth x₀ m
 read_next {m = m} x h w = clean_element (nth x m) h ∙ w.rest m (omega arith)

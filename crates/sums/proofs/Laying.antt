@@ -40,6 +40,7 @@ module _ {A : Type 0} (T X : List ℤ → A) (N : ℤ → A) {n : ℕ} {o : Outc
   laid-refused st = ap (λ (o : Outcome). laid_sums T X N o lent) (sym st.outcome)
 
 -- an answer that is a refusal: the outcome is
-pub laid_answer : {A : Type 0} (T X : List ℤ → A) (N : ℤ → A) (lent : Lent A) (k : Refusal) (o : Outcome) → (laid_sums T X N o lent).answer ≡ Err k → o ≡ Err k
+pub laid_answer : {A : Type 0} (T X : List ℤ → A) (N : ℤ → A) (lent : Lent A) (k : Refusal) (o : Outcome) →
+    (laid_sums T X N o lent).answer ≡ Err k → o ≡ Err k
 laid_answer T X N lent k (Ok c) e = absurd (false≢true cc)
 laid_answer T X N lent k (Err r) e = cc

@@ -40,33 +40,44 @@ loaded-front s k t =
 
 -- where check 2 of reading passes each buffer has its size
 pub read-sizes-of : (n : ℕ) (b : Lengths) (s : ℕ) → read_buffers n b s ≡ true →
-    (b.bounds.low ≡ n * n * bytes w64) × (b.bounds.high ≡ n * n * bytes w64) × (b.linear.low ≡ n * bytes w64) × (b.linear.high ≡ n * bytes w64) × (s ≡ bytes w64)
+    (b.bounds.low ≡ n * n * bytes w64) × (b.bounds.high ≡ n * n * bytes w64) × (b.linear.low ≡ n * bytes w64)
+    × (b.linear.high ≡ n * bytes w64) × (s ≡ bytes w64)
 unfolding read_buffers
 read-sizes-of n b s e =
     let z = constraint_sized (record { table = n * n * bytes w64; vector = n * bytes w64 }) b in
     let t = constraint_sizes-of _ b (and_left z (eqb s (bytes w64)) e) in
     (t.0, t.1, t.2, t.3, eqb-true _ _ (and_right z (eqb s (bytes w64)) e))
 
-module _ (n : ℕ) (l u a b : List ℕ) (l' u' x y : List ℤ) (α : ℤ) (h : n ≤ greatest_order) (t : Laid n true (table_of n l) (table_of n u) l' u') (p : Terms n true a x) (q : Terms n true b y) where
+module _ (n : ℕ) (l u a b : List ℕ) (l' u' x y : List ℤ) (α : ℤ) (h : n ≤ greatest_order)
+    (t : Laid n true (table_of n l) (table_of n u) l' u') (p : Terms n true a x) (q : Terms n true b y) where
   -- 3, 4, 5 and 16 of the sums that were loaded are those of the sums that the buffers spell
   pub checks-spelled : (limits : Bool) →
-      sums_checks limits (constraint_of n l' u' x y α) ≡ sums_checks limits (constraint_of n (table_of n l) (table_of n u) (vector_of n a) (vector_of n b) α)
+      sums_checks limits (constraint_of n l' u' x y α) ≡ sums_checks limits
+      (constraint_of n (table_of n l) (table_of n u) (vector_of n a) (vector_of n b) α)
   unfolding linear_within ends_checks
   checks-spelled limits =
       let e = length-numbers_of w64 l (n * n) in
       let f = length-numbers_of w64 u (n * n) in
       let v = over-padded {x = table_of n l} e (table_fits h) (t.low refl) in
       let w = over-padded {x = table_of n u} f (table_fits h) (t.high refl) in
-      rw (checks-padded v w _ n e f, range_same linear_range n (vector_of n a) x (p.numbers refl), range_same linear_range n (vector_of n b) y (q.numbers refl), crossed_same n (vector_of n a) x (vector_of n b) y (p.numbers refl) (q.numbers refl))
+      rw (
+        checks-padded v w _ n e f,
+        range_same linear_range n (vector_of n a) x (p.numbers refl),
+        range_same linear_range n (vector_of n b) y (q.numbers refl),
+        crossed_same n (vector_of n a) x (vector_of n b) y (p.numbers refl)
+            (q.numbers refl),
+      )
 
   -- and so they are read
-  pub reading-spelled : (K : ℤ) {m : ℕ} {β K' : ℤ} {r : Result ℤ Refusal} → r ≡ checked_reading K' (constraint_of m l' u' x y β) → m ≡ n → β ≡ α → K' ≡ K →
+  pub reading-spelled : (K : ℤ) {m : ℕ} {β K' : ℤ} {r : Result ℤ Refusal} → r ≡ checked_reading K' (constraint_of m l' u' x y β) → m ≡ n →
+      β ≡ α → K' ≡ K →
       r ≡ checked_reading K (constraint_of n (table_of n l) (table_of n u) (vector_of n a) (vector_of n b) α)
   unfolding checked_reading
   reading-spelled K e f g k =
       (rw (f, g, k) at e) ∙ ap (λ (z : List Check). after Err (first_refusal z) (Ok (K +ℤ α))) (checks-spelled (limits_in K α))
 
 -- of equal parts
-pub laid_by : {n m : ℕ} {sized sized' : Bool} (l u : List ℕ) {l' u' : List ℤ} → n ≡ m → sized ≡ sized' → Laid n sized (table_of n l) (table_of n u) l' u' →
+pub laid_by : {n m : ℕ} {sized sized' : Bool} (l u : List ℕ) {l' u' : List ℤ} → n ≡ m → sized ≡ sized' →
+    Laid n sized (table_of n l) (table_of n u) l' u' →
     Laid m sized' (table_of m l) (table_of m u) l' u'
 laid_by l u e f h = rw (← e, ← f) h

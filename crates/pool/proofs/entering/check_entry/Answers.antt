@@ -24,11 +24,13 @@ returns-then-not-pool_sized c =
     let ok = rw (clean c.ranges.n) at c.orders_ok.ensures in
     let same = rw (clean c.ranges.n) at c.orders_same.ensures in
     let sized = rw (c.order_of.ensures, clean c.ranges.n) at c.pool_sized.ensures in
-    entry_length _ _ _ _ (sym ok ∙ c.if-not-orders_ok.false) (rw (sym same ∙ c.if-not-orders_same.false, sym sized ∙ c.if-not-pool_sized.true) refl)
+    entry_length _ _ _ _ (sym ok ∙ c.if-not-orders_ok.false)
+    (rw (sym same ∙ c.if-not-orders_same.false, sym sized ∙ c.if-not-pool_sized.true) refl)
 
 pub returns : goal.returns
 returns c =
     let ok = rw (clean c.ranges.n) at c.orders_ok.ensures in
     let same = rw (clean c.ranges.n) at c.orders_same.ensures in
     let sized = rw (c.order_of.ensures, clean c.ranges.n) at c.pool_sized.ensures in
-    entry-passed _ _ _ _ (sym ok ∙ c.if-not-orders_ok.false) (and_of (sym same ∙ c.if-not-orders_same.false) (sym sized ∙ c.if-not-pool_sized.false))
+    entry-passed _ _ _ _ (sym ok ∙ c.if-not-orders_ok.false)
+    (and_of (sym same ∙ c.if-not-orders_same.false) (sym sized ∙ c.if-not-pool_sized.false))

@@ -17,10 +17,16 @@ pub returns-then-count-lt1 : goal.returns-then-count-lt1
 unfolding count_of
 returns-then-count-lt1 c =
     elim c.then-count-lt1.branch [
-      | then-count-lt1-via-then-count-lt1 w ↦ rw (count_of, eq-eqb _ _ c.if-length-unit-ne0.false, le-leb _ greatest_pool (few c.args.unit c.args.length w.if-count-lt1.true)) (counted-none w.if-count-lt1.true)
-      | then-count-lt1-via-else-count-lt1+then-count-gt-GREATEST_POOL w ↦ rw (count_of, eq-eqb _ _ c.if-length-unit-ne0.false, lt-leb _ greatest_pool w.if-count-gt-GREATEST_POOL.true)
+      | then-count-lt1-via-then-count-lt1 w ↦ rw (
+        count_of,
+        eq-eqb _ _ c.if-length-unit-ne0.false,
+        le-leb _ greatest_pool (few c.args.unit c.args.length w.if-count-lt1.true),
+      ) (counted-none w.if-count-lt1.true)
+      | then-count-lt1-via-else-count-lt1+then-count-gt-GREATEST_POOL w ↦ rw
+          (count_of, eq-eqb _ _ c.if-length-unit-ne0.false, lt-leb _ greatest_pool w.if-count-gt-GREATEST_POOL.true)
     ]
 
 pub returns : goal.returns
 unfolding count_of
-returns c = rw (count_of, eq-eqb _ _ c.if-length-unit-ne0.false, le-leb _ greatest_pool c.if-count-gt-GREATEST_POOL.false) (counted-some c.if-count-lt1.false)
+returns c = rw (count_of, eq-eqb _ _ c.if-length-unit-ne0.false, le-leb _ greatest_pool c.if-count-gt-GREATEST_POOL.false)
+    (counted-some c.if-count-lt1.false)

@@ -47,7 +47,11 @@ given s o = laid_sums (λ t. t) (λ x. x) (λ α. tabulate 1 (λ i. α)) o (lent
 
 -- the answer means what the definition's does
 meant : (c : Start) → let d = pool c.args.n c.args.orders.now (lists c) (lent c) in
-    (j : Left (List ℤ)) → j ≡ d → record { exact : j ≡ d; meaning : Meaning j.answer (problems c) (many c) (sums c) (sums_of (order_of c.args.n) j.sums) }
+    (j : Left (List ℤ)) → j ≡ d → record {
+      exact : j ≡ d;
+      meaning : Meaning j.answer (problems c) (many c) (sums c)
+          (sums_of (order_of c.args.n) j.sums);
+    }
 meant c =
     exactly (λ (j : Left (List ℤ)). Meaning j.answer (problems c) (many c) (sums c) (sums_of (order_of c.args.n) j.sums))
     (pool-means c.args.n c.args.orders.now (lists c) (lent c))

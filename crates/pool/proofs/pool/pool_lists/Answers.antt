@@ -29,7 +29,8 @@ left_as e f = f ∙ e
 copied-front : {m : ℕ} (x o : List ℤ) {y : List ℤ} → length x ≡ m → y ≡ take m x ++ drop m o → front m y ≡ x
 copied-front {m} x o e q =
     let long = length-take-le m x (omega (arith, e)) in
-    ap (front m) q ∙ tabulate_ext m _ _ (λ k h. get_or-append (take m x) (drop m o) (pos 0) k (omega (arith, h, long)) ∙ get_or-take m x k (pos 0) h) ∙ front-whole m x e
+    ap (front m) q ∙ tabulate_ext m _ _ (λ k h. get_or-append (take m x) (drop m o) (pos 0) k (omega (arith, h, long))
+    ∙ get_or-take m x k (pos 0) h) ∙ front-whole m x e
 
 abbrev lent : Start → Lent (List ℤ)
 lent c = let a = c.args in record { low = a.low.now; high = a.high.now; from = a.from.now; to = a.to.now; limit = a.limit.now }
@@ -38,7 +39,8 @@ lent c = let a = c.args in record { low = a.low.now; high = a.high.now; from = a
 states : (c : After-pool_all) → let a = c.args in
     let o = c.pool_all.new.sums in
     let b = lent (goal.at.After-pool_all c).Start in
-    Stated a.n (checked_pool (sums_of a.n b) (problem_at a.n (problems_in a.lists)) a.count) c.pool_all.result o.low.now o.high.now o.from.now o.to.now o.limit
+    Stated a.n (checked_pool (sums_of a.n b) (problem_at a.n
+    (problems_in a.lists)) a.count) c.pool_all.result o.low.now o.high.now o.from.now o.to.now o.limit
 states c =
     let k = c.copy_sums.ensures.copied in
     let a = c.args in
@@ -47,7 +49,8 @@ states c =
     let order = c.pool_all.ensures.place.order ∙ first in
     stated_by
     (ap (λ (k : Constraint). checked_pool k (problem_at a.n (problems_in a.lists)) a.count)
-    (constraint_by (copied-front a.low.now _ z.low k.low) (copied-front a.high.now _ z.high k.high) (copied-front a.from.now _ z.from k.from)
+    (constraint_by (copied-front a.low.now _ z.low k.low) (copied-front a.high.now _ z.high k.high)
+    (copied-front a.from.now _ z.from k.from)
     (copied-front a.to.now _ z.to k.to) (k.limit ∙ clean_element (nth a.limit.now 0) (omega arith))))
     (rw (order, first) at c.pool_all.ensures.sums)
 
@@ -71,4 +74,5 @@ returns c =
     (left_as (rw v.high at q.high ∙ copied-whole _ a.high.now r.high z.high) (search rules))
     (left_as (rw v.from at q.from ∙ copied-whole _ a.from.now r.linear_low z.from) (search rules))
     (left_as (rw v.to at q.to ∙ copied-whole _ a.to.now r.linear_high z.to) (search rules))
-    (ap (λ (v : ℤ). set a.limit.now 0 v) (clean_element c.copy_sums-2.new.target.limit (omega arith) ∙ q.limit ∙ v.limit) ∙ set-one a.limit.now _ z.limit)
+    (ap (λ (v : ℤ). set a.limit.now 0 v) (clean_element c.copy_sums-2.new.target.limit (omega arith) ∙ q.limit ∙ v.limit)
+    ∙ set-one a.limit.now _ z.limit)

@@ -42,8 +42,10 @@ add_fitted-requires c =
     let v = c.view.ensures in
     let t = c.mend_sums.ensures.kept in
     let checks = rw (c.within-within.ensures, clean_element q.limit (omega arith)) at c.in_default.ensures.mended in
-    let ranged = mended-ranged _ c.requires.0.1 checks q.limit refl refl in
-    ((c.requires.1.0, c.requires.3.ranged c.in_ok-done.was), rw (v.low, v.high, v.from, v.to, v.limit, t.from, t.to, t.limit) (rw c.requires.2 at ranged))
+    let ranged = mended-ranged _ c.requires.0.1 checks q.limit refl refl in (
+      (c.requires.1.0, c.requires.3.ranged c.in_ok-done.was),
+      rw (v.low, v.high, v.from, v.to, v.limit, t.from, t.to, t.limit) (rw c.requires.2 at ranged),
+    )
 
 pub returns-clause-sums : goal.returns-clause-sums
 unfolding stated added_next

@@ -50,11 +50,13 @@ abbrev given : Start → Outcome → Left (List ℕ)
 given s o = stored_sums (order_of s.args.n) o (lent s)
 
 -- the orders that are loaded
-each : (c : After-load_numbers) → (k : ℕ) → k < c.in_ok-count.count → nth c.load_numbers.new.out k ≡ nth (numbers_of w64 c.args.orders.now c.in_ok-count.count) k
+each : (c : After-load_numbers) → (k : ℕ) → k < c.in_ok-count.count →
+    nth c.load_numbers.new.out k ≡ nth (numbers_of w64 c.args.orders.now c.in_ok-count.count) k
 each c k h =
     let m = c.in_ok-count.count in
     let x = numbers_of w64 c.args.orders.now m in
-    ap (λ (y : List ℤ). nth y k) c.load_numbers.ensures ∙ get_or-append x _ (pos 0) k (omega (arith, h, length-numbers_of w64 c.args.orders.now m))
+    ap (λ (y : List ℤ). nth y k) c.load_numbers.ensures ∙ get_or-append x _ (pos 0) k
+    (omega (arith, h, length-numbers_of w64 c.args.orders.now m))
 
 -- what checks 1 and 2 find
 checks : (s : Start) {m : ℕ} (orders : List ℤ) {r : Checked} → r ≡ first_refusal (pool_entry_checks s.args.n m orders (sized s m)) →
@@ -74,7 +76,8 @@ refused s e = ap (given s) (pooling-refused _ _ _ (sized s (many s)) (sums s) (p
 pub returns-in_err-order : goal.returns-in_err-order
 returns-in_err-order c =
     let s = (goal.at.returns-in_err-order c).Start in
-    rw (handed_on c.from_residual.ensures.1) (refused s (entry-unordered c.args.n (many s) _ (sized s (many s)) c.ranges.n c.in_err-order.ensures))
+    rw (handed_on c.from_residual.ensures.1) (refused s (entry-unordered c.args.n (many s) _
+    (sized s (many s)) c.ranges.n c.in_err-order.ensures))
 
 pub returns-in_err-count : goal.returns-in_err-count
 returns-in_err-count c =
@@ -113,8 +116,12 @@ pool_lists-requires c =
     let e = checks s c.load_numbers.new.out found (each p.After-load_numbers) many in
     let order = (order-passed c.ranges.n c.in_ok-order.ensures).0 in
     let z = (entry-behind _ _ _ (sized s _) (sym e)).sizes in
-    rw (many, order)
-    (order_small c.args.n, count_most (bytes w64) (length c.args.orders.now), lists_bytes _ _ (lists s) (lent s) z, lent_bytes _ _ (lists s) (lent s) z)
+    rw (many, order) (
+      order_small c.args.n,
+      count_most (bytes w64) (length c.args.orders.now),
+      lists_bytes _ _ (lists s) (lent s) z,
+      lent_bytes _ _ (lists s) (lent s) z,
+    )
 
 pub returns : goal.returns
 unfolding spelled_pool

@@ -36,7 +36,8 @@ module _ (s : Declared.Sample) (n : ℤ) (b : Lent (List ℤ)) where
   abbrev means : Left (List ℤ) → Type 0
   means j = Meaning s j.answer (sums_of (order_of n) b) (sums_of (order_of n) j.sums)
 
-  stated : Narrow s → (o : Outcome) → o ≡ gathering s n sized (sums_of (order_of n) b) → (j : Left (List ℤ)) → j ≡ given o → record { exact : j ≡ gather s n b; meaning : means j }
+  stated : Narrow s → (o : Outcome) → o ≡ gathering s n sized (sums_of (order_of n) b) → (j : Left (List ℤ)) → j ≡ given o →
+      record { exact : j ≡ gather s n b; meaning : means j }
   unfolding gather
   stated w o e j q = exactly means (gather-means s w n b) j (q ∙ ap given e)
 
@@ -58,5 +59,6 @@ gather_measured-requires c =
 pub returns : goal.returns
 returns c =
     let s = (goal.at.returns c).Start in
-    stated c.args.sample c.args.n (lent s) (narrow s) _ (gathering_inside _ c.args.n _ _ (sym c.in_ok-measures.ensures.ok_part ∙ c.measure.ensures)) _
+    stated c.args.sample c.args.n (lent s) (narrow s) _ (gathering_inside _ c.args.n _ _
+    (sym c.in_ok-measures.ensures.ok_part ∙ c.measure.ensures)) _
     (rw (clean c.ranges.n) at c.gather_measured.ensures)

@@ -64,8 +64,13 @@ module _ (n : ℤ) (b : Lent (List ℤ)) (sized : sizes n b ≡ true) where
     copies =
         let z = lying in
         let v = replicate (factor_count * factor_count) (pos 0) in
-        let x = replicate factor_count (pos 0) in
-        (p.0 ∙ copied_all b.low v z.low refl, p.1 ∙ copied_all b.high v z.high refl, p.2 ∙ copied_all b.from x z.linear_low refl, p.3 ∙ copied_all b.to x z.linear_high refl)
+        let x = replicate factor_count (pos 0) in (
+          p.0 ∙ copied_all b.low v z.low refl,
+          p.1 ∙ copied_all b.high v z.high refl,
+          p.2 ∙ copied_all b.from x z.linear_low refl,
+          p.3
+              ∙ copied_all b.to x z.linear_high refl,
+        )
 
     arrays : Arrays l u f t
     arrays = rw (copies.0, copies.1, copies.2, copies.3) lying
@@ -87,7 +92,8 @@ lent s = let a = s.args in record { low = a.low.now; high = a.high.now; from = a
 -- check 2 passed
 sized : (c : Else-not-sums_sized) → sizes c.args.n (lent (goal.at.Else-not-sums_sized c).Start) ≡ true
 sized c =
-    sym (rw (c.lengths_of-lengths.ensures, (order-passed c.ranges.n c.in_ok-order.ensures).0) at c.sums_sized.ensures) ∙ c.if-not-sums_sized.false
+    sym (rw (c.lengths_of-lengths.ensures, (order-passed c.ranges.n c.in_ok-order.ensures).0) at c.sums_sized.ensures)
+    ∙ c.if-not-sums_sized.false
 
 -- the sums are copied, and added to as the code states it
 laid : (c : After-copy_sums) → let k = c.copy_sums.new.target in let b = lent (goal.at.After-copy_sums c).Start in
@@ -102,7 +108,8 @@ summed c =
     let b = lent p.Start in
     let order = c.add_checked.ensures.place.order ∙ c.copy_sums.ensures.place.order in
     states c.args.n b (sized p.Else-not-sums_sized) (laid p.After-copy_sums) c.args.m (order-passed c.ranges.n c.in_ok-order.ensures).1
-    (c.copy_sums.ensures.copied.limit ∙ clean_element (nth b.limit 0) (omega arith)) (rw (order, c.copy_sums.ensures.place.order) at c.add_checked.ensures.sums)
+    (c.copy_sums.ensures.copied.limit ∙ clean_element (nth b.limit 0) (omega arith))
+    (rw (order, c.copy_sums.ensures.place.order) at c.add_checked.ensures.sums)
 
 pub returns-in_err-order : goal.returns-in_err-order
 unfolding constraint_entered
@@ -115,7 +122,8 @@ unfolding constraint_entered
 returns-then-not-sums_sized c =
     let o = order-passed c.ranges.n c.in_ok-order.ensures in
     let found = rw (c.lengths_of-lengths.ensures, o.0) at c.sums_sized.ensures in
-    ap (given (lent (goal.at.returns-then-not-sums_sized c).Start)) (no-sizes _ _ _ _ _ Err _ (order_given _ o.1) (sym found ∙ c.if-not-sums_sized.true))
+    ap (given (lent (goal.at.returns-then-not-sums_sized c).Start))
+    (no-sizes _ _ _ _ _ Err _ (order_given _ o.1) (sym found ∙ c.if-not-sums_sized.true))
 
 pub slice_copy_out-given : goal.slice_copy_out-given
 slice_copy_out-given c =
@@ -171,4 +179,5 @@ returns c =
     (left_as (rw v.high at q.high ∙ copied-whole o.high.now b.high r.high z.high) (search rules))
     (left_as (rw v.from at q.from ∙ copied-whole o.from.now b.from r.linear_low z.linear_low) (search rules))
     (left_as (rw v.to at q.to ∙ copied-whole o.to.now b.to r.linear_high z.linear_high) (search rules))
-    (ap (λ (v : ℤ). set b.limit 0 v) (clean_element c.copy_sums-2.new.target.limit (omega arith) ∙ q.limit ∙ v.limit) ∙ set-one b.limit _ (lengths c.args.n b (sized p.Else-not-sums_sized)).limit)
+    (ap (λ (v : ℤ). set b.limit 0 v) (clean_element c.copy_sums-2.new.target.limit (omega arith) ∙ q.limit ∙ v.limit)
+    ∙ set-one b.limit _ (lengths c.args.n b (sized p.Else-not-sums_sized)).limit)

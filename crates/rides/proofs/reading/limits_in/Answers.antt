@@ -27,7 +27,8 @@ overflow_add-allowance c =
     let p = goal.at.overflow_add-allowance c in
     rw (clean c.ranges.allowance, clean c.ranges.running)
     (fits_within
-    (within-+ (within_in (≤ℤ_trans (record { le = tt }) (least p.Else-allowance-lt0)) (most p.Else-allowance-gt-ALLOWANCE_RANGE)) (within_of limit_range _ (running p.Else-not-within)))
+    (within-+ (within_in (≤ℤ_trans (record { le = tt }) (least p.Else-allowance-lt0)) (most p.Else-allowance-gt-ALLOWANCE_RANGE))
+    (within_of limit_range _ (running p.Else-not-within)))
     (omega arith))
 
 pub returns-then-not-within : goal.returns-then-not-within

@@ -28,13 +28,15 @@ abbrev sizes : Start → Bool
 sizes c =
     let a = c.args in
     let k = order_of a.n in
-    constraint_sized (record { table = k * k; vector = k }) (lengths_of (length a.low.now) (length a.high.now) (length a.from.now) (length a.to.now))
+    constraint_sized (record { table = k * k; vector = k }) (lengths_of (length a.low.now) (length a.high.now) (length a.from.now)
+    (length a.to.now))
 
 -- the answer means what the definition's does
 shown : (c : Start) → let a = c.args in
     (r : Result ℤ Refusal) → r ≡ read_sums a.n (sizes c) a.allowance (sums c) →
     record { exact : r ≡ read_sums a.n (sizes c) a.allowance (sums c); meaning : ReadingMeaning r a.allowance (sums c) }
-shown c = let a = c.args in exactly (λ (r : Result ℤ Refusal). ReadingMeaning r a.allowance (sums c)) (reading-means a.n (sizes c) a.allowance (sums c))
+shown c = let a = c.args in exactly (λ (r : Result ℤ Refusal). ReadingMeaning r a.allowance (sums c))
+    (reading-means a.n (sizes c) a.allowance (sums c))
 
 pub returns-in_err-m : goal.returns-in_err-m
 unfolding read_sums constraint_entered

@@ -42,6 +42,15 @@ returns-clause-sums c =
     let checks = rw (c.within-within.ensures, clean_element s.limit (omega arith), order) at c.in_ok-mend_sums.ensures.mended in
     rw (p, o, order)
     (stated_by
-    (sums-added (factor_of c.args.m) c.args.m.draw _ (sym (mended_answer _ rooms checks s.limit)) (gains-front _ _ c.lay_gains-limit.ensures)
+    (sums-added (factor_of c.args.m) c.args.m.draw _ (sym (mended_answer _ rooms checks s.limit))
+    (gains-front _ _ c.lay_gains-limit.ensures)
     (mended-front _ rooms checks s.limit refl))
-    (rw (clean_element c.lay_gains-limit.result c.lay_gains-limit.type_inv, p, o, order, t.from, t.to, t.limit) at c.add_fitted.ensures.sums))
+    (rw (
+      clean_element c.lay_gains-limit.result c.lay_gains-limit.type_inv,
+      p,
+      o,
+      order,
+      t.from,
+      t.to,
+      t.limit,
+    ) at c.add_fitted.ensures.sums))

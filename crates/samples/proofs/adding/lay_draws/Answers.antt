@@ -26,8 +26,10 @@ loop-i-preserved c =
     let f : c.loop-i.i < number_count = omega arith in
     let high = greatest-within c.requires.0 f draw in
     let low = least-within c.requires.0 f draw in (
-      rw add-one (filled_more c.loop-i-test.true (rw (read-high c.product_ends-loss.ensures high) (clean (negated_fits high))) c.loop-i.invariant.0),
-      rw add-one (filled_more c.loop-i-test.true (rw (read_low c.product_ends-loss.ensures low) (clean (negated_fits low))) c.loop-i.invariant.1),
+      rw add-one (filled_more c.loop-i-test.true (rw (read-high c.product_ends-loss.ensures high)
+          (clean (negated_fits high))) c.loop-i.invariant.0),
+      rw add-one (filled_more c.loop-i-test.true (rw (read_low c.product_ends-loss.ensures low)
+          (clean (negated_fits low))) c.loop-i.invariant.1),
     )
 
 pub returns : goal.returns

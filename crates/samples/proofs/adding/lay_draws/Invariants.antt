@@ -16,4 +16,5 @@ least low high i = least_product (between low high i) (between low high factor_c
 
 abbrev pub invariant-loop-i : goal.invariant-loop-i
 invariant-loop-i live =
-    Filled factor_count live.i (λ k. pos 0 -ℤ greatest live.low live.high k) live.a × Filled factor_count live.i (λ k. pos 0 -ℤ least live.low live.high k) live.b
+    Filled factor_count live.i (λ k. pos 0 -ℤ greatest live.low live.high k) live.a
+    × Filled factor_count live.i (λ k. pos 0 -ℤ least live.low live.high k) live.b

@@ -9,25 +9,29 @@ pub overflow_mul-ca : goal.overflow_mul-ca
 overflow_mul-ca c =
     let a = c.args in
     let n = c.requires.0 in
-    rw (clean_element (nth a.low.now a.j) (omega arith), clean_element (nth a.low.now a.i) (omega arith)) (product_fits (n.low a.j c.requires.2) (n.low a.i c.requires.1))
+    rw (clean_element (nth a.low.now a.j) (omega arith), clean_element (nth a.low.now a.i) (omega arith))
+    (product_fits (n.low a.j c.requires.2) (n.low a.i c.requires.1))
 
 pub overflow_mul-da : goal.overflow_mul-da
 overflow_mul-da c =
     let a = c.args in
     let n = c.requires.0 in
-    rw (clean_element (nth a.high.now a.j) (omega arith), clean_element (nth a.low.now a.i) (omega arith)) (product_fits (n.high a.j c.requires.2) (n.low a.i c.requires.1))
+    rw (clean_element (nth a.high.now a.j) (omega arith), clean_element (nth a.low.now a.i) (omega arith))
+    (product_fits (n.high a.j c.requires.2) (n.low a.i c.requires.1))
 
 pub overflow_mul-cb : goal.overflow_mul-cb
 overflow_mul-cb c =
     let a = c.args in
     let n = c.requires.0 in
-    rw (clean_element (nth a.low.now a.j) (omega arith), clean_element (nth a.high.now a.i) (omega arith)) (product_fits (n.low a.j c.requires.2) (n.high a.i c.requires.1))
+    rw (clean_element (nth a.low.now a.j) (omega arith), clean_element (nth a.high.now a.i) (omega arith))
+    (product_fits (n.low a.j c.requires.2) (n.high a.i c.requires.1))
 
 pub overflow_mul-db : goal.overflow_mul-db
 overflow_mul-db c =
     let a = c.args in
     let n = c.requires.0 in
-    rw (clean_element (nth a.high.now a.j) (omega arith), clean_element (nth a.high.now a.i) (omega arith)) (product_fits (n.high a.j c.requires.2) (n.high a.i c.requires.1))
+    rw (clean_element (nth a.high.now a.j) (omega arith), clean_element (nth a.high.now a.i) (omega arith))
+    (product_fits (n.high a.j c.requires.2) (n.high a.i c.requires.1))
 
 pub returns : goal.returns
 returns c =

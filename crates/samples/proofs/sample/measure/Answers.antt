@@ -32,7 +32,8 @@ outside_is x e = go (in_range x) refl
 
 module _ (s : Sample) where
   all_inside : {r c a t d : Neighbours} → Some r ≡ bracket_of s.rolling → Some c ≡ bracket_of s.climb → Some a ≡ bracket_of s.air →
-      Some t ≡ bracket_of s.start → Some d ≡ bracket_of s.draw → Some (record { rolling = r; climb = c; air = a; start = t; draw = d }) ≡ measured s
+      Some t ≡ bracket_of s.start → Some d ≡ bracket_of s.draw →
+      Some (record { rolling = r; climb = c; air = a; start = t; draw = d }) ≡ measured s
   unfolding measured sample_fits all
   all_inside r c a t d =
       let r' = inside_is _ r in

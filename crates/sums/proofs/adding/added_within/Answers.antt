@@ -25,9 +25,19 @@ turn c =
     let n = a.count in
     let k = length c.loop-v.yielded in
     let p = c.requires in
-    let t = zip_turn (take n a.x.now) (take n a.g.now) c.loop-v.yielded _ _ c.next.new.self _ (cc) (cc) c.loop-v.yielded_by (c.in-Some.v, c.in-Some.more) c.in-Some.is c.next.ensures.steps in
-    let m : k < n = omega (arith, length-take-le n a.x.now p.1.room) in
-    (m, rw (t.2 (pos 0), t.3 (pos 0), get_or-take n a.x.now k (pos 0) m, get_or-take n a.g.now k (pos 0) m, clean (fits_within (p.1.small k m) (omega arith)), clean (fits_within (p.0.small k m) (omega arith))))
+    let t = zip_turn (take n a.x.now) (take n a.g.now) c.loop-v.yielded _ _ c.next.new.self _ (cc) (cc) c.loop-v.yielded_by
+    (c.in-Some.v, c.in-Some.more) c.in-Some.is c.next.ensures.steps in
+    let m : k < n = omega (arith, length-take-le n a.x.now p.1.room) in (
+      m,
+      rw (
+        t.2 (pos 0),
+        t.3 (pos 0),
+        get_or-take n a.x.now k (pos 0) m,
+        get_or-take n a.g.now k (pos 0) m,
+        clean (fits_within (p.1.small k m) (omega arith)),
+        clean (fits_within (p.0.small k m) (omega arith)),
+      ),
+    )
 
 pub loop-v-init : goal.loop-v-init
 loop-v-init c = all_none _
@@ -58,6 +68,7 @@ returns c =
     let a = c.args in
     let n = a.count in
     let p = c.requires in
-    let t = zip_end (take n a.x.now) (take n a.g.now) c.loop-v.yielded _ _ c.next.new.self _ (cc) (cc) c.loop-v.yielded_by c.in-None.is c.next.ensures.steps in
+    let t = zip_end (take n a.x.now) (take n a.g.now) c.loop-v.yielded _ _ c.next.new.self _ (cc)
+    (cc) c.loop-v.yielded_by c.in-None.is c.next.ensures.steps in
     let e : length c.loop-v.yielded ≡ n = omega (arith, length-take-le n a.x.now p.1.room, length-take-le n a.g.now p.0.room) in
     sym (rw (clean c.ranges.bound, e) at c.loop-v.invariant) ∙ all-added _ a.count a.g.now a.x.now

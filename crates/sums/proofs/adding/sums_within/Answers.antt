@@ -33,7 +33,8 @@ asked c =
 
 pub overflow_add-sums : goal.overflow_add-sums
 overflow_add-sums c =
-    rw (clean (limit_fits c.requires.0.1), clean (limit_fits c.requires.1)) (sum_fits (ranged-limit c.requires.0.1) (ranged-limit c.requires.1))
+    rw (clean (limit_fits c.requires.0.1), clean (limit_fits c.requires.1))
+    (sum_fits (ranged-limit c.requires.0.1) (ranged-limit c.requires.1))
 
 -- what the test of the limit finds
 limit : (c : After-within) → c.within.result ≡ within limit_range (c.args.sums.now.limit +ℤ c.args.gains.limit)

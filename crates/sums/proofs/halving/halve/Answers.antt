@@ -13,7 +13,10 @@ pub halve_up-requires-2 : goal.halve_up-requires-2
 halve_up-requires-2 c = ranged-to c.requires.1
 
 pub ceil_div-sums-requires : goal.ceil_div-sums-requires
-ceil_div-sums-requires c = (rw (clean (limit_fits c.requires.1)) (within_more (omega arith) (ranged-limit c.requires.1)), ≤_in (omega arith))
+ceil_div-sums-requires c = (
+  rw (clean (limit_fits c.requires.1)) (within_more (omega arith) (ranged-limit c.requires.1)),
+  ≤_in (omega arith),
+)
 
 pub returns-clause-sums : goal.returns-clause-sums
 returns-clause-sums c =

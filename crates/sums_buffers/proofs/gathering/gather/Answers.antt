@@ -43,7 +43,8 @@ returns-in_err-measures c =
     (ap (given s) (gathering_outside c.args.sample c.args.n (sized s) (posed s) (sym e.ok_part ∙ c.measure.ensures)))
 
 pub gather_measured-requires : goal.gather_measured-requires
-gather_measured-requires c = inside_near _ (narrow (goal.at.gather_measured-requires c).Start) (sym c.in_ok-measures.ensures.ok_part ∙ c.measure.ensures)
+gather_measured-requires c = inside_near _ (narrow (goal.at.gather_measured-requires c).Start)
+    (sym c.in_ok-measures.ensures.ok_part ∙ c.measure.ensures)
 
 pub returns : goal.returns
 returns c =

@@ -78,11 +78,13 @@ module _ (m : Measures) (n : ℤ) (b : Lent (List ℕ)) where
         ∙ sums-sized F m.draw n sizes posed h passed refl)
 
 -- ---- in the code
-found : (c : After-sums_sized) → let a = c.args in c.sums_sized.result ≡ sizes a.m a.n (lent a.low.now a.high.now a.from.now a.to.now a.limit.now)
+found : (c : After-sums_sized) → let a = c.args in c.sums_sized.result ≡ sizes a.m a.n
+    (lent a.low.now a.high.now a.from.now a.to.now a.limit.now)
 found c = rw (c.lengths_of-lengths.ensures, (order-passed c.ranges.n c.in_ok-order.ensures).0) at c.sums_sized.ensures
 
 passed : (c : Else-not-sums_sized) → let a = c.args in sizes a.m a.n (lent a.low.now a.high.now a.from.now a.to.now a.limit.now) ≡ true
-passed c = sym (rw (c.lengths_of-lengths.ensures, (order-passed c.ranges.n c.in_ok-order.ensures).0) at c.sums_sized.ensures) ∙ c.if-not-sums_sized.false
+passed c = sym (rw (c.lengths_of-lengths.ensures, (order-passed c.ranges.n c.in_ok-order.ensures).0) at c.sums_sized.ensures)
+    ∙ c.if-not-sums_sized.false
 
 summed : (c : After-add_checked) → (let a = c.args in sizes a.m a.n (lent a.low.now a.high.now a.from.now a.to.now a.limit.now) ≡ true) →
     let a = c.args in
@@ -108,7 +110,9 @@ returns-then-not-sums_sized c =
     let a = c.args in
     let b = lent a.low.now a.high.now a.from.now a.to.now a.limit.now in
     let sized = found (goal.at.returns-then-not-sums_sized c).After-sums_sized in
-    ap (λ (o : Outcome). stored_sums factor_count o b) (unsized a.m a.n b (λ e. absurd (omega (arith, order-positive _ (order-passed c.ranges.n c.in_ok-order.ensures).1, e))) (sym sized ∙ c.if-not-sums_sized.true))
+    ap (λ (o : Outcome). stored_sums factor_count o b) (unsized a.m a.n b
+    (λ e. absurd (omega (arith, order-positive _ (order-passed c.ranges.n c.in_ok-order.ensures).1, e)))
+    (sym sized ∙ c.if-not-sums_sized.true))
 
 pub load_sums-requires : goal.load_sums-requires
 load_sums-requires c =

@@ -67,10 +67,12 @@ found c = rw (c.lengths_of-lengths.ensures, (order-passed c.ranges.n c.in_ok-m.e
 -- where it passes each buffer has its size
 lent : (c : After-read_sized-sized) → c.read_sized-sized.result ≡ true → let a = c.args in
     let k = order_of a.n in
-    (length a.low.now ≡ k * k * bytes w64) × (length a.high.now ≡ k * k * bytes w64) × (length a.from.now ≡ k * bytes w64) × (length a.to.now ≡ k * bytes w64) × (length a.limit.now ≡ bytes w64)
+    (length a.low.now ≡ k * k * bytes w64) × (length a.high.now ≡ k * k * bytes w64) × (length a.from.now ≡ k * bytes w64)
+    × (length a.to.now ≡ k * bytes w64) × (length a.limit.now ≡ bytes w64)
 lent c e =
     let a = c.args in
-    read-sizes-of (order_of a.n) (lengths_of (length a.low.now) (length a.high.now) (length a.from.now) (length a.to.now)) (length a.limit.now) (sym (found c) ∙ e)
+    read-sizes-of (order_of a.n) (lengths_of (length a.low.now) (length a.high.now) (length a.from.now) (length a.to.now))
+    (length a.limit.now) (sym (found c) ∙ e)
 
 read : (c : After-read_checked) → (let a = c.args in c.read_sized-sized.result ≡ sizes a.n a.low.now a.high.now a.from.now a.to.now a.running a.limit.now) → let a = c.args in
     c.read_checked.result ≡ whole a.n a.low.now a.high.now a.from.now a.to.now a.running a.limit.now a.allowance
@@ -79,10 +81,12 @@ read c sized =
     let o = order-passed c.ranges.n c.in_ok-m.ensures in
     let m = o.0 in
     let passed = c.if-not-sized.false in
-    reading-spelled (order_of a.n) a.low.now a.high.now a.from.now a.to.now _ _ _ _ a.running (order_small a.n) (laid_by a.low.now a.high.now m passed c.load_bounds.ensures)
+    reading-spelled (order_of a.n) a.low.now a.high.now a.from.now a.to.now _ _ _ _ a.running (order_small a.n)
+    (laid_by a.low.now a.high.now m passed c.load_bounds.ensures)
     (terms_by m passed c.load_terms.ensures) (terms_by m passed c.load_terms-2.ensures) a.allowance
     c.read_checked.ensures m (clean c.ranges.running) (clean c.ranges.allowance)
-    ∙ reading-sized a.n (sizes a.n a.low.now a.high.now a.from.now a.to.now a.running a.limit.now) a.allowance (sums a.n a.low.now a.high.now a.from.now a.to.now a.running a.limit.now)
+    ∙ reading-sized a.n (sizes a.n a.low.now a.high.now a.from.now a.to.now a.running a.limit.now) a.allowance
+    (sums a.n a.low.now a.high.now a.from.now a.to.now a.running a.limit.now)
     o.1 (sym sized ∙ passed) refl
 
 pub returns-in_err-m : goal.returns-in_err-m
@@ -90,7 +94,8 @@ returns-in_err-m c =
     let a = c.args in
     let o = order-refused c.ranges.n c.in_err-m.ensures in
     rw (handed_on c.from_residual.ensures.1, o.0)
-    (ap (λ (r : Result ℤ Refusal). stored_limit r a.limit.now) (unordered a.n a.low.now a.high.now a.from.now a.to.now a.running a.limit.now a.allowance o.1))
+    (ap (λ (r : Result ℤ Refusal). stored_limit r a.limit.now)
+    (unordered a.n a.low.now a.high.now a.from.now a.to.now a.running a.limit.now a.allowance o.1))
 
 pub overflow_mul-sizes : goal.overflow_mul-sizes
 overflow_mul-sizes c = record { fits = omega (arith, order_fits _ (order (goal.at.overflow_mul-sizes c).In_ok-m)) }
@@ -106,7 +111,8 @@ returns-then-not-sized c =
     let p = goal.at.returns-then-not-sized c in
     let a = c.args in
     ap (λ (r : Result ℤ Refusal). stored_limit r a.limit.now)
-    (unsized a.n a.low.now a.high.now a.from.now a.to.now a.running a.limit.now a.allowance (λ e. absurd (omega (arith, order-positive _ (order-passed c.ranges.n c.in_ok-m.ensures).1, e)))
+    (unsized a.n a.low.now a.high.now a.from.now a.to.now a.running a.limit.now a.allowance
+    (λ e. absurd (omega (arith, order-positive _ (order-passed c.ranges.n c.in_ok-m.ensures).1, e)))
     (sym (found p.After-read_sized-sized) ∙ c.if-not-sized.true))
 
 pub load_terms-requires : goal.load_terms-requires
@@ -122,7 +128,12 @@ load_terms-requires-2 c =
 pub load_bounds-requires : goal.load_bounds-requires
 load_bounds-requires c =
     let p = goal.at.load_bounds-requires c in
-    rw (order p.In_ok-m) (order_small _, (λ s. let z = lent p.After-read_sized-sized s in (omega (arith, z.0), omega (arith, z.1))), refl, refl)
+    rw (order p.In_ok-m) (
+      order_small _,
+      (λ s. let z = lent p.After-read_sized-sized s in (omega (arith, z.0), omega (arith, z.1))),
+      refl,
+      refl,
+    )
 
 pub slice_bounds-sums-end : goal.slice_bounds-sums-end
 slice_bounds-sums-end c = sym c.load_bounds.ensures.rooms.low-size
@@ -158,7 +169,8 @@ pub returns-in_err-alpha : goal.returns-in_err-alpha
 returns-in_err-alpha c =
     let p = goal.at.returns-in_err-alpha c in
     rw (handed_on c.from_residual-in_err-alpha.ensures.1)
-    (ap (λ (r : Result ℤ Refusal). stored_limit r c.args.limit.now) (sym c.in_err-alpha.was ∙ read p.After-read_checked (found p.After-read_sized-sized)))
+    (ap (λ (r : Result ℤ Refusal). stored_limit r c.args.limit.now)
+    (sym c.in_err-alpha.was ∙ read p.After-read_checked (found p.After-read_sized-sized)))
 
 pub returns : goal.returns
 returns c =
@@ -166,4 +178,5 @@ returns c =
     let f = clean_element c.in_ok-alpha.alpha (omega arith) in
     ap₂ (λ (w : ℤ) (o : List ℕ). record { answer = Ok w; limit = o }) f
     (number-stored c.args.limit.now (lent p.After-read_sized-sized c.if-not-sized.false).4 f c.store_signed.ensures)
-    ∙ ap (λ (r : Result ℤ Refusal). stored_limit r c.args.limit.now) (sym c.in_ok-alpha.was ∙ read p.After-read_checked (found p.After-read_sized-sized))
+    ∙ ap (λ (r : Result ℤ Refusal). stored_limit r c.args.limit.now)
+    (sym c.in_ok-alpha.was ∙ read p.After-read_checked (found p.After-read_sized-sized))
