@@ -32,7 +32,8 @@ module _ (n : ℤ) (l u s b y : List ℕ) where
   back v w = read_number v (fits_within w (omega (arith, order_small n)))
 
   -- what an answer means, by its number and by the numbers in the buffers
-  coded : (g : Bracketing) → Fitting k g → (let j = written g (vector_of k y) in Meaning n (table_of k l) (table_of k u) j.stiffness j.vector) →
+  coded : (g : Bracketing) → Fitting k g →
+      (let j = written g (vector_of k y) in Meaning n (table_of k l) (table_of k u) j.stiffness j.vector) →
       (let j = stored_stiffness k g s b y in StiffnessMeaning n l u (bracket_code j.stiffness) j.step j.bound j.vector)
   coded (between t v x) z m =
       let step = back t z.0 in

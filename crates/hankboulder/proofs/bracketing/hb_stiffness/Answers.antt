@@ -18,4 +18,5 @@ returns c =
     let a = c.args in
     exactly (λ (j : StiffnessResult). StiffnessMeaning a.n a.low.now a.high.now j.number j.step j.bound j.vector)
     (stiffness_means a.n a.low.now a.high.now a.step.now a.bound.now a.vector.now) _
-    (rw (clean_element c.answer_code.result c.answer_code.type_inv, c.answer_code.ensures) (ap numbered (rw (clean c.ranges.n) at c.bracket.ensures)))
+    (rw (clean_element c.answer_code.result c.answer_code.type_inv, c.answer_code.ensures)
+    (ap numbered (rw (clean c.ranges.n) at c.bracket.ensures)))
