@@ -80,7 +80,7 @@ fn enclose_centred<E: Element>(
 }
 
 // Whether the buffers of a call have their sizes: those of the constraint, the centre of a vector, and the sides of so many pairs.
-pub fn box_sized(sizes: Sizes, pairs: usize, lengths: Lengths, centre: usize, sides: usize) -> bool
+fn box_sized(sizes: Sizes, pairs: usize, lengths: Lengths, centre: usize, sides: usize) -> bool
     ensures { result ≡ box_sizes sizes pairs lengths centre sides }
 {
     let vector = sizes.vector;
