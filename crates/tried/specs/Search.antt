@@ -1,7 +1,6 @@
 -- The search through the tried vectors that the code makes: by recursion over the remaining order, with the sum so far and, for each
 -- entry that is still open, what it would add if it were 1 and if it were -1.
-use Rattle.std.specs.Prelude.{true, false, List, [], ◌∷◌, ◌≡◌, ℕ, zero, suc, ◌+◌, ◌<◌, ℤ, pos, negsuc, ◌+ℤ◌, ◌-ℤ◌, ◌*ℤ◌, length, drop}
-use Rattle.std.specs.Prelude.{Option as CodeOption, Some, None}
+use Rattle.std.specs.Prelude.{Bool, true, false, List, [], ◌∷◌, ◌≡◌, ℕ, zero, suc, ◌+◌, ◌<◌, ℤ, pos, negsuc, ◌+ℤ◌, ◌-ℤ◌, ◌*ℤ◌, length, drop}
 use Rattle.std.proofs.Math.Option.{Option, none, some}
 use Rattle.std.specs.Int.Signed.{lt_z, le_z}
 use Rattle.tables.specs.Ranges.{greatest_order, table_room}
@@ -53,14 +52,14 @@ seek_half S O d zero p = none
 seek_half S O d (suc k) p =
     or_else (front (pos 0) (seek_half S O (suc d) k p)) (front (pos 1) (seek S O (suc d) k (more S d p) (more O d p) (pos 0 +ℤ p d)))
 
--- what the code answers: the k entries from d on of the vector that it found
-unfoldable pub found : ℕ → ℕ → CodeOption (List ℤ) → Option (List ℤ)
-found d k None = none
-found d k (Some x) = some (tabulate k (λ i. nth x (d + i)))
+-- what the code answers: the entries of x from d on, or that there are none
+unfoldable pub found : Bool → ℕ → ℕ → List ℤ → Option (List ℤ)
+found r d k x = elim r [ true ↦ some (tabulate k (λ i. nth x (d + i))) | false ↦ none ]
 
--- the search's answer o is the code's, r: the k entries from d on
-pub record Searched (o : Option (List ℤ)) (d k : ℕ) (r : CodeOption (List ℤ)) : Type 0 where
-  pub answer : found d k r ≡ o
+-- the search's answer o is the code's, r, and x holds the k entries from d on that it found
+pub record Searched (o : Option (List ℤ)) (r : Bool) (d k : ℕ) (x : List ℤ) : Type 0 where
+  pub answer : o ≡ found r d k x
+  pub size : length x ≡ greatest_order
 
 -- ---- what the code asks of its numbers, and how it makes them
 -- the first entries, to m, of the two tables that the search reads: 2 L and -2 U

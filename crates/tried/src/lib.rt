@@ -70,6 +70,9 @@ fn sum_with(entry: i64, sum: i64, plus: i64, minus: i64) -> i64
     sum
 }
 
+// The recursion is lent the vector that is found: an Option of it, handed from level to level, took 12.4 KB of stack where the header
+// reserves 8.
+//
 // Chooses the entries that are left after an entry, down to where none is left: there the sum tells. What they would add is as before where
 // that entry is 0.
 #[cycle(search_search_after_search_with)]
@@ -81,23 +84,25 @@ fn search_after(
     sum: i64,
     plus: &Vector,
     minus: &Vector,
-) -> Option<Vector>
-    requires { OpenShares n pairs.now (n - suc left) plus.now minus.now × (left < n) × Within ((n - left) * share_range) sum }
+    x: &mut Vector,
+) -> bool
+    requires { OpenShares n pairs.now (n - suc left) plus.now minus.now × (left < n) × Within ((n - left) * share_range) sum
+        × (length x.old ≡ greatest_order) }
     ensures { Searched
         (seek_after (same_sign n pairs.now) (other_sign n pairs.now) (n - suc left) left entry
         (nth plus.now) (nth minus.now) sum)
-        (n - left) left result }
+        result (n - left) left x.new }
 {
     if left == 0 {
-        return (sum <= 0).then_some([0; GREATEST_ORDER]);
+        return sum <= 0;
     }
     if entry == 0 {
-        return search(n, pairs, left, sum, plus, minus);
+        return search(n, pairs, left, sum, plus, minus, x);
     }
     let mut p = [0i64; GREATEST_ORDER];
     let mut q = [0i64; GREATEST_ORDER];
     choose(n, pairs, n - (left + 1), entry, plus, minus, &mut p, &mut q);
-    search(n, pairs, left, sum, &p, &q)
+    search(n, pairs, left, sum, &p, &q, x)
 }
 
 // Chooses the entries that are left, with a given one in front.
@@ -110,18 +115,19 @@ fn search_with(
     sum: i64,
     plus: &Vector,
     minus: &Vector,
-) -> Option<Vector>
-    requires { Searching n pairs.now left sum plus.now minus.now × (0 < left) }
+    x: &mut Vector,
+) -> bool
+    requires { Searching n pairs.now left sum plus.now minus.now × (0 < left) × (length x.old ≡ greatest_order) }
     ensures { Searched
         (in_front (same_sign n pairs.now) (other_sign n pairs.now) (n - left) (left - 1) entry
         (nth plus.now) (nth minus.now) sum)
-        (n - left) left result }
+        result (n - left) left x.new }
 {
     let d = n - left;
     let with = sum_with(entry, sum, plus[d], minus[d]);
-    let mut x = search_after(n, pairs, left - 1, entry, with, plus, minus)?;
+    let hit = search_after(n, pairs, left - 1, entry, with, plus, minus, x);
     x[d] = entry;
-    Some(x)
+    hit
 }
 
 // Chooses the entries that are left: tries 0, 1 and -1 in front, each with all choices of the entries after it. Where at most four are
@@ -134,40 +140,42 @@ fn search(
     sum: i64,
     plus: &Vector,
     minus: &Vector,
-) -> Option<Vector>
-    requires { Searching n pairs.now left sum plus.now minus.now × (0 < left) }
+    x: &mut Vector,
+) -> bool
+    requires { Searching n pairs.now left sum plus.now minus.now × (0 < left) × (length x.old ≡ greatest_order) }
     ensures { Searched
         (seek (same_sign n pairs.now) (other_sign n pairs.now) (n - left) left
         (nth plus.now) (nth minus.now) sum)
-        (n - left) left result }
+        result (n - left) left x.new }
 {
     if passed_over(n, pairs, left, sum, plus, minus) {
-        return None;
+        return false;
     }
-    if let Some(x) = search_with(n, pairs, left, 0, sum, plus, minus) {
-        return Some(x);
+    if search_with(n, pairs, left, 0, sum, plus, minus, x) {
+        return true;
     }
-    if let Some(x) = search_with(n, pairs, left, 1, sum, plus, minus) {
-        return Some(x);
+    if search_with(n, pairs, left, 1, sum, plus, minus, x) {
+        return true;
     }
-    search_with(n, pairs, left, -1, sum, plus, minus)
+    search_with(n, pairs, left, -1, sum, plus, minus, x)
 }
 
-// The same where all entries before them are 0: not all are, and the first that is not is 1. The vector that is found starts as zeros.
-fn search_half(n: usize, pairs: &Pairs, left: usize, plus: &Vector) -> Option<Vector>
-    requires { Searching n pairs.now left (pos 0) plus.now plus.now }
+// The same where all entries before them are 0: not all are, and the first that is not is 1.
+fn search_half(n: usize, pairs: &Pairs, left: usize, plus: &Vector, x: &mut Vector) -> bool
+    requires { Searching n pairs.now left (pos 0) plus.now plus.now × (length x.old ≡ greatest_order) }
     ensures { Searched
         (seek_half (same_sign n pairs.now) (other_sign n pairs.now) (n - left) left (nth plus.now))
-        (n - left) left result }
+        result (n - left) left x.new }
 {
     if left == 0 {
-        return None;
+        return false;
     }
-    if let Some(mut x) = search_half(n, pairs, left - 1, plus) {
-        x[n - left] = 0;
-        return Some(x);
+    if search_half(n, pairs, left - 1, plus, x) {
+        let d = n - left;
+        x[d] = 0;
+        return true;
     }
-    search_with(n, pairs, left, 1, 0, plus, plus)
+    search_with(n, pairs, left, 1, 0, plus, plus, x)
 }
 
 // What two entries add, from the tables of the bounds: 2 L and -2 U.
@@ -204,7 +212,9 @@ pub fn first_under(bounds: Bounded, w: i64) -> Option<Vector>
     let mut p = [0i64; GREATEST_ORDER];
     fill_pairs(bounds, &mut pairs);
     diagonal(bounds, w, &mut p);
-    search_half(bounds.order, &pairs, bounds.order, &p)
+    let mut x = [0i64; GREATEST_ORDER];
+    let hit = search_half(bounds.order, &pairs, bounds.order, &p, &mut x);
+    hit.then_some(x)
 }
 
 // The first tried vector that shows 'not definite'.
