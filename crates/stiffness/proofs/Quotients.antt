@@ -1,4 +1,5 @@
--- R26.1 to R26.4 of docs/RULES.md: a vector is under w exactly if its quotient is at most w, and v is the least quotient of all tried vectors but 0.
+-- R26.1 to R26.4 of docs/RULES.md: a vector is under w exactly if its quotient is at most w, and v is the least quotient of all tried
+-- vectors but 0.
 use mathlib.Core.Path.{◌≡◌, refl, sym, ap, ap₂, subst, ◌∙◌}
 use mathlib.Core.Logic.{◌⊎◌, inl, inr, ⊎_elim}
 use mathlib.Core.Bool.{Bool, true, false, false≢true}
@@ -84,17 +85,20 @@ module _ (n : ℕ) (L U : Matrix) where
   -- ---- the least of v and of the quotients of a list's vectors but 0
   module _ (v : ℤ) where
     -- by the first vector: it is nonzero or not
-    least-cons : (P : ℤ → Type 0) (x : List ℤ) (l : List (List ℤ)) → (Nonzero n (nth x) → P (min_ℤ (quotient n L U (nth x)) (least_quotient n L U v l))) →
+    least-cons : (P : ℤ → Type 0) (x : List ℤ) (l : List (List ℤ)) →
+        (Nonzero n (nth x) → P (min_ℤ (quotient n L U (nth x)) (least_quotient n L U v l))) →
         ((Nonzero n (nth x) → ⊥) → P (least_quotient n L U v l)) → P (least_quotient n L U v (x ∷ l))
     unfolding least_quotient
     least-cons P x l f g = go (nonzero n (nth x)) refl
       where
-        go : (b : Bool) → nonzero n (nth x) ≡ b → P (elim b as (λ z. ℤ) [ true ↦ min_ℤ (quotient n L U (nth x)) (least_quotient n L U v l) | false ↦ least_quotient n L U v l ])
+        go : (b : Bool) → nonzero n (nth x) ≡ b → (let w = least_quotient n L U v l in
+            P (elim b as (λ z. ℤ) [ true ↦ min_ℤ (quotient n L U (nth x)) w | false ↦ w ]))
         go true e = f (nonzero-of e)
         go false e = g (λ z. false≢true (sym e ∙ nonzero_true z))
 
     -- what holds of v and of these quotients holds of the least
-    least_by : (P : ℤ → Type 0) → P v → (l : List (List ℤ)) → ((x : List ℤ) → Memᴰ x l → Nonzero n (nth x) → P (quotient n L U (nth x))) → P (least_quotient n L U v l)
+    least_by : (P : ℤ → Type 0) → P v → (l : List (List ℤ)) →
+        ((x : List ℤ) → Memᴰ x l → Nonzero n (nth x) → P (quotient n L U (nth x))) → P (least_quotient n L U v l)
     unfolding least_quotient
     least_by P h [] f = h
     least_by P h (x ∷ l) f =
@@ -188,7 +192,9 @@ module _ (n : ℕ) (L U : Matrix) (o : 0 < n) where
   -- v is the quotient of a tried vector, and at most the quotient of each
   pub bound_attained : Attained n L U (least_bound n L U)
   unfolding least_bound
-  bound_attained = least_by n L U (L 0 0) (Attained n L U) (one_attained n L U o) (tried n) (λ x m z. record { vector = x; from_list = m; differs = z; is = refl })
+  bound_attained =
+      least_by n L U (L 0 0) (Attained n L U) (one_attained n L U o) (tried n)
+      (λ x m z. record { vector = x; from_list = m; differs = z; is = refl })
 
   pub bound-≤ : (x : List ℤ) → Memᴰ x (tried n) → Nonzero n (nth x) → least_bound n L U ≤ℤ quotient n L U (nth x)
   unfolding least_bound
@@ -209,7 +215,9 @@ module _ (n : ℕ) (L U : Matrix) (o : 0 < n) where
   pub bound_is : (w : ℤ) (y : List ℤ) → first_under n L U w ≡ some y → first_under n L U (w -ℤ pos 1) ≡ none → w ≡ least_bound n L U
   bound_is w y e f =
       let p = first_found n L U w y e in
-      ≤ℤ_antisym (≤_unless (λ h. absurd (attained_found n L U bound_attained (order (w ∷ least_bound n L U ∷ []) h (search solver depth 40 fits 20000) (omega arith)) f))) (under-bound w y p.0 p.1)
+      let v = least_bound n L U in
+      let below : v <ℤ w → v ≤ℤ (w -ℤ pos 1) = λ h. order (w ∷ v ∷ []) h (search solver depth 40 fits 20000) (omega arith) in
+      ≤ℤ_antisym (≤_unless (λ h. absurd (attained_found n L U bound_attained (below h) f))) (under-bound w y p.0 p.1)
 
   pub bound-first : First n L U (least_bound n L U)
   bound-first = go (first_under n L U (least_bound n L U)) refl
