@@ -61,28 +61,3 @@ pub fn test_factor(
     store_over(answer, over);
     Ok(answer)
 }
-
-// The vector test of the numbers that the buffers spell.
-pub fn test_vector(n: i64, low: &[u8], high: &[u8], vector: &[u8]) -> Result<bool, Refusal>
-    ensures { result ≡ vector_tested n (vector_buffers (order_of n) (length low.now) (length high.now) (length
-        vector.now)) (table_of (order_of n) low.now) (table_of (order_of n) high.now) (vector_of (order_of n)
-        vector.now) }
-{
-    let m = order(n)?;
-    let sized = tables::sizes_ok(m * m * SIZE, m * SIZE, low.len(), high.len(), vector.len());
-    if !sized {
-        return Err(Refusal::Length);
-    }
-    let mut l = [0i64; TABLE_ROOM];
-    let mut u = [0i64; TABLE_ROOM];
-    load_bounds(m, sized, low, high, &mut l, &mut u);
-    check_laid(m, true, &mut l, &mut u)?;
-    let mut x = [0i64; GREATEST_ORDER];
-    words::load_numbers(vector, &mut x, m, SIZE);
-    let bounds = Bounded {
-        order: m,
-        low: &l,
-        high: &u,
-    };
-    vectors::vector_test::answer(bounds, &x)
-}

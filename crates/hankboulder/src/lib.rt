@@ -39,7 +39,7 @@ pub extern "C" fn hb_test_vector(n: i64, low: &[u8], high: &[u8], vector: &[u8])
     ensures exact { result ≡ test_vector_entry n low.now high.now vector.now }
     ensures meaning { VectorMeaning n low.now high.now vector.now result }
 {
-    answer_code(buffers::tests::test_vector(n, low, high, vector))
+    answer_code(vectors::vector_test::test_vector(n, low, high, vector))
 }
 
 // Judges: 0 definite, with the factor and what the rows have over written; -1 not definite, with the vector written; -2 undecided, and else

@@ -1,15 +1,17 @@
 // The factor test, R7.4 of docs/RULES.md.
-ghost use Rattle.std.specs.Prelude.{◌≡◌, ◌*◌, ◌≤◌, ◌<◌, length};
+ghost use Rattle.std.specs.Prelude.{◌≡◌, ◌&&◌, ◌*◌, ◌≤◌, ◌<◌, length};
 ghost use Rattle.tables.specs.Matrix.{at};
+ghost use Rattle.tables.specs.Checks.{order_of, sizes_ok};
 ghost use Rattle.tables.specs.Bounds.{CheckedTables};
 ghost use Rattle.tables.specs.Entering.{Rooms};
 ghost use Rattle.residual.specs.Residual.{over};
-ghost use Rattle.residual.specs.FactorTest.{factor_answer, factor_test, factor_number, carried, Meaning};
+ghost use Rattle.residual.specs.FactorTest.{factor_answer, factor_act, factor_among, factor_number, carried, Meaning};
 ghost use Rattle.residual.specs.Scratch.{Offer};
 
 use crate::offered::factor_shape;
 use crate::residual::turn;
 use crate::row_test::least_over;
+use tables::elements::Element;
 use tables::entering::{enter, order};
 use tables::{Answer, GREATEST_ORDER, Refusal, TABLE_ROOM, Table};
 
@@ -79,21 +81,47 @@ pub fn answer(
     Ok(FactorAnswer::Accepted(v))
 }
 
-// The factor test, of any numbers at all: n is an order or not, and each slice has any length.
-// Refused by the first of the checks 1 to 6 that fails; else accepted or not, by the residual test, with what the rows have over.
-pub fn test_factor(
+// Whether the buffers of a call have their sizes: two tables and a factor, of so many elements each, and others.
+fn sizes_ok(table: usize, others: bool, low: usize, high: usize, factor: usize) -> bool
+    ensures { result ≡ (sizes_ok table table low high factor && others) }
+{
+    tables::sizes_ok(table, table, low, high, factor) && others
+}
+
+// The factor test, in buffers of numbers or of bytes, in a call that lends other buffers besides: `others` says whether these have their
+// sizes. Refused by the first of the checks 1 to 6 that fails; else accepted or not, by the residual test, with what the rows have over.
+pub fn test_factor_among<E: Element>(
     n: i64,
-    low: &[i64],
-    high: &[i64],
-    factor: &[i64],
+    others: bool,
+    low: &[E],
+    high: &[E],
+    factor: &[E],
 ) -> Result<FactorAnswer, Refusal>
-    ensures exact { result ≡ factor_test n low.now high.now factor.now }
-    ensures meaning { Meaning n low.now high.now factor.now result }
+    ensures exact { result ≡ factor_among E.taken E.numbers n others low.now high.now factor.now }
+    ensures meaning { Meaning n (E.numbers low.now (order_of n * order_of n)) (E.numbers high.now (order_of n * order_of n))
+        (E.numbers factor.now (order_of n * order_of n)) result }
 {
     let m = order(n)?;
-    let sized = tables::sizes_ok(m * m, m * m, low.len(), high.len(), factor.len());
+    let table = E::taken(m * m);
+    let sized = sizes_ok(table, others, low.len(), high.len(), factor.len());
     let mut l = [0i64; TABLE_ROOM];
     let mut u = [0i64; TABLE_ROOM];
     enter(n, sized, true, low, high, &mut l, &mut u)?;
-    answer(m, &mut l, &mut u, factor)
+    let mut f = [0i64; TABLE_ROOM];
+    E::load(factor, m * m, &mut f);
+    answer(m, &mut l, &mut u, &f)
+}
+
+// The factor test, of any numbers at all, in buffers of numbers or of bytes: n is an order or not, and each buffer has any length.
+pub fn test_factor<E: Element>(
+    n: i64,
+    low: &[E],
+    high: &[E],
+    factor: &[E],
+) -> Result<FactorAnswer, Refusal>
+    ensures exact { result ≡ factor_act E.taken E.numbers n low.now high.now factor.now }
+    ensures meaning { Meaning n (E.numbers low.now (order_of n * order_of n)) (E.numbers high.now (order_of n * order_of n))
+        (E.numbers factor.now (order_of n * order_of n)) result }
+{
+    test_factor_among(n, true, low, high, factor)
 }
