@@ -1,28 +1,14 @@
-// The factor test and the vector test on buffers of bytes.
-ghost use Rattle.std.specs.Prelude.{◌≡◌, ◌≤◌, length, Ok};
+// The factor test on buffers of bytes.
+ghost use Rattle.std.specs.Prelude.{◌≡◌, length, Ok};
 ghost use Rattle.std.specs.Int.{w64};
 ghost use mir.Val.{bytes};
-ghost use Rattle.tables.specs.Ranges.{greatest_order};
 ghost use Rattle.tables.specs.Checks.{order_of};
 ghost use Rattle.residual.specs.FactorTest.{factor_tested};
-ghost use Rattle.vectors.specs.VectorTest.{vector_tested};
-ghost use Rattle.buffers.specs.Buffers.{table_of, vector_of, factor_buffers, vector_buffers, StoredAnswer, stored_over};
+ghost use Rattle.buffers.specs.Buffers.{table_of, factor_buffers, StoredAnswer, stored_over};
 
-use crate::entering::load_bounds;
-use residual::factor_test::FactorAnswer;
-use tables::bounded::Bounded;
-use tables::entering::{check_laid, order};
-use tables::{GREATEST_ORDER, Refusal, TABLE_ROOM};
+use residual::factor_test::{FactorAnswer, test_factor_among};
+use tables::Refusal;
 use words::SIZE;
-
-// Whether the buffers of a factor test of order n have their sizes.
-fn factor_sizes_ok(n: usize, low: usize, high: usize, factor: usize, over: usize) -> bool
-    requires { n ≤ greatest_order }
-    ensures { result ≡ factor_buffers n low high factor over }
-{
-    let size = n * n * SIZE;
-    tables::sizes_ok(size, size, low, high, factor) && over == SIZE
-}
 
 // Stores what an answer carries, in a buffer of one number.
 fn store_over(answer: FactorAnswer, over: &mut [u8])
@@ -46,18 +32,7 @@ pub fn test_factor(
         (table_of (order_of n) low.now) (table_of (order_of n) high.now) (table_of (order_of n) factor.now))
         over.old) }
 {
-    let m = order(n)?;
-    let sized = factor_sizes_ok(m, low.len(), high.len(), factor.len(), over.len());
-    if !sized {
-        return Err(Refusal::Length);
-    }
-    let mut l = [0i64; TABLE_ROOM];
-    let mut u = [0i64; TABLE_ROOM];
-    load_bounds(m, sized, low, high, &mut l, &mut u);
-    check_laid(m, true, &mut l, &mut u)?;
-    let mut f = [0i64; TABLE_ROOM];
-    words::load_numbers(factor, &mut f, m * m, SIZE);
-    let answer = residual::factor_test::answer(m, &mut l, &mut u, &f)?;
+    let answer = test_factor_among(n, over.len() == SIZE, low, high, factor)?;
     store_over(answer, over);
     Ok(answer)
 }

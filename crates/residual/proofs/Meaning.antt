@@ -147,3 +147,9 @@ module _ (n : ℤ) (l u f : List ℤ) where
   tested-means sized =
       entered-means n sized true l u Err _ (Meaning n l u f) refused-means
       (λ b. after-means Err _ _ (Meaning n l u f) refused-means (λ q. shaped_means (passed-bounds k l u b.tables) (first-passed _ _ q)))
+
+  -- an answer that is no refusal: check 2 passed
+  pub tested-sized : (sized : Bool) {a : FactorAnswer} → factor_tested n sized l u f ≡ Ok a → sized ≡ true
+  unfolding factor_tested
+  tested-sized sized {a} =
+      entered-means n sized true l u Err _ (λ (r : Result FactorAnswer Refusal). r ≡ Ok a → sized ≡ true) (λ r e. cc) (λ b e. b.sizes)

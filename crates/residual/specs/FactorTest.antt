@@ -50,30 +50,23 @@ factor_tested n sized l u f =
     let k : ℕ = order_of n in
     entered Err n sized true l u (factor_answer k (low_bounds k l) (high_bounds k u) (at k f))
 
--- 2, R4.2: each lent buffer has the size that belongs to n; `taken` says how many elements so many numbers take
-abbrev pub factor_sizes : (ℕ → ℕ) → ℕ → ℕ → ℕ → ℕ → Bool
-factor_sizes taken n = sizes_ok (taken (n * n)) (taken (n * n))
+-- 2, R4.2: each lent table has the size that belongs to n
+abbrev pub factor_sizes : ℕ → ℕ → ℕ → ℕ → Bool
+factor_sizes table = sizes_ok table table
+
+-- the same of buffers, where `taken` says how many elements so many numbers take
+abbrev pub factor_lengths : {A : Type 0} → (ℕ → ℕ) → ℕ → List A → List A → List A → Bool
+factor_lengths taken n l u f = factor_sizes (taken (n * n)) (length l) (length u) (length f)
 
 -- the factor test of the numbers that buffers hold, where check 2 finds `sized`
-abbrev pub factor_held : {A : Type 0} → (List A → ℕ → List ℤ) → ℤ → Bool → List A → List A → List A → Result FactorAnswer Refusal
-factor_held numbers n sized l u f =
-    let m : ℕ = order_of n * order_of n in
-    factor_tested n sized (numbers l m) (numbers u m) (numbers f m)
+unfoldable pub factor_act : {A : Type 0} → (List A → ℕ → List ℤ) → ℤ → Bool → List A → List A → List A → Result FactorAnswer Refusal
+factor_act numbers n sized l u f =
+    let k : ℕ = order_of n in
+    factor_tested n sized (numbers l (k * k)) (numbers u (k * k)) (numbers f (k * k))
 
--- of any buffers at all
-unfoldable pub factor_act : {A : Type 0} → (ℕ → ℕ) → (List A → ℕ → List ℤ) → ℤ → List A → List A → List A → Result FactorAnswer Refusal
-factor_act taken numbers n l u f =
-    factor_held numbers n (factor_sizes taken (order_of n) (length l) (length u) (length f)) l u f
-
--- among other buffers, of which `others` says whether they have their sizes
-unfoldable pub factor_among : {A : Type 0} → (ℕ → ℕ) → (List A → ℕ → List ℤ) → ℤ → Bool → List A → List A → List A →
-    Result FactorAnswer Refusal
-factor_among taken numbers n others l u f =
-    factor_held numbers n (factor_sizes taken (order_of n) (length l) (length u) (length f) && others) l u f
-
--- of numbers themselves
+-- of numbers themselves, of anything at all
 unfoldable pub factor_test : ℤ → List ℤ → List ℤ → List ℤ → Result FactorAnswer Refusal
-factor_test n l u f = factor_act (λ k. k) (λ x k. x) n l u f
+factor_test n l u f = factor_act (λ x k. x) n (factor_lengths (λ k. k) (order_of n) l u f) l u f
 
 -- R15.4: the number at the C entry, 0, -1, or the refusal's
 abbrev pub factor_number : FactorAnswer → ℤ

@@ -1,11 +1,11 @@
 // The factor test, R7.4 of docs/RULES.md.
 ghost use Rattle.std.specs.Prelude.{◌≡◌, ◌&&◌, ◌*◌, ◌≤◌, ◌<◌, length};
 ghost use Rattle.tables.specs.Matrix.{at};
-ghost use Rattle.tables.specs.Checks.{order_of, sizes_ok};
+ghost use Rattle.tables.specs.Checks.{order_of};
 ghost use Rattle.tables.specs.Bounds.{CheckedTables};
 ghost use Rattle.tables.specs.Entering.{Rooms};
 ghost use Rattle.residual.specs.Residual.{over};
-ghost use Rattle.residual.specs.FactorTest.{factor_answer, factor_act, factor_among, factor_number, carried, Meaning};
+ghost use Rattle.residual.specs.FactorTest.{factor_answer, factor_lengths, factor_act, factor_number, carried, Meaning};
 ghost use Rattle.residual.specs.Scratch.{Offer};
 
 use crate::offered::factor_shape;
@@ -81,15 +81,8 @@ pub fn answer(
     Ok(FactorAnswer::Accepted(v))
 }
 
-// Whether the buffers of a call have their sizes: two tables and a factor, of so many elements each, and others.
-fn sizes_ok(table: usize, others: bool, low: usize, high: usize, factor: usize) -> bool
-    ensures { result ≡ (sizes_ok table table low high factor && others) }
-{
-    tables::sizes_ok(table, table, low, high, factor) && others
-}
-
-// The factor test, in buffers of numbers or of bytes, in a call that lends other buffers besides: `others` says whether these have their
-// sizes. Refused by the first of the checks 1 to 6 that fails; else accepted or not, by the residual test, with what the rows have over.
+// The factor test of a call that lends other buffers too: `others` says whether these have their sizes.
+// Refused by the first of the checks 1 to 6 that fails; else accepted or not, by the residual test, with what the rows have over.
 pub fn test_factor_among<E: Element>(
     n: i64,
     others: bool,
@@ -97,13 +90,15 @@ pub fn test_factor_among<E: Element>(
     high: &[E],
     factor: &[E],
 ) -> Result<FactorAnswer, Refusal>
-    ensures exact { result ≡ factor_among E.taken E.numbers n others low.now high.now factor.now }
+    ensures exact { result ≡ factor_act E.numbers n (factor_lengths E.taken (order_of n) low.now high.now factor.now && others)
+        low.now high.now factor.now }
     ensures meaning { Meaning n (E.numbers low.now (order_of n * order_of n)) (E.numbers high.now (order_of n * order_of n))
         (E.numbers factor.now (order_of n * order_of n)) result }
 {
     let m = order(n)?;
     let table = E::taken(m * m);
-    let sized = sizes_ok(table, others, low.len(), high.len(), factor.len());
+    let own = tables::sizes_ok(table, table, low.len(), high.len(), factor.len());
+    let sized = own && others;
     let mut l = [0i64; TABLE_ROOM];
     let mut u = [0i64; TABLE_ROOM];
     enter(n, sized, true, low, high, &mut l, &mut u)?;
@@ -119,7 +114,8 @@ pub fn test_factor<E: Element>(
     high: &[E],
     factor: &[E],
 ) -> Result<FactorAnswer, Refusal>
-    ensures exact { result ≡ factor_act E.taken E.numbers n low.now high.now factor.now }
+    ensures exact { result ≡ factor_act E.numbers n (factor_lengths E.taken (order_of n) low.now high.now factor.now) low.now high.now
+        factor.now }
     ensures meaning { Meaning n (E.numbers low.now (order_of n * order_of n)) (E.numbers high.now (order_of n * order_of n))
         (E.numbers factor.now (order_of n * order_of n)) result }
 {

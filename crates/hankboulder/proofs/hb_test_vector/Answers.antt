@@ -13,4 +13,5 @@ unfolding test_vector_entry vector_act
 returns c =
     let a = c.args in
     exactly (VectorMeaning a.n a.low.now a.high.now a.vector.now) (vector-means a.n a.low.now a.high.now a.vector.now) _
-    (rw (clean_element c.answer_code.result c.answer_code.type_inv) (c.answer_code.ensures ∙ ap (answer_code yes_or_no_code) (rw (clean c.ranges.n) at c.test_vector.ensures.exact)))
+    (rw (clean_element c.answer_code.result c.answer_code.type_inv)
+    (c.answer_code.ensures ∙ ap (answer_code yes_or_no_code) (rw (clean c.ranges.n) at c.test_vector.ensures.exact)))
