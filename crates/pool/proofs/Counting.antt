@@ -6,7 +6,7 @@ use mathlib.Core.Bool.{Bool, true, false, false≢true, ◌&&◌}
 use mathlib.Core.List.{List, []}
 use Prim.Native.Nat.{ℕ, zero, suc, ◌+◌, ◌*◌, ◌/◌, ◌%◌, ◌≤◌, ◌<◌}
 use native.Mathlib.Omega.{arith}
-use native.Mathlib.Nat.{div-add-mod', mul-le-mul, mul-le-mul_right}
+use native.Mathlib.Nat.{div-add-mod', mul-le-mul_right}
 use lib.Dec.{leb, eqb}
 use lib.IntN.{ℤ}
 use lib.ListN.{length}
@@ -54,10 +54,6 @@ module _ (unit size : ℕ) where
   pub count_room : count_of unit size * unit ≤ size
   count_room = count_by (λ k. k * unit ≤ size) (λ e h. omega (arith, div-add-mod' size unit)) (omega arith)
 
-  -- and, where there is one, no other number
-  pub count_length : 1 ≤ count_of unit size → size ≡ count_of unit size * unit
-  count_length = count_by (λ k. 1 ≤ k → size ≡ k * unit) (λ e h l. omega (arith, e, div-add-mod' size unit)) (λ l. absurd (omega arith))
-
 -- how the code answers it
 pub counted-none : {k : ℕ} → k < 1 → None ≡ counted k
 counted-none {k = zero} h = refl
@@ -79,10 +75,6 @@ some-counted {k = suc k} e = cc
 -- ---- part k of m parts of s numbers each
 pub part_inside : {k m : ℕ} (s : ℕ) → k < m → k * s + s ≤ m * s
 part_inside {k} s h = omega (arith, mul-le-mul_right {m = suc k} s h)
-
--- where it starts
-pub part-start : {k m s b : ℕ} → k < m → m ≤ greatest_pool → s ≤ b → k * s ≤ greatest_pool * b
-part-start h l e = mul-le-mul (omega arith) e
 
 -- ---- checks 1 and 2
 -- what they say: n and every order are the same order, there is a problem, and the other buffers have their sizes
