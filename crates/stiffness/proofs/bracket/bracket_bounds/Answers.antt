@@ -6,7 +6,9 @@ use Rattle.stiffness.proofs.bracket.bracket_bounds.Goals as goal
 
 pub returns : goal.returns
 returns g c =
-    let s = c.find-found.ensures in
     let elements = g.E.Element.elements in
-    rw (c.store.ensures ∙ stored-whole elements _ _ (omega (arith, c.args.bounds.checked.order, s.size)) c.requires.1)
-    (stated-laid _ _ _ (λ x. elements x c.args.bounds.order) s _)
+    let n = c.args.bounds.order in
+    let x = c.find-found.new.x in
+    let s = c.find-found.ensures in
+    rw (c.store.ensures ∙ stored-whole elements {n = n} x c.args.vector.now (omega (arith, c.args.bounds.checked.order, s.size)) c.requires.1)
+    (stated-laid n _ _ (λ x. elements x n) s c.args.vector.now)
