@@ -16,7 +16,7 @@ use Rattle.tables.specs.Ranges.{greatest_order, table_room}
 use Rattle.tables.specs.Checks.{bounds_checks, order_ok, first_refusal}
 use Rattle.tables.specs.declared.problem.Problem.{Problem}
 use Rattle.tables.specs.Entering.{Mended}
-use Rattle.tables.specs.Problem.{problem_of, problem_within, constraint_ends, problem_checks, mended_problem}
+use Rattle.tables.specs.Problem.{problem_within, constraint_ends, problem_checks, mended_problem}
 use Rattle.tables.specs.declared.Refusal.{Refusal}
 use Rattle.tables.specs.declared.Refusal.TheVariants.{Long}
 use Rattle.tables.specs.Checks.{Checked}
@@ -33,7 +33,8 @@ use Rattle.fields.proofs.Finding.{place-below}
 use Rattle.fields.proofs.Parts.{layout_is}
 use Rattle.summary.proofs.MendedProblems.{mended-through}
 use Rattle.summary.specs.Problems.{longest, order_in, length_for, lengths_for, lengths_ok, field_checks, padded_to, padded, problem_in}
-use Rattle.summary.specs.Problems.{checked_of, reading_of, read_in, read_walked, reading, ProblemRooms, FieldsFit, LetThrough, spelled_by}
+use Rattle.summary.specs.Problems.{with_tables, checked_of, reading_of, read_in, read_walked, reading}
+use Rattle.summary.specs.Problems.{ProblemRooms, FieldsFit, LetThrough, spelled_by}
 
 -- ---- the lengths of the fields
 pub called_for : (n : ℕ) (k : Kind) → get_or (lengths_for n) (place_of k) 0 ≡ length_for n k
@@ -110,22 +111,13 @@ reading_as p e = ap (λ (k : Checked). after Err k (Ok (mended_problem p))) e
 -- 3, 4 and 5, with the tables mended in their place, and then 16
 module _ (p : Problem) {r : Checked} {l u : List ℤ}
     (m : let c = p.constraint in Mended (bounds_checks (problem_within p) c.order c.low c.high) c.order c.low c.high r l u) where
-  reading-behind : {k : Checked} → r ≡ Ok tt → first_refusal (constraint_ends p.constraint) ≡ k →
-      reading_of p ≡ after Err k (Ok (mended_problem p))
-  reading-behind q e = reading_as p (more-checks _ _ (sym m.answered ∙ q) ∙ e)
-
   pub reading-refused : {k : Refusal} → r ≡ Err k → Err k ≡ reading_of p
   unfolding after
   reading-refused e = sym (reading_as p (no-more-checks _ _ _ (sym m.answered ∙ e)))
 
-  pub reading-reversed : {k : Refusal} → r ≡ Ok tt → first_refusal (constraint_ends p.constraint) ≡ Err k → Err k ≡ reading_of p
-  unfolding after
-  reading-reversed q e = sym (reading-behind q e)
-
-  pub reading-mended : r ≡ Ok tt → first_refusal (constraint_ends p.constraint) ≡ Ok tt → let c = p.constraint in
-      Ok (problem_of c.order l u c.linear.low c.linear.high c.limit p.centre) ≡ reading_of p
-  unfolding after
-  reading-mended q e = rw (m.low q, m.high q) (sym (reading-behind q e))
+  pub reading-mended : {k : Checked} → r ≡ Ok tt → k ≡ first_refusal (constraint_ends p.constraint) →
+      after Err k (Ok (with_tables p l u)) ≡ reading_of p
+  reading-mended q e = rw (m.low q, m.high q) (sym (reading_as p (more-checks _ _ (sym m.answered ∙ q) ∙ sym e)))
 
 pub reading_checked : (p : Problem) → checked_of (reading_of p) ≡ first_refusal (problem_checks p)
 unfolding after

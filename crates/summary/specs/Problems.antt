@@ -122,6 +122,10 @@ checked_of (Err r) = Err r
 unfoldable pub reading_of : Problem → Reading
 reading_of p = after Err (first_refusal (problem_checks p)) (Ok (mended_problem p))
 
+-- a problem with these tables in place of its own
+abbrev pub with_tables : Problem → List ℤ → List ℤ → Problem
+with_tables p l u = let c = p.constraint in problem_of c.order l u c.linear.low c.linear.high c.limit p.centre
+
 -- what the fields of a layout give
 unfoldable pub read_in : List ℕ → Layout → Reading
 read_in s l = after Err (first_refusal (field_checks s l)) (reading_of (problem_in s l))

@@ -1,13 +1,14 @@
 // R17 of docs/RULES.md: the problem that a file spells, mended (R2.10).
-ghost use Rattle.std.specs.Prelude.{◌≡◌, ◌*◌, ◌≤◌};
+ghost use Rattle.std.specs.Prelude.{◌≡◌, ◌*◌, ◌≤◌, Ok, Err};
 ghost use Rattle.std.specs.Int.{w32, w64};
 ghost use mir.Val.{bytes};
 ghost use Rattle.words.specs.Numbers.{signed_at, padded_numbers_of};
 ghost use Rattle.tables.specs.Ranges.{greatest_order, table_room};
 ghost use Rattle.tables.specs.Checks.{first_refusal};
+ghost use Rattle.tables.specs.Answers.{after};
 ghost use Rattle.fields.specs.Layouts.{length_of, content, Inside};
 ghost use Rattle.summary.specs.Problems.{all_present, order_in, lengths_for, lengths_ok, FieldsFit, field_checks, problem_in};
-ghost use Rattle.summary.specs.Problems.{ProblemRooms, reading_of, read_in, reading, ReadingMeaning};
+ghost use Rattle.summary.specs.Problems.{ProblemRooms, reading_of, with_tables, read_in, reading, ReadingMeaning};
 
 use fields::field::{KINDS, Kind};
 use fields::layout::{Layout, content, length_of, walk};
@@ -136,23 +137,27 @@ fn problem_in(file: &[u8], layout: Layout) -> Problem
     }
 }
 
-// 3, 4, 5 and 16 of a problem, and where nothing is refused the problem with its bounds mended.
+// 3, 4, 5 and 16 of a problem, and where nothing is refused its tables mended in their place. What a refusal leaves in the tables is not
+// said; all other numbers are kept in any case.
 #[tactic(auto, unfolding(crate::specs::Problems::reading_of, tables::specs::Answers::after))]
-pub fn mend_problem(problem: Problem) -> Result<Problem, Refusal>
-    requires { ProblemRooms problem }
-    ensures { result ≡ reading_of problem }
+pub fn mend_problem(problem: &mut Problem) -> Result<(), Refusal>
+    requires { ProblemRooms problem.old }
+    ensures exact { after Err result (Ok problem.new) ≡ reading_of problem.old }
+    ensures kept { problem.new ≡ with_tables problem.old problem.new.constraint.low problem.new.constraint.high }
 {
-    let mut constraint = problem.constraint;
+    let constraint = &mut problem.constraint;
     let n = constraint.order;
-    let linear = &problem.constraint.linear;
-    let limit = constraint.limit;
-    let within = tables::sized_within(n, true, &linear.low, &linear.high, limit, &problem.centre);
+    let linear = &constraint.linear;
+    let within = tables::sized_within(
+        n,
+        true,
+        &linear.low,
+        &linear.high,
+        constraint.limit,
+        &problem.centre,
+    );
     check_laid(n, within, &mut constraint.low, &mut constraint.high)?;
-    tables::check_ends(n, &linear.low, &linear.high)?;
-    Ok(Problem {
-        constraint,
-        ..problem
-    })
+    tables::check_ends(n, &linear.low, &linear.high)
 }
 
 // The problem in the fields that the walk found, or the first refusal.
@@ -162,7 +167,9 @@ fn read_in(file: &[u8], layout: Layout) -> Result<Problem, Refusal>
     ensures { result ≡ read_in file.now layout }
 {
     check_fields(file, layout)?;
-    mend_problem(problem_in(file, layout))
+    let mut problem = problem_in(file, layout);
+    mend_problem(&mut problem)?;
+    Ok(problem)
 }
 
 // The problem of a summary file, of any bytes at all: 15; then field by field 10, 11, 12, 19; then 13; 14 for tag 01; 1; 14 for the other

@@ -89,12 +89,12 @@ fn problem_of(
 
 // Checks 3, 4, 5 and 16 of a problem, and the file of the mended one into a buffer of its size, which a refusal keeps.
 #[tactic(auto, unfolding(crate::specs::Writing::checked_writing, summary::specs::Problems::reading_of, tables::specs::Answers::after))]
-pub fn write_checked(problem: Problem, file: &mut [u8]) -> Result<(), Refusal>
+pub fn write_checked(mut problem: Problem, file: &mut [u8]) -> Result<(), Refusal>
     requires { ProblemRooms problem × (length file.old ≡ file_size problem.constraint.order) }
     ensures { ◌≡◌ {A = Written} (record { answer = result; file = file.new }) (checked_writing problem file.old) }
 {
-    let mended = mend_problem(problem)?;
-    write_file(&mended, file);
+    mend_problem(&mut problem)?;
+    write_file(&problem, file);
     Ok(())
 }
 
