@@ -44,9 +44,9 @@ pub fn read_summary(
         return Err(Refusal::Length);
     }
     let problem = summary::problem::read(file)?;
-    let constraint = problem.constraint;
+    let constraint = &problem.constraint;
     store_bounds(constraint, low, high);
-    store_linear(constraint.linear, from, to);
-    store_others(problem, order, limit, centre);
+    store_linear(&constraint.linear, from, to);
+    store_others(&problem, order, limit, centre);
     Ok(())
 }

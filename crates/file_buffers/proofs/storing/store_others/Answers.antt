@@ -10,6 +10,6 @@ returns c =
     let a = c.args in
     let p = c.requires in (
       number-stored a.order.now p.1 (read_i64 _ (omega (arith, p.0))) c.store_signed.ensures,
-      number-stored a.limit.now p.2 (clean_element a.problem.constraint.limit (omega arith)) c.store_signed-2.ensures,
+      number-stored a.limit.now p.2 (clean_element a.problem.now.constraint.limit (omega arith)) c.store_signed-2.ensures,
       c.store_numbers.ensures ∙ numbers-stored p.3,
     )
