@@ -63,6 +63,10 @@ laid F V (not_definite x) f v = record { verdict = Ok Verdict.NotDefinite; facto
 laid F V undecided f v = record { verdict = Ok Verdict.Undecided; factor = f; vector = v }
 laid F V (refused r) f v = record { verdict = Err r; factor = f; vector = v }
 
+-- into buffers of elements, those of n² numbers and of n
+abbrev pub stored : {A : Type 0} → (List ℤ → ℕ → List A) → ℕ → Judgement → List A → List A → Judged (List A)
+stored elements n = laid (λ t. elements t (n * n)) (λ x. elements x n)
+
 -- into buffers of numbers
 abbrev pub written : Judgement → List ℤ → List ℤ → Judged (List ℤ)
 written = laid (λ t. t) (λ x. x)
@@ -74,10 +78,6 @@ judge_sizes table vector l u f v = sizes_ok table table l u f && eqb v vector
 -- the same of buffers, where `taken` says how many elements so many numbers take
 abbrev pub judge_lengths : {A : Type 0} → (ℕ → ℕ) → ℕ → List A → List A → List A → List A → Bool
 judge_lengths taken n l u f v = judge_sizes (taken (n * n)) (taken n) (length l) (length u) (length f) (length v)
-
--- into buffers of elements, those of n² numbers and of n
-abbrev pub stored : {A : Type 0} → (List ℤ → ℕ → List A) → ℕ → Judgement → List A → List A → Judged (List A)
-stored elements n = laid (λ t. elements t (n * n)) (λ x. elements x n)
 
 -- the judge of the numbers that buffers hold, where check 2 finds `sized`
 unfoldable pub judge_act : {A : Type 0} → (List A → ℕ → List ℤ) → (List ℤ → ℕ → List A) → ℤ → Bool → List A → List A →
