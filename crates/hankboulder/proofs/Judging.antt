@@ -12,38 +12,28 @@ use mir.Syntax.{w64}
 use mir.Val.{bytes}
 use Rattle.integers.proofs.Machine.{fits_within}
 use Rattle.words.proofs.Laws.{length-bytes_of}
+use Rattle.tables.specs.Elements.{bytes_whole}
 use Rattle.tables.specs.Checks.{order_of, sizes_ok}
 use Rattle.tables.proofs.Checks.{and_left, and_right, and_of}
-use Rattle.tables.proofs.Admission.{entered-means}
-use Rattle.verdict.specs.Judge.{Judgement, definite, not_definite, undecided, refused, judging, written, judge_sizes, verdict_code, NotRefused, Meaning}
+use Rattle.verdict.specs.Judge.{Judgement, definite, not_definite, undecided, refused, judging, judge_sizes, verdict_code, NotRefused}
 use Rattle.std.specs.Prelude.{Result, Ok}
 use Rattle.tables.specs.declared.Refusal.{Refusal}
 use Rattle.verdict.specs.declared.judge.Verdict.{Verdict}
 use Rattle.verdict.proofs.Fitting.{Fitting, judging_fitting}
 use Rattle.verdict.proofs.Decisions.{judge-sizes-of}
-use Rattle.verdict.proofs.Meanings.{carried, same_verdict, judging-means}
+use Rattle.verdict.proofs.Meanings.{carried, same_verdict, judging-sized, act-means}
 use Rattle.verdict.proofs.Codes.{code_definite, code_not, code_given}
-use Rattle.buffers.specs.Buffers.{table_of, vector_of, number_of, bytes_of_number, factor_buffers, vector_buffers, judge_buffers, stored_verdict}
-use Rattle.buffers.proofs.Stores.{read-numbers, read_number}
+use Rattle.buffers.specs.Buffers.{table_of, number_of, bytes_of_number}
+use Rattle.buffers.specs.Buffers.{factor_buffers, vector_buffers, judge_buffers, stored_verdict}
+use Rattle.buffers.proofs.Stores.{read_number}
 use Rattle.hankboulder.specs.Entries.{judge_stored, judge_entry}
 use Rattle.hankboulder.specs.Meanings.{JudgeMeaning}
 use Rattle.hankboulder.proofs.Codes.{factor-accepted, vector_code}
 
--- ---- what is read back is what was to be written
-module _ (n : ℤ) (l u : List ℤ) (f v o : List ℕ) where
+-- ---- what the rows have over is read back
+module _ (n : ℤ) (f v o : List ℕ) where
   abbrev order : ℕ
   order = order_of n
-
-  -- what a verdict means, of the numbers in the buffers as they are left
-  abbrev Means : Judgement → Type 0
-  Means g = let j = stored_verdict order g f v o in Meaning n l u j.verdict (table_of order j.factor) (vector_of order j.vector)
-
-  stored-means : (g : Judgement) → Fitting order g →
-      (let j = written g (table_of order f) (vector_of order v) in Meaning n l u j.verdict j.factor j.vector) → Means g
-  stored-means (definite t w) z m = rw (read-numbers t z.0.size z.0.small (omega arith)) m
-  stored-means (not_definite x) z m = rw (read-numbers x z.size z.small (omega arith)) m
-  stored-means undecided z m = m
-  stored-means (refused r) z m = m
 
   -- with 'definite' goes the number in the buffer over
   number-means : (g : Judgement) → Fitting order g → (w : ℤ) → (stored_verdict order g f v o).verdict ≡ Ok (Verdict.Definite w) →
@@ -97,19 +87,19 @@ module _ (n : ℤ) (l u f v o : List ℕ) where
 
   -- the buffers have their sizes where the call is not refused
   sizes : NotRefused verdict → sized ≡ true
-  unfolding judging
-  sizes =
-      entered-means n sized true (table_of k l) (table_of k u) refused _ (λ (g : Judgement). NotRefused (stored_verdict k g f v o).verdict → sized ≡ true)
-      (λ r h. absurd (h r refl)) (λ b h. b.sizes)
+  sizes h = judging-sized _ _ _ _ (λ r e. h r (ap (λ (g : Judgement). (stored_verdict k g f v o).verdict) e))
 
   -- and those of both tests
-  factor-sized : NotRefused verdict → (s : List ℕ) → length s ≡ bytes w64 → factor_buffers k (length l) (length u) (length (stored_verdict k judgement f v o).factor) (length s) ≡ true
+  factor-sized : NotRefused verdict → (s : List ℕ) → length s ≡ bytes w64 →
+      factor_buffers k (length l) (length u) (length (stored_verdict k judgement f v o).factor) (length s) ≡ true
   unfolding factor_buffers judge_buffers
   factor-sized h s e =
       let T = k * k * bytes w64 in
       let c = and_left _ _ (sizes h) in
       let z = judge-sizes-of _ _ _ _ _ _ c in
-      and_of (subst (λ (i : ℕ). sizes_ok T T (length l) (length u) i ≡ true) (sym (factor-length k f v o judgement z.2)) (factor-sizes _ _ _ _ _ _ c)) (eq-eqb (length s) (bytes w64) e)
+      let same = sym (factor-length k f v o judgement z.2) in
+      and_of (subst (λ (i : ℕ). sizes_ok T T (length l) (length u) i ≡ true) same (factor-sizes _ _ _ _ _ _ c))
+      (eq-eqb (length s) (bytes w64) e)
 
   vector-sized : NotRefused verdict → vector_buffers k (length l) (length u) (length (stored_verdict k judgement f v o).vector) ≡ true
   unfolding judge_buffers
@@ -117,20 +107,22 @@ module _ (n : ℤ) (l u f v o : List ℕ) where
       let T = k * k * bytes w64 in
       let c = and_left _ _ (sizes h) in
       let z = judge-sizes-of _ _ _ _ _ _ c in
-      subst (λ (i : ℕ). sizes_ok T (k * bytes w64) (length l) (length u) i ≡ true) (sym (vector-length k f v o judgement z.3)) (vector-sizes _ _ _ _ _ _ c)
+      let e = sym (vector-length k f v o judgement z.3) in
+      subst (λ (i : ℕ). sizes_ok T (k * bytes w64) (length l) (length u) i ≡ true) e (vector-sizes _ _ _ _ _ _ c)
 
   pub judge-means : (let j = judge_entry n l u f v o in JudgeMeaning n l u j.number j.factor j.vector j.over)
   unfolding judge_entry judge_stored
   judge-means =
       let j = judge_stored n l u f v o in
       let z = judging_fitting n sized (table_of k l) (table_of k u) in
-      let m = stored-means n (table_of k l) (table_of k u) f v o judgement z (judging-means n sized (table_of k l) (table_of k u) (table_of k f) (vector_of k v)) in
-      let number = number-means n (table_of k l) (table_of k u) f v o judgement z in
+      let m = act-means bytes_whole n (table_of k l) (table_of k u) f v sized in
+      let number = number-means n f v o judgement z in
       record {
         definite = λ e. let d = code_definite verdict e in m.definite d.over d.verdict;
         accepted = λ e s h.
             let d = code_definite verdict e in
-            factor-accepted n l u j.factor d.over s (factor-sized (subst NotRefused (sym d.verdict) (λ r q. false≢true cc)) s h) (m.accepted d.over d.verdict)
+            let given = subst NotRefused (sym d.verdict) (λ r q. false≢true cc) in
+            factor-accepted n l u j.factor d.over s (factor-sized given s h) (m.accepted d.over d.verdict)
             ∙ ap (λ (b : List ℕ). record { number = pos 0; over = b }) (sym (number d.over d.verdict).0);
         enough = λ e. let d = code_definite verdict e in rw (number d.over d.verdict).1 (m.enough d.over d.verdict);
         bound = λ e. let d = code_definite verdict e in rw (number d.over d.verdict).1 (m.bound d.over d.verdict);
