@@ -1,4 +1,4 @@
-// The bracket of the stiffness, on buffers of bytes: the bounds are loaded and checked, the act is asked, and what it gives is stored.
+// The bracket of the stiffness, on buffers of bytes: the act is asked, and step and bound are stored beside its vector.
 #![tactic(auto)]
 
 pub mod bracketing;
