@@ -1,4 +1,4 @@
-// The acts on buffers of bytes: the numbers are loaded and checked, the act is asked, and what it gives is stored.
+// The judge and the factor test on buffers of bytes: the act over any buffers is asked, and what the rows have over is stored.
 #![tactic(auto)]
 
 pub mod entering;

@@ -11,7 +11,7 @@ use Rattle.residual.specs.FactorTest.{factor_tested, factor_act}
 use Rattle.residual.specs.declared.factor_test.FactorAnswer.{FactorAnswer}
 use Rattle.residual.proofs.Meaning.{tested-sized}
 use Rattle.buffers.specs.Buffers.{table_of, factor_buffers, StoredAnswer, stored_over}
-use Rattle.buffers.proofs.Sizes.{factor_buffers_of}
+use Rattle.buffers.proofs.Sizes.{factor_over_of}
 use Rattle.buffers.proofs.tests.test_factor.Goals as goal
 use Rattle.buffers.proofs.tests.test_factor.Goals.{Start, After-test_factor_among}
 
@@ -39,7 +39,7 @@ returns-in_err-answer c =
 pub store_over-requires : goal.store_over-requires
 store_over-requires c =
     let w = sym (answered (goal.at.store_over-requires c).After-test_factor_among) ∙ c.in_ok-answer.was in
-    (factor_buffers_of _ _ _ _ _ (tested-sized _ _ _ _ _ w)).3
+    factor_over_of _ _ _ _ _ (tested-sized _ _ _ _ _ w)
 
 -- an answer that is stored is handed on
 with_answer : (a : FactorAnswer) (o : List ℕ) → record { answer = Ok a; over = (stored_over (Ok a) o).over } ≡ stored_over (Ok a) o
