@@ -118,7 +118,7 @@ fn judge_bounds<E: Element>(
 
 // Whether the buffers of a call have their sizes: that of a table, or that of a vector.
 #[tactic(auto, unfolding(crate::specs::Judge::judge_sizes))]
-pub fn sizes_ok(
+fn sizes_ok(
     table: usize,
     entries: usize,
     low: usize,
