@@ -19,7 +19,7 @@ use Rattle.verdict.specs.declared.judge.Verdict.{Verdict}
 use Rattle.verdict.proofs.Meanings.{judging-sized}
 use Rattle.buffers.specs.Buffers.{table_of, judge_buffers, over_by, StoredVerdict}
 use Rattle.buffers.proofs.Stores.{number-stored}
-use Rattle.buffers.proofs.Sizes.{judge_buffers_of}
+use Rattle.buffers.proofs.Sizes.{judge_over_of}
 use Rattle.buffers.proofs.judging.judge.Goals as goal
 use Rattle.buffers.proofs.judging.judge.Goals.{Start, After-judge_among}
 
@@ -62,8 +62,8 @@ room : (c : After-judge_among) → (w : ℤ) → c.judge_among.result ≡ Ok (Ve
 room c w e =
     let s = (goal.at.After-judge_among c).Start in
     let j = sym e ∙ ap (λ (j : Judged (List ℕ)). j.verdict) (judged c) in
-    let b = judging-sized _ _ _ _ (λ r q. not_refused (j ∙ ap (λ (g : Judgement). (by_judgement s g).verdict) q)) in
-    (judge_buffers_of _ _ _ _ _ _ b).4
+    judge_over_of _ _ _ _ _ _
+    (judging-sized _ _ _ _ (λ r q. not_refused (j ∙ ap (λ (g : Judgement). (by_judgement s g).verdict) q)))
 
 pub store_signed-requires : goal.store_signed-requires
 store_signed-requires c =
