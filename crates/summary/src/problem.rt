@@ -138,12 +138,13 @@ fn problem_in(file: &[u8], layout: Layout) -> Problem
 }
 
 // 3, 4, 5 and 16 of a problem, and where nothing is refused its tables mended in their place. What a refusal leaves in the tables is not
-// said; all other numbers are kept in any case.
+// said. All other numbers are kept in any case, and the arrays have their sizes.
 #[tactic(auto, unfolding(crate::specs::Problems::reading_of, tables::specs::Answers::after))]
 pub fn mend_problem(problem: &mut Problem) -> Result<(), Refusal>
     requires { ProblemRooms problem.old }
     ensures exact { after Err result (Ok problem.new) ≡ reading_of problem.old }
     ensures kept { problem.new ≡ with_tables problem.old problem.new.constraint.low problem.new.constraint.high }
+    ensures rooms { ProblemRooms problem.new }
 {
     let constraint = &mut problem.constraint;
     let n = constraint.order;
