@@ -1,4 +1,4 @@
--- What hb_stiffness's number means: the numbers that it stores are read back from the buffers as they are left.
+-- What hb_stiffness's number means: step and bound are read back from the buffers as they are left, and the vector by the generic bracket.
 use mathlib.Core.Path.{◌≡◌, refl, ap}
 use mathlib.Core.Bool.{Bool, false≢true}
 use mathlib.Core.List.{List}
@@ -9,16 +9,16 @@ use lib.ListN.{length}
 use Rattle.integers.specs.Numbers.{Within}
 use Rattle.integers.proofs.Parts.{≤_out}
 use Rattle.integers.proofs.Machine.{fits_within}
+use Rattle.tables.specs.Elements.{bytes_whole}
 use Rattle.tables.specs.Ranges.{entry_range}
 use Rattle.tables.specs.Checks.{order_of}
 use Rattle.tables.specs.Refusals.{refusal_number}
 use Rattle.tables.proofs.Answers.{refusal_positive}
 use Rattle.tables.proofs.Admission.{order_small}
-use Rattle.stiffness.specs.Bracket.{Bracketing, between, at_most, refused, bracketing, written, bracket_code, Meaning}
-use Rattle.stiffness.proofs.Fitting.{Fitting, bracketing_fitting}
-use Rattle.stiffness.proofs.Meanings.{bracketing-means}
+use Rattle.stiffness.specs.Bracket.{Bracketing, between, at_most, refused, bracketing, bracket_code, Meaning}
+use Rattle.stiffness.proofs.Fitting.{Fitting, bracketing_fitting, act-means}
 use Rattle.buffers.specs.Buffers.{table_of, vector_of, number_of, bytes_of_number}
-use Rattle.buffers.proofs.Stores.{read-numbers, read_number}
+use Rattle.buffers.proofs.Stores.{read_number}
 use Rattle.stiffness_buffers.specs.StiffnessBuffers.{stiffness_buffers, stored_stiffness}
 use Rattle.hankboulder.specs.Entries.{stiffness_stored, stiffness_entry}
 use Rattle.hankboulder.specs.Meanings.{StiffnessMeaning}
@@ -33,29 +33,27 @@ module _ (n : ℤ) (l u s b y : List ℕ) where
 
   -- what an answer means, by its number and by the numbers in the buffers
   coded : (g : Bracketing) → Fitting k g →
-      (let j = written g (vector_of k y) in Meaning n (table_of k l) (table_of k u) j.stiffness j.vector) →
+      (let j = stored_stiffness k g s b y in Meaning n (table_of k l) (table_of k u) j.stiffness (vector_of k j.vector)) →
       (let j = stored_stiffness k g s b y in StiffnessMeaning n l u (bracket_code j.stiffness) j.step j.bound j.vector)
   coded (between t v x) z m =
       let step = back t z.0 in
       let bound = back v z.1 in
-      let vector = read-numbers x z.2.size z.2.small (omega arith) in
       record {
         nonneg = λ e. rw step (m.nonneg t refl);
         stiffer = λ e. rw step (m.stiffer t refl);
         ordered = λ e. rw (step, bound) (m.ordered t v refl refl);
-        from_list = λ e. rw vector (m.from_list v refl);
-        witness = λ e. rw (bound, vector) (m.witness v refl);
+        from_list = λ e. m.from_list v refl;
+        witness = λ e. rw bound (m.witness v refl);
         least = λ e. rw bound (m.least v refl);
       }
   coded (at_most v x) z m =
       let bound = back v z.0 in
-      let vector = read-numbers x z.1.size z.1.small (omega arith) in
       record {
         nonneg = λ e. absurd (false≢true cc);
         stiffer = λ e. absurd (false≢true cc);
         ordered = λ e. absurd (false≢true cc);
-        from_list = λ e. rw vector (m.from_list v refl);
-        witness = λ e. rw (bound, vector) (m.witness v refl);
+        from_list = λ e. m.from_list v refl;
+        witness = λ e. rw bound (m.witness v refl);
         least = λ e. rw bound (m.least v refl);
       }
   coded (refused r) z m =
@@ -76,4 +74,4 @@ module _ (n : ℤ) (l u s b y : List ℕ) where
   unfolding stiffness_entry stiffness_stored
   stiffness_means =
       coded (bracketing n sized (table_of k l) (table_of k u)) (bracketing_fitting n sized (table_of k l) (table_of k u))
-      (bracketing-means n sized (table_of k l) (table_of k u) (vector_of k y))
+      (act-means n sized (table_of k l) (table_of k u) bytes_whole y)
