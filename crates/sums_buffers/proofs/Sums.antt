@@ -6,7 +6,7 @@ use Prim.Native.Nat.{ℕ, ◌*◌, ◌≤◌}
 use native.Mathlib.Omega.{arith}
 use lib.Dec.{eqb}
 use lib.IntN.{ℤ, pos, ◌+ℤ◌}
-use lib.ListN.{get_or-append}
+use lib.ListN.{length, get_or-append, length-append}
 use borrow.Author.Tests.{eqb-true}
 use mir.Syntax.{w64}
 use mir.Val.{bytes}
@@ -23,13 +23,14 @@ use Rattle.tables.proofs.Matrix.{table_fits}
 use Rattle.tables.proofs.Admission.{over-padded, checks-padded, range_same, crossed_same}
 use Rattle.tables.proofs.Problems.{constraint_sizes-of}
 use Rattle.sums.specs.Sums.{sums_checks}
-use Rattle.sums.specs.Required.{front}
-use Rattle.sums.proofs.Fronts.{front_is}
+use Rattle.sums.specs.Lent.{Lent}
+use Rattle.sums.specs.Required.{front, Sums}
+use Rattle.sums.proofs.Fronts.{front_is, constraint_by}
 use Rattle.std.specs.Prelude.{Result, Ok, Err}
 use Rattle.tables.specs.declared.Refusal.{Refusal}
 use Rattle.rides.specs.Reading.{limits_in, checked_reading}
-use Rattle.buffers.specs.Buffers.{table_of, vector_of, Terms}
-use Rattle.sums_buffers.specs.SumsBuffers.{read_buffers}
+use Rattle.buffers.specs.Buffers.{table_of, vector_of, number_of, Terms}
+use Rattle.sums_buffers.specs.SumsBuffers.{spelled_sums, read_buffers}
 
 -- k numbers that were loaded to the front of an array
 pub loaded-front : (s : List ℕ) (k : ℕ) (t : List ℤ) → front k (numbers_of w64 s k ++ t) ≡ numbers_of w64 s k
@@ -37,6 +38,26 @@ loaded-front s k t =
     let y = numbers_of w64 s k in
     let e = length-numbers_of w64 s k in
     front_is k (y ++ t) y e (λ i h. get_or-append y t (pos 0) i (omega (arith, e, h)))
+
+room : (s : List ℕ) (k : ℕ) (t : List ℤ) {x : List ℤ} → x ≡ numbers_of w64 s k ++ t → k ≤ length x
+room s k t e = rw (e, length-append, length-numbers_of) (omega arith)
+
+-- sums that were loaded to the front of lists
+pub loaded-sums : (n : ℕ) (s : Lent (List ℕ)) (x y z w : List ℤ) {l u a b : List ℤ} {α : ℤ} →
+    l ≡ numbers_of w64 s.low (n * n) ++ x → u ≡ numbers_of w64 s.high (n * n) ++ y →
+    a ≡ numbers_of w64 s.from n ++ z → b ≡ numbers_of w64 s.to n ++ w → α ≡ number_of s.limit → Sums (spelled_sums n s) n l u a b α
+loaded-sums n s x y z w h k p q e =
+    record {
+      sums =
+          constraint_by (ap (front (n * n)) h ∙ loaded-front s.low (n * n) _) (ap (front (n * n)) k ∙ loaded-front s.high (n * n) _)
+          (ap (front n) p ∙ loaded-front s.from n _) (ap (front n) q ∙ loaded-front s.to n _) e;
+      rooms = record {
+        low = room s.low (n * n) x h;
+        high = room s.high (n * n) y k;
+        linear_low = room s.from n z p;
+        linear_high = room s.to n w q;
+      };
+    }
 
 -- where check 2 of reading passes each buffer has its size
 pub read-sizes-of : (n : ℕ) (b : Lengths) (s : ℕ) → read_buffers n b s ≡ true →

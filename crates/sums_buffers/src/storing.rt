@@ -10,9 +10,7 @@ ghost use Rattle.sums_buffers.specs.SumsBuffers.{SumsBytes, spelled_sums};
 use sums::running::SumsMut;
 use words::{SIZE, load_numbers, load_signed, store_numbers, store_signed};
 
-// Running sums of the order of `out` that five buffers spell, to where sums of that order stand. It is inlined, so that its loops are
-// compiled with the sizes of an order that is known.
-#[inline]
+// Running sums of the order of `out` that five buffers spell, to where sums of that order stand.
 pub fn load_sums(low: &[u8], high: &[u8], from: &[u8], to: &[u8], limit: &[u8], out: &mut SumsMut)
     requires { Roomy out.old × SumsBytes out.old.order low.now high.now from.now to.now × (length limit.now ≡ bytes w64) }
     ensures place { SamePlace out.old out.new }

@@ -93,10 +93,10 @@ summed : (c : After-add_checked) → (let a = c.args in sizes a.m a.n (lent a.lo
     o.from.now o.to.now o.limit
 summed c e =
     let a = c.args in
-    let first = c.load_sums.ensures.place.order in
+    let first = c.load_sample.ensures.place.order in
     let order = c.add_checked.ensures.place.order ∙ first in
     states a.m a.n (lent a.low.now a.high.now a.from.now a.to.now a.limit.now) e (order-passed c.ranges.n c.in_ok-order.ensures).1
-    (rw first at c.load_sums.ensures.sums.sums) (rw (order, first) at c.add_checked.ensures.sums)
+    (rw first at c.load_sample.ensures.sums.sums) (rw (order, first) at c.add_checked.ensures.sums)
 
 pub returns-in_err-order : goal.returns-in_err-order
 returns-in_err-order c =
@@ -114,9 +114,10 @@ returns-then-not-sums_sized c =
     (λ e. absurd (omega (arith, order-positive _ (order-passed c.ranges.n c.in_ok-order.ensures).1, e)))
     (sym sized ∙ c.if-not-sums_sized.true))
 
-pub load_sums-requires : goal.load_sums-requires
-load_sums-requires c =
-    let e = passed (goal.at.load_sums-requires c).Else-not-sums_sized in (
+pub load_sample-requires : goal.load_sample-requires
+load_sample-requires c =
+    let e = passed (goal.at.load_sample-requires c).Else-not-sums_sized in (
+      refl,
       (omega arith, arrays_rooms (record { low = refl; high = refl; linear_low = refl; linear_high = refl })),
       lying c.args.m _ _ e,
       (lengths c.args.m _ _ e).limit,
@@ -124,14 +125,14 @@ load_sums-requires c =
 
 pub add_checked-requires : goal.add_checked-requires
 add_checked-requires c =
-    let w = c.load_sums.ensures in
+    let w = c.load_sample.ensures in
     (c.requires, w.place.order, (omega (arith, w.place.order), w.sums.rooms))
 
 pub store_sums-requires : goal.store_sums-requires
 store_sums-requires c =
     let p = goal.at.store_sums-requires c in
     let e = passed p.Else-not-sums_sized in
-    rw (c.add_checked.ensures.place.order ∙ c.load_sums.ensures.place.order)
+    rw (c.add_checked.ensures.place.order ∙ c.load_sample.ensures.place.order)
     ((omega arith, (summed p.After-add_checked e).rooms), lying c.args.m _ _ e, (lengths c.args.m _ _ e).limit)
 
 pub returns-in_err-add_checked : goal.returns-in_err-add_checked
@@ -150,7 +151,7 @@ returns c =
     let q = c.store_sums.ensures in
     let a = c.args in
     let b = lent a.low.now a.high.now a.from.now a.to.now a.limit.now in
-    let order = c.add_checked.ensures.place.order ∙ c.load_sums.ensures.place.order in
+    let order = c.add_checked.ensures.place.order ∙ c.load_sample.ensures.place.order in
     laid-taken (λ t. bytes_of w64 t (factor_count * factor_count)) (λ x. bytes_of w64 x factor_count) bytes_of_number b
     (rw c.in_ok-add_checked.was at (summed p.After-add_checked e)) (rw order at q.low) (rw order at q.high) (rw order at q.from)
     (rw order at q.to)
