@@ -22,7 +22,7 @@ use Rattle.fields.specs.Layouts.{part_of, start_of, length_of, seen, unseen, pla
 use Rattle.fields.specs.Entries.{entry_bytes, bytes_of_entries, whole_file}
 use Rattle.summary.specs.Problems as file
 use Rattle.summary.specs.Problems.{all_present, lengths_ok, field_checks, file_of, reading_of, read_in, read_walked, reading}
-use Rattle.writer.specs.Writing.{Written, kept, writing, write_sizes}
+use Rattle.writer.specs.Writing.{Written, kept, writing, write_sizes, write_act}
 use Rattle.file_buffers.specs.Parts.{Parts, parts, Handed, roomy, parts_of, handed, read_summary}
 use Rattle.file_buffers.specs.Filing.{write_summary}
 
@@ -146,7 +146,7 @@ written_as_worked_out :
       file = file_p 4 0xf8;
     } ∷ refused_by Order 62 ∷ refused_by Length 61 ∷ refused_by Crossed 62 ∷ refused_by Reversed 62
     ∷ record { answer = Ok tt; file = file_two 1 1 2 2 } ∷ refused_by Lopsided 110 ∷ []
-unfolding write_summary writing write_sizes constraint_sized sizes_ok constraint_entered entered after first_refusal entry_checks
+unfolding write_summary write_act writing write_sizes constraint_sized sizes_ok constraint_entered entered after first_refusal entry_checks
     bounds_checks ends_checks
     all order_ok order_of within all_within nowhere_crossed tables_within linear_within terms_within mended_by table tabulate at min_ℤ max_ℤ
     file_of whole_file bytes_of_entries entry_bytes bytes_of to_le_bytes unsigned_at from_le_bytes signed_at numbers_of padded_numbers_of

@@ -22,6 +22,7 @@ use Rattle.tables.specs.Mending.{mended_by}
 use Rattle.tables.specs.Problem.{problem_of, lengths_of, problem_checks, mended_problem}
 use Rattle.tables.specs.declared.Refusal.TheVariants.{Range}
 use Rattle.std.specs.Prelude.{Ok, Err}
+use Rattle.tables.specs.declared.problem.Lengths.{Lengths}
 use Rattle.tables.specs.declared.problem.Problem.{Problem}
 use Rattle.tables.proofs.Matrix.{table_fits}
 use Rattle.tables.proofs.Checks.{more-checks, order-of}
@@ -34,11 +35,11 @@ use Rattle.summary.proofs.MendedProblems.{nth-padded_to, padded-mended, mended-t
 use Rattle.summary.proofs.Spelled.{padded-numbers}
 use Rattle.summary.proofs.RoundTrip.{InFields, bytes_ext, read_back}
 use Rattle.summary.proofs.Padding.{Sized, spelled-padded}
-use Rattle.writer.specs.Writing.{Written, kept, written, checked_writing, writing}
-use Rattle.writer.proofs.Acting.{write-sizes-of, writing-sized, writing-padded, same_refusal, too_large_lem}
+use Rattle.writer.specs.Writing.{Written, kept, written, writing, write_sizes, write_act}
+use Rattle.writer.proofs.Acting.{write-sizes-of, writing-arrays, same_refusal, too_large_lem}
 use Rattle.buffers.specs.Buffers.{table_of, vector_of, bytes_of_number}
 use Rattle.file_buffers.specs.Parts.{parts_of, in_front, spelled}
-use Rattle.file_buffers.specs.Filing.{write_buffers, write_summary, filled, laid_out}
+use Rattle.file_buffers.specs.Filing.{write_summary, filled, laid_out}
 use Rattle.file_buffers.proofs.Handing.{parts_by}
 
 -- ---- writing, of any problem of the order of n
@@ -78,7 +79,7 @@ module _ (n : ℤ) (sized : Bool) (p : Problem) (s : List ℕ) (e : p.constraint
 
 -- ---- the problem that buffers spell
 module _ (n : ℕ) (l u a b : List ℕ) (α : ℤ) (c : List ℕ) where
-  pub spelled_rooms : n ≤ greatest_order → ProblemRooms (spelled n l u a b α c)
+  spelled_rooms : n ≤ greatest_order → ProblemRooms (spelled n l u a b α c)
   spelled_rooms h =
       record {
         order = h;
@@ -160,6 +161,10 @@ order_pos : (n : ℤ) → pos 1 ≤ℤ n → pos (nat_abs n) ≡ n
 order_pos (pos m) h = refl
 order_pos (negsuc m) h = absurd h.le
 
+-- 2: each buffer has 8 bytes for each of its numbers, and the file's has exactly the size of the file
+abbrev pub write_buffers : ℕ → Lengths → ℕ → ℕ → Bool
+write_buffers n = write_sizes n (record { table = n * n * bytes w64; vector = n * bytes w64 })
+
 -- what is written, of buffers of bytes
 module _ (n : ℤ) (l u a b : List ℕ) (α : ℤ) (c s : List ℕ) where
   abbrev k : ℕ
@@ -171,18 +176,27 @@ module _ (n : ℤ) (l u a b : List ℕ) (α : ℤ) (c s : List ℕ) where
   abbrev sized : Bool
   sized = write_buffers k (lengths_of (length l) (length u) (length a) (length b)) (length c) (length s)
 
+  -- it is the writing of the problem of the lists of numbers, and so of the same in arrays
+  as-listed : write_summary n l u a b α c s ≡ writing n sized (listed k l u a b α c) s
+  unfolding write_summary write_act
+  as-listed = refl
+
+  pub as-spelled : write_summary n l u a b α c s ≡ writing n sized problem s
+  as-spelled =
+      as-listed ∙ sym (writing-arrays n sized (listed k l u a b α c) s refl (listed-sized k l u a b α c))
+      ∙ ap (λ (p : Problem). writing n sized p s) (sym (spelled-listed k l u a b α c))
+
   module _ (h : (write_summary n l u a b α c s).answer ≡ Ok tt) where
     wrote : Wrote n sized problem s refl
-    unfolding write_summary
-    wrote = writing_wrote n _ problem s refl h
+    wrote = writing_wrote n _ problem s refl (ap (λ (w : Written). w.answer) (sym as-spelled) ∙ h)
 
     through : LetThrough (mended_problem problem)
     through = spelled-through k l u a b α c (rw (order-known n wrote.order, order_pos n (order-of wrote.order).0) wrote.order) wrote.checks
 
     -- it is read back, mended
     pub written_read : reading (write_summary n l u a b α c s).file ≡ Ok (mended_problem problem)
-    unfolding write_summary
-    written_read = ap reading wrote.file ∙ read_back (mended_problem problem) through
+    written_read =
+        ap reading (ap (λ (w : Written). w.file) as-spelled ∙ wrote.file) ∙ read_back (mended_problem problem) through
 
     pub written-laid : AllBytes a → AllBytes b → AllBytes c → parts_of (mended_problem problem) ≡ laid_out n l u a b α c
     unfolding parts_of
@@ -195,12 +209,6 @@ module _ (n : ℤ) (l u a b : List ℕ) (α : ℤ) (c s : List ℕ) where
 
   -- ---- R24.5: where n is an order and the buffers have their sizes, the problem is refused by the number that its file would get
   module _ (o : order_ok n ≡ true) (z : sized ≡ true) where
-    as-listed : write_summary n l u a b α c s ≡ writing n sized (listed k l u a b α c) s
-    unfolding write_summary
-    as-listed =
-        sym (writing-sized n sized problem s o z refl) ∙ ap (λ (p : Problem). checked_writing p s) (spelled-listed k l u a b α c)
-        ∙ writing-padded (listed k l u a b α c) s (listed-sized k l u a b α c) ∙ writing-sized n sized (listed k l u a b α c) s o z refl
-
     pub refused_as_file : InFields (listed k l u a b α c) →
         (write_summary n l u a b α c s).answer ≡ checked_of (reading (file_of (listed k l u a b α c)))
     refused_as_file f =

@@ -22,9 +22,9 @@ use Rattle.summary.specs.Problems.{file_size, file_of, LetThrough}
 use Rattle.writer.specs.Writing.{write_sizes}
 use Rattle.buffers.specs.Buffers.{number_of}
 use Rattle.file_buffers.specs.Parts.{parts_of, in_front, spelled, order_in}
-use Rattle.file_buffers.specs.Filing.{write_buffers, write_summary, front}
+use Rattle.file_buffers.specs.Filing.{write_summary, front}
 use Rattle.file_buffers.proofs.Back.{parts-order, problem-spelled}
-use Rattle.file_buffers.proofs.Filed.{writing-passed}
+use Rattle.file_buffers.proofs.Filed.{write_buffers, writing-passed, as-spelled}
 
 -- the front of a buffer has the bytes of the numbers
 front_bytes : (room k : ℕ) (x : List ℤ) → front k (in_front room k x) ≡ bytes_of w64 x k
@@ -77,9 +77,9 @@ module _ (problem : Problem) (t : LetThrough problem) (f : List ℕ) (h : length
       (length-bytes_of w64 _ _) (length-bytes_of w64 _ _) h
 
   writes : write_summary (pos order) low high from to limit centre f ≡ record { answer = Ok tt; file = file_of problem }
-  unfolding write_summary
   writes =
-      rw (known, spelled_again)
+      as-spelled (pos order) low high from to limit centre f
+      ∙ rw (known, spelled_again)
       (writing-passed (pos order) _ problem f (sym known) t.order sizes t.checks
       ∙ ap (λ (p : Problem). record { answer = Ok tt; file = file_of p }) t.mended)
 

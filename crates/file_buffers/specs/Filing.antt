@@ -1,27 +1,18 @@
 -- R15 and R24 of docs/RULES.md: the problem that buffers of bytes spell, mended (R2.10) and written as a summary file.
-use Rattle.std.specs.Prelude.{Bool, List, ◌++◌, ℕ, ◌-◌, ◌*◌, ℤ, length, take, replicate}
+use Rattle.std.specs.Prelude.{List, ◌++◌, ℕ, ◌-◌, ◌*◌, ℤ, length, take, replicate}
 use Rattle.std.specs.Int.{w64}
 use mir.Val.{bytes}
-use Rattle.words.specs.Numbers.{bytes_of}
+use Rattle.words.specs.Numbers.{numbers_of, bytes_of}
 use Rattle.tables.specs.Ranges.{greatest_order, table_room}
 use Rattle.tables.specs.Mending.{mended_low, mended_high}
 use Rattle.tables.specs.Checks.{order_of}
-use Rattle.tables.specs.Problem.{lengths_of}
-use Rattle.tables.specs.declared.problem.Lengths.{Lengths}
-use Rattle.writer.specs.Writing.{Written, write_sizes, writing}
+use Rattle.writer.specs.Writing.{Written, write_act}
 use Rattle.buffers.specs.Buffers.{table_of, bytes_of_number}
-use Rattle.file_buffers.specs.Parts.{Parts, parts, spelled}
+use Rattle.file_buffers.specs.Parts.{Parts, parts}
 
--- 2: each buffer has 8 bytes for each of its numbers, and the file's has exactly the size of the file
-abbrev pub write_buffers : ℕ → Lengths → ℕ → ℕ → Bool
-write_buffers n = write_sizes n (record { table = n * n * bytes w64; vector = n * bytes w64 })
-
--- checks 1 to 5 and 16 of the problem that the buffers spell, and the file of the mended one into the buffer s
+-- the writer's act, of the numbers that the buffers spell, into the buffer s
 unfoldable pub write_summary : ℤ → List ℕ → List ℕ → List ℕ → List ℕ → ℤ → List ℕ → List ℕ → Written
-write_summary n l u a b α c s =
-    let k : ℕ = order_of n in
-    let lengths : Lengths = lengths_of (length l) (length u) (length a) (length b) in
-    writing n (write_buffers k lengths (length c) (length s)) (spelled k l u a b α c) s
+write_summary n l u a b α c s = write_act (λ k. k * bytes w64) (numbers_of w64) n l u a b α c s
 
 -- ---- between the two ways
 -- the first k numbers of a buffer

@@ -1,5 +1,5 @@
 -- R15, R17 and R25 of docs/RULES.md: the problem of a summary file, mended (R2.10), in seven buffers of bytes, 8 bytes for each number.
-use Rattle.std.specs.Prelude.{◌≡◌, Bool, true, false, ◌&&◌, List, ◌++◌, ℕ, ◌-◌, ◌*◌, ◌≤◌, eqb, ℤ, pos, length, replicate, Ok, Err}
+use Rattle.std.specs.Prelude.{◌≡◌, Bool, true, false, ◌&&◌, List, ◌++◌, ℕ, ◌-◌, ◌*◌, eqb, ℤ, pos, length, replicate, Ok, Err}
 use Rattle.std.specs.Int.{w64}
 use mir.Val.{bytes}
 use Rattle.words.specs.Numbers.{padded_numbers_of, bytes_of}
@@ -94,12 +94,3 @@ problem_in b = spelled (order_in b) b.low b.high b.from b.to (number_of b.limit)
 pub record Numbers (m : ℕ) (x : List ℤ) (s : List ℕ) : Type 0 where
   pub count : length x ≡ m
   pub size : length s ≡ m * bytes w64
-
--- buffers with the numbers that an order n calls for
-pub record Lengthy (n : ℕ) (l u a b c : List ℕ) : Type 0 where
-  pub order : n ≤ greatest_order
-  pub low : n * n * bytes w64 ≤ length l
-  pub high : n * n * bytes w64 ≤ length u
-  pub from : n * bytes w64 ≤ length a
-  pub to : n * bytes w64 ≤ length b
-  pub centre : n * bytes w64 ≤ length c

@@ -23,14 +23,5 @@ pub extern "C" fn hb_write_summary(
         limit centre.now file.old) }
     ensures meaning { WriteSummaryMeaning n low.now high.now linear_low.now linear_high.now limit centre.now result file.new }
 {
-    answer_code(file_buffers::writing::write_summary(
-        n,
-        low,
-        high,
-        linear_low,
-        linear_high,
-        limit,
-        centre,
-        file,
-    ))
+    answer_code(writer::write::write(n, low, high, linear_low, linear_high, limit, centre, file))
 }

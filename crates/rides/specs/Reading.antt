@@ -1,15 +1,24 @@
 -- R23.4 of docs/RULES.md: reading running sums with an allowance K: the checks, and the limit of the constraint that they give.
-use Rattle.std.specs.Prelude.{◌≡◌, Bool, ◌&&◌, ℕ, ◌^◌, ℤ, pos, ◌+ℤ◌, ◌*ℤ◌, ◌≤ℤ◌, Result, Ok, Err}
+use Rattle.std.specs.Prelude.{◌≡◌, Bool, ◌&&◌, List, ℕ, ◌*◌, ◌^◌, ℤ, pos, ◌+ℤ◌, ◌*ℤ◌, ◌≤ℤ◌, Result, Ok, Err}
 use Rattle.std.specs.Int.Signed.{le_z}
 use Rattle.tables.specs.Ranges.{limit_range}
 use Rattle.tables.specs.Checks.{within, first_refusal}
 use Rattle.tables.specs.Answers.{after, answer_code}
-use Rattle.tables.specs.Problem.{constraint_entered}
+use Rattle.tables.specs.Problem.{constraint_of, constraint_sized, constraint_entered}
 use Rattle.tables.specs.declared.Refusal.{Refusal}
 use Rattle.tables.specs.declared.problem.Constraint.{Constraint}
+use Rattle.tables.specs.declared.problem.Lengths.{Lengths}
 use Rattle.enclosure.specs.Points.{Allowed}
 use Rattle.sums.specs.Sums.{terms_in, sums_checks, allowing}
 use Rattle.sums.specs.Explaining.{Explained}
+
+-- the sums of order n that buffers hold, with a running limit α: `numbers` are those of a buffer
+abbrev pub held_sums : {A : Type 0} → (List A → ℕ → List ℤ) → ℕ → List A → List A → List A → List A → ℤ → Constraint
+held_sums numbers n l u a b α = constraint_of n (numbers l (n * n)) (numbers u (n * n)) (numbers a n) (numbers b n) α
+
+-- 2, R4.2: each lent buffer has the size that belongs to n, where so many numbers take `taken` elements
+abbrev pub reading_sizes : (ℕ → ℕ) → ℕ → Lengths → Bool
+reading_sizes taken n = constraint_sized (record { table = taken (n * n); vector = taken n })
 
 -- K is from 0 to this
 abbrev pub allowance_range : ℕ

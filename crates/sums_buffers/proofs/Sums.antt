@@ -1,36 +1,18 @@
--- Running sums that buffers spell: loaded to the front of arrays, or over zeros, where the checks look at the numbers alone.
-use mathlib.Core.Path.{◌≡◌, refl, ap, ◌∙◌}
-use mathlib.Core.Bool.{Bool, true}
+-- Running sums that buffers spell, loaded to the front of arrays.
+use mathlib.Core.Path.{◌≡◌, ap, ◌∙◌}
 use mathlib.Core.List.{List, ◌++◌}
 use Prim.Native.Nat.{ℕ, ◌*◌, ◌≤◌}
 use native.Mathlib.Omega.{arith}
-use lib.Dec.{eqb}
-use lib.IntN.{ℤ, pos, ◌+ℤ◌}
+use lib.IntN.{ℤ, pos}
 use lib.ListN.{length, get_or-append, length-append}
-use borrow.Author.Tests.{eqb-true}
 use mir.Syntax.{w64}
-use mir.Val.{bytes}
 use Rattle.words.specs.Numbers.{numbers_of}
 use Rattle.words.proofs.Laws.{length-numbers_of}
-use Rattle.tables.specs.Ranges.{greatest_order, linear_range}
-use Rattle.tables.specs.Checks.{Check, linear_within, ends_checks, first_refusal}
-use Rattle.tables.specs.Answers.{after}
-use Rattle.tables.specs.Entering.{Laid}
-use Rattle.tables.specs.Problem.{constraint_of, constraint_sized}
-use Rattle.tables.specs.declared.problem.Lengths.{Lengths}
-use Rattle.tables.proofs.Checks.{and_left, and_right}
-use Rattle.tables.proofs.Matrix.{table_fits}
-use Rattle.tables.proofs.Admission.{over-padded, checks-padded, range_same, crossed_same}
-use Rattle.tables.proofs.Problems.{constraint_sizes-of}
-use Rattle.sums.specs.Sums.{sums_checks}
 use Rattle.sums.specs.Lent.{Lent}
 use Rattle.sums.specs.Required.{front, Sums}
 use Rattle.sums.proofs.Fronts.{front_is, constraint_by}
-use Rattle.std.specs.Prelude.{Result, Ok, Err}
-use Rattle.tables.specs.declared.Refusal.{Refusal}
-use Rattle.rides.specs.Reading.{limits_in, checked_reading}
-use Rattle.buffers.specs.Buffers.{table_of, vector_of, number_of, Terms}
-use Rattle.sums_buffers.specs.SumsBuffers.{spelled_sums, read_buffers}
+use Rattle.buffers.specs.Buffers.{number_of}
+use Rattle.sums_buffers.specs.SumsBuffers.{spelled_sums}
 
 -- k numbers that were loaded to the front of an array
 pub loaded-front : (s : List ℕ) (k : ℕ) (t : List ℤ) → front k (numbers_of w64 s k ++ t) ≡ numbers_of w64 s k
@@ -58,47 +40,3 @@ loaded-sums n s x y z w h k p q e =
         linear_high = room s.to n w q;
       };
     }
-
--- where check 2 of reading passes each buffer has its size
-pub read-sizes-of : (n : ℕ) (b : Lengths) (s : ℕ) → read_buffers n b s ≡ true →
-    (b.bounds.low ≡ n * n * bytes w64) × (b.bounds.high ≡ n * n * bytes w64) × (b.linear.low ≡ n * bytes w64)
-    × (b.linear.high ≡ n * bytes w64) × (s ≡ bytes w64)
-unfolding read_buffers
-read-sizes-of n b s e =
-    let z = constraint_sized (record { table = n * n * bytes w64; vector = n * bytes w64 }) b in
-    let t = constraint_sizes-of _ b (and_left z (eqb s (bytes w64)) e) in
-    (t.0, t.1, t.2, t.3, eqb-true _ _ (and_right z (eqb s (bytes w64)) e))
-
-module _ (n : ℕ) (l u a b : List ℕ) (l' u' x y : List ℤ) (α : ℤ) (h : n ≤ greatest_order)
-    (t : Laid n true (table_of n l) (table_of n u) l' u') (p : Terms n true a x) (q : Terms n true b y) where
-  -- 3, 4, 5 and 16 of the sums that were loaded are those of the sums that the buffers spell
-  pub checks-spelled : (limits : Bool) →
-      sums_checks limits (constraint_of n l' u' x y α) ≡ sums_checks limits
-      (constraint_of n (table_of n l) (table_of n u) (vector_of n a) (vector_of n b) α)
-  unfolding linear_within ends_checks
-  checks-spelled limits =
-      let e = length-numbers_of w64 l (n * n) in
-      let f = length-numbers_of w64 u (n * n) in
-      let v = over-padded {x = table_of n l} e (table_fits h) (t.low refl) in
-      let w = over-padded {x = table_of n u} f (table_fits h) (t.high refl) in
-      rw (
-        checks-padded v w _ n e f,
-        range_same linear_range n (vector_of n a) x (p.numbers refl),
-        range_same linear_range n (vector_of n b) y (q.numbers refl),
-        crossed_same n (vector_of n a) x (vector_of n b) y (p.numbers refl)
-            (q.numbers refl),
-      )
-
-  -- and so they are read
-  pub reading-spelled : (K : ℤ) {m : ℕ} {β K' : ℤ} {r : Result ℤ Refusal} → r ≡ checked_reading K' (constraint_of m l' u' x y β) → m ≡ n →
-      β ≡ α → K' ≡ K →
-      r ≡ checked_reading K (constraint_of n (table_of n l) (table_of n u) (vector_of n a) (vector_of n b) α)
-  unfolding checked_reading
-  reading-spelled K e f g k =
-      (rw (f, g, k) at e) ∙ ap (λ (z : List Check). after Err (first_refusal z) (Ok (K +ℤ α))) (checks-spelled (limits_in K α))
-
--- of equal parts
-pub laid_by : {n m : ℕ} {sized sized' : Bool} (l u : List ℕ) {l' u' : List ℤ} → n ≡ m → sized ≡ sized' →
-    Laid n sized (table_of n l) (table_of n u) l' u' →
-    Laid m sized' (table_of m l) (table_of m u) l' u'
-laid_by l u e f h = rw (← e, ← f) h

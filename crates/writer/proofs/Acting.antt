@@ -72,6 +72,18 @@ writing-padded p s z =
     (padded-checks p z)
     (ap file_of (sym (padded-mending p z)) ∙ padded-file (mended_problem p))
 
+-- the act on both is the same, whatever n is and check 2 finds
+pub writing-arrays : (n : ℤ) (sized : Bool) (p : Problem) (s : List ℕ) → p.constraint.order ≡ order_of n → Sized p →
+    writing n sized (padded p) s ≡ writing n sized p s
+unfolding writing
+writing-arrays n sized p s e z =
+    problem-door (kept s) n sized (padded p) (written (padded p)) e
+    ∙ ap₂ (λ (checks : List Check) (f : List ℕ). after (kept s) (first_refusal (entry_checks n sized ++ checks))
+    (record { answer = Ok tt; file = f }))
+    (padded-checks p z)
+    (ap file_of (sym (padded-mending p z)) ∙ padded-file (mended_problem p))
+    ∙ sym (problem-door (kept s) n sized p (written p) e)
+
 -- ---- what an answer means
 order_ok_lem : (n : ℤ) → order_ok n ≡ true → order_ok (pos (order_of n)) ≡ true
 order_ok_lem (pos k) e = ap (λ (m : ℕ). order_ok (pos m)) (order-known (pos k) e) ∙ e

@@ -22,7 +22,7 @@ use Rattle.summary.specs.Problems.{file_size, file_of, padded, reading, LetThrou
 use Rattle.summary.proofs.OneFile.{accepted-size}
 use Rattle.summary.proofs.RoundTrip.{reading-means}
 use Rattle.summary.proofs.Padding.{Sized, padded-file, padded-checks, padded-mending}
-use Rattle.writer.specs.Writing.{kept, written, checked_writing, write_sizes, write}
+use Rattle.writer.specs.Writing.{kept, written, checked_writing, write_sizes, write_act, write}
 use Rattle.writer.proofs.Acting.{writing-sized}
 
 take_again : (k : ℕ) (x : List ℤ) → k ≤ length x → take k (take k x) ≡ take k x
@@ -113,7 +113,7 @@ module _ (p : Problem) (t : LetThrough p) where
 
     -- they are written as its file, into a buffer of its size
     pub fronts-write : write (pos n) low high from to p.constraint.limit centre s ≡ record { answer = Ok tt; file = file_of p }
-    unfolding write
+    unfolding write write_act
     fronts-write =
         let known : order_of (pos n) ≡ n = order-known (pos n) t.order in
         rw known (sym (writing-sized (pos n) _ fronts s t.order sizes (sym known)) ∙ fronts-written s)

@@ -19,7 +19,7 @@ use Rattle.tables.specs.declared.Refusal.TheVariants.{Order, Length, Range, Cros
 use Rattle.std.specs.Prelude.{Ok}
 use Rattle.fields.specs.Entries.{entry_bytes, bytes_of_entries, whole_file}
 use Rattle.summary.specs.Problems.{file_size, file_of}
-use Rattle.writer.specs.Writing.{Written, kept, writing, write_sizes, write}
+use Rattle.writer.specs.Writing.{Written, kept, writing, write_sizes, write_act, write}
 
 -- ---- a call: n, L, U, both ends of a, α, c, and the size of the buffer, which holds 170 in each byte
 record Call : Type 0 where
@@ -143,7 +143,7 @@ done : Call → Written
 done c = write c.order c.low c.high c.linear_low c.linear_high c.limit c.centre (before c.size)
 
 as_worked_out : map (λ (l : Line). done l.call) lines ≡ map (λ (l : Line). l.expected) lines
-unfolding done write writing write_sizes constraint_sized sizes_ok constraint_entered entered after first_refusal entry_checks
+unfolding done write write_act writing write_sizes constraint_sized sizes_ok constraint_entered entered after first_refusal entry_checks
     bounds_checks ends_checks
     all order_ok order_of within all_within nowhere_crossed tables_within linear_within terms_within mended_by table tabulate at min_ℤ max_ℤ
     file_of whole_file bytes_of_entries entry_bytes bytes_of to_le_bytes

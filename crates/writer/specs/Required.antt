@@ -1,8 +1,9 @@
--- What the functions of the writer put into a buffer: fields, one after the other.
-use Rattle.std.specs.Prelude.{List, [], ◌∷◌, ℕ, ◌+◌, ◌*◌}
+-- What the functions of the writer put into a buffer: fields, one after the other; and what they ask of the buffers of a problem.
+use Rattle.std.specs.Prelude.{List, [], ◌∷◌, ℕ, ◌+◌, ◌*◌, ◌≤◌, length}
 use Rattle.std.specs.Int.{w32, w64}
 use mir.Val.{bytes}
 use Rattle.words.specs.Numbers.{bytes_of}
+use Rattle.tables.specs.Ranges.{greatest_order}
 use Rattle.tables.specs.declared.problem.Problem.{Problem}
 use Rattle.fields.specs.declared.field.Kind.TheVariants as Kind
 use Rattle.fields.specs.Fields.{head}
@@ -32,3 +33,12 @@ terms_entries p =
 
 abbrev pub terms_size : ℕ → ℕ
 terms_size n = 4 * head + bytes w64 + 3 * (n * bytes w64)
+
+-- buffers with the numbers that an order n calls for, where so many numbers take `taken` elements
+pub record Lengthy {A : Type 0} (taken : ℕ → ℕ) (n : ℕ) (l u a b c : List A) : Type 0 where
+  pub order : n ≤ greatest_order
+  pub low : taken (n * n) ≤ length l
+  pub high : taken (n * n) ≤ length u
+  pub from : taken n ≤ length a
+  pub to : taken n ≤ length b
+  pub centre : taken n ≤ length c

@@ -35,13 +35,21 @@ writing n sized p s = constraint_entered (kept s) n sized (problem_within p) p.c
 unfoldable pub write_sizes : ℕ → Sizes → Lengths → ℕ → ℕ → Bool
 write_sizes n z lengths c s = constraint_sized z lengths && (eqb c z.vector && eqb s (file_size n))
 
--- the writer, of anything at all, and a buffer that holds anything
-unfoldable pub write : ℤ → List ℤ → List ℤ → List ℤ → List ℤ → ℤ → List ℤ → List ℕ → Written
-write n l u a b α c s =
+-- the writer, of the numbers that buffers of any length hold, and a file's buffer that holds anything: so many numbers take `taken`
+-- elements, and `numbers` are those of a buffer
+unfoldable pub write_act : {A : Type 0} → (ℕ → ℕ) → (List A → ℕ → List ℤ) → ℤ →
+    List A → List A → List A → List A → ℤ → List A → List ℕ → Written
+write_act taken numbers n l u a b α c s =
     let k : ℕ = order_of n in
-    let z : Sizes = record { table = k * k; vector = k } in
+    let z : Sizes = record { table = taken (k * k); vector = taken k } in
     let lengths : Lengths = lengths_of (length l) (length u) (length a) (length b) in
-    writing n (write_sizes k z lengths (length c) (length s)) (problem_of k l u a b α c) s
+    writing n (write_sizes k z lengths (length c) (length s))
+    (problem_of k (numbers l (k * k)) (numbers u (k * k)) (numbers a k) (numbers b k) α (numbers c k))
+    s
+
+-- of numbers themselves
+unfoldable pub write : ℤ → List ℤ → List ℤ → List ℤ → List ℤ → ℤ → List ℤ → List ℕ → Written
+write n l u a b α c s = write_act (λ k. k) (λ x k. x) n l u a b α c s
 
 -- ---- what an answer means of a problem p; s is the buffer as it is left
 pub record Meaning (r : Checked) (p : Problem) (s : List ℕ) : Type 0 where

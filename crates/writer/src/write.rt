@@ -4,14 +4,16 @@ ghost use Rattle.tables.specs.Ranges.{greatest_order, table_room};
 ghost use Rattle.tables.specs.Checks.{order_of};
 ghost use Rattle.tables.specs.Problem.{problem_of};
 ghost use Rattle.summary.specs.Problems.{file_size, padded_to, padded, ProblemRooms};
-ghost use Rattle.writer.specs.Writing.{Written, checked_writing, write_sizes, write, Meaning};
+ghost use Rattle.writer.specs.Required.{Lengthy};
+ghost use Rattle.writer.specs.Writing.{Written, checked_writing, write_sizes, write_act, Meaning};
 
 use crate::storing::write_file;
 use fields::field::{HEAD, KINDS};
 use summary::problem::mend_problem;
+use tables::elements::Element;
 use tables::entering::order;
 use tables::problem::{Constraint, Lengths, Linear, Problem, Sizes, constraint_sized, lengths_of};
-use tables::{GREATEST_ORDER, Refusal, TABLE_ROOM, Table, Vector, copy_numbers};
+use tables::{GREATEST_ORDER, Refusal, TABLE_ROOM, Table, Vector};
 use words::{SHORT_SIZE, SIZE};
 
 // The size of the file of a problem of order n: the fields' heads, one byte of order, two tables, three vectors and the limit.
@@ -33,46 +35,45 @@ pub fn write_sized(n: usize, sizes: Sizes, lengths: Lengths, centre: usize, file
     constraint_sized(sizes, lengths) && (centre == vector && file == size)
 }
 
-// The first numbers of x, count of them, as a table, and zeros.
+// The first numbers of a buffer, count of them, as a table, and zeros.
 #[tactic(auto, using(summary::proofs::Padding::over_zeros))]
-fn table_of(x: &[i64], count: usize) -> Table
-    requires { (count ≤ length x.now) × (count ≤ table_room) }
-    ensures { result ≡ padded_to table_room count x.now }
+fn table_of<E: Element>(from: &[E], count: usize) -> Table
+    requires { (E.taken count ≤ length from.now) × (count ≤ table_room) }
+    ensures { result ≡ padded_to table_room count (E.numbers from.now count) }
 {
     let mut t = [0i64; TABLE_ROOM];
-    copy_numbers(count, x, &mut t);
+    E::load(from, count, &mut t);
     t
 }
 
 // The same as a vector.
 #[tactic(auto, using(summary::proofs::Padding::over_zeros))]
-fn vector_of(x: &[i64], count: usize) -> Vector
-    requires { (count ≤ length x.now) × (count ≤ greatest_order) }
-    ensures { result ≡ padded_to greatest_order count x.now }
+fn vector_of<E: Element>(from: &[E], count: usize) -> Vector
+    requires { (E.taken count ≤ length from.now) × (count ≤ greatest_order) }
+    ensures { result ≡ padded_to greatest_order count (E.numbers from.now count) }
 {
     let mut v = [0i64; GREATEST_ORDER];
-    copy_numbers(count, x, &mut v);
+    E::load(from, count, &mut v);
     v
 }
 
-// The problem of these numbers.
-fn problem_of(
+// The problem of order n that five buffers and the limit hold.
+fn problem_of<E: Element>(
     n: usize,
-    low: &[i64],
-    high: &[i64],
-    linear_low: &[i64],
-    linear_high: &[i64],
+    low: &[E],
+    high: &[E],
+    from: &[E],
+    to: &[E],
     limit: i64,
-    centre: &[i64],
+    centre: &[E],
 ) -> Problem
-    requires { (n ≤ greatest_order) × (n * n ≤ length low.now) × (n * n ≤ length high.now)
-        × (n ≤ length linear_low.now) × (n ≤ length linear_high.now) × (n ≤ length centre.now) }
-    ensures { result ≡ padded (problem_of n low.now high.now linear_low.now
-        linear_high.now limit centre.now) }
+    requires { Lengthy E.taken n low.now high.now from.now to.now centre.now }
+    ensures { result ≡ padded (problem_of n (E.numbers low.now (n * n)) (E.numbers high.now (n * n)) (E.numbers from.now n)
+        (E.numbers to.now n) limit (E.numbers centre.now n)) }
 {
     let linear = Linear {
-        low: vector_of(linear_low, n),
-        high: vector_of(linear_high, n),
+        low: vector_of(from, n),
+        high: vector_of(to, n),
     };
     let constraint = Constraint {
         order: n,
@@ -98,31 +99,34 @@ pub fn write_checked(mut problem: Problem, file: &mut [u8]) -> Result<(), Refusa
     Ok(())
 }
 
-// The summary file of a problem of any numbers at all: n is an order or not, and each slice has any length. Refused by the first of the
-// checks 1 to 5 and 16 that fails, with the buffer kept; else the file of the mended problem is written.
-pub fn write(
+// The summary file of a problem of any numbers at all, in buffers of numbers or of bytes: n is an order or not, and each buffer has any
+// length. The linear terms lie between those of from and to. Refused by the first of the checks 1 to 5 and 16 that fails, with the file's
+// buffer kept; else the file of the mended problem is written.
+pub fn write<E: Element>(
     n: i64,
-    low: &[i64],
-    high: &[i64],
-    linear_low: &[i64],
-    linear_high: &[i64],
+    low: &[E],
+    high: &[E],
+    from: &[E],
+    to: &[E],
     limit: i64,
-    centre: &[i64],
+    centre: &[E],
     file: &mut [u8],
 ) -> Result<(), Refusal>
     ensures exact { ◌≡◌ {A = Written} (record { answer = result; file = file.new })
-        (write n low.now high.now linear_low.now linear_high.now limit centre.now file.old) }
-    ensures meaning { Meaning result (problem_of (order_of n) low.now high.now linear_low.now linear_high.now limit centre.now) file.new }
+        (write_act E.taken E.numbers n low.now high.now from.now to.now limit centre.now file.old) }
+    ensures meaning { let k = order_of n in
+        Meaning result (problem_of k (E.numbers low.now (k * k)) (E.numbers high.now (k * k)) (E.numbers from.now k) (E.numbers to.now k)
+        limit (E.numbers centre.now k)) file.new }
 {
     let m = order(n)?;
     let sizes = Sizes {
-        table: m * m,
-        vector: m,
+        table: E::taken(m * m),
+        vector: E::taken(m),
     };
-    let lengths = lengths_of(low.len(), high.len(), linear_low.len(), linear_high.len());
+    let lengths = lengths_of(low.len(), high.len(), from.len(), to.len());
     if !write_sized(m, sizes, lengths, centre.len(), file.len()) {
         return Err(Refusal::Length);
     }
-    let problem = problem_of(m, low, high, linear_low, linear_high, limit, centre);
+    let problem = problem_of(m, low, high, from, to, limit, centre);
     write_checked(problem, file)
 }
