@@ -19,7 +19,7 @@ use Rattle.buffers.specs.Buffers.{StoredAnswer, stored_over, StoredVerdict, stor
 use Rattle.rides.specs.Reading.{read_sums, reading_code}
 use Rattle.pool.specs.Pool.{Problems}
 use Rattle.sums_buffers.specs.SumsBuffers.{spelled_sums, sums_buffers, stored_sums, read_buffers, ReadOut, stored_limit}
-use Rattle.pool_buffers.specs.PoolBuffers.{spelled_pool}
+use Rattle.hankboulder.specs.PoolBuffers.{spelled_pool}
 use Rattle.writer.specs.Writing.{Written}
 use Rattle.file_buffers.specs.Parts.{Parts, Handed, read_summary}
 use Rattle.file_buffers.specs.Filing.{write_summary}

@@ -1,2 +1,3 @@
+pub mod PoolBuffers
 pub mod Entries
 pub mod Meanings

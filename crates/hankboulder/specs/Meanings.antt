@@ -25,7 +25,7 @@ use Rattle.tables.specs.declared.Refusal.TheVariants.{Full}
 use Rattle.summary.specs.Problems.{file_of, reading, LetThrough, spelled_by, SymmetricTables}
 use Rattle.buffers.specs.Buffers.{table_of, vector_of, sides_of, number_of}
 use Rattle.sums_buffers.specs.SumsBuffers.{spelled_sums}
-use Rattle.pool_buffers.specs.PoolBuffers.{pool_count, spelled_problems}
+use Rattle.hankboulder.specs.PoolBuffers.{pool_count, spelled_problems}
 use Rattle.file_buffers.specs.Parts.{Parts, parts_roomy, spelled, order_in, problem_in}
 use Rattle.file_buffers.specs.Filing.{front, laid_out}
 use Rattle.hankboulder.specs.Entries.{test_factor_entry, test_vector_entry, spelled_with, read_summary_entry, write_summary_entry}

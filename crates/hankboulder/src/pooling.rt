@@ -64,7 +64,7 @@ pub extern "C" fn hb_pool(
       limit = running_limit.new;
     }) result }
 {
-    answer_code(pool_buffers::pooling::pool(
+    answer_code(pool::pool::pool(
         n,
         low,
         high,

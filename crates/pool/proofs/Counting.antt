@@ -32,7 +32,7 @@ use Rattle.sums.specs.Sums.{Outcome}
 use Rattle.sums.specs.Lent.{Lent}
 use Rattle.pool.specs.Pool.{greatest_pool, count_of, Problems, orders_ok, orders_same, checked_pool, pool_entry_checks, pooling}
 use Rattle.pool.specs.Act.{pool_sized, sums_lengths, problems_lengths}
-use Rattle.pool.specs.Required.{counted, Sized, LentSums}
+use Rattle.pool.specs.Required.{counted, Sized, Reach, LentSums}
 
 -- ---- how many problems there are
 module _ (unit size : ℕ) where
@@ -185,31 +185,25 @@ pool-sizes-of unit n m b α q αs e =
       limits = eqb-true αs (m * unit) (and_right (constraint_sized all q) _ e₂);
     }
 
--- of lists of numbers
-module _ (n m : ℕ) (b : Lent (List ℤ)) (q : Problems (List ℤ))
-    (e : pool_sized 1 n m (sums_lengths b) (length b.limit) (problems_lengths q) (length q.limits) ≡ true) where
-  sizes : PoolSizes 1 n m (sums_lengths b) (length b.limit) (problems_lengths q) (length q.limits)
-  sizes = pool-sizes-of 1 n m (sums_lengths b) (length b.limit) (problems_lengths q) (length q.limits) e
+-- of the buffers themselves
+module _ {A : Type 0} (unit n m : ℕ) (b : Lent (List A)) (q : Problems (List A))
+    (e : pool_sized unit n m (sums_lengths b) (length b.limit) (problems_lengths q) (length q.limits) ≡ true) where
+  sizes : PoolSizes unit n m (sums_lengths b) (length b.limit) (problems_lengths q) (length q.limits)
+  sizes = pool-sizes-of unit n m (sums_lengths b) (length b.limit) (problems_lengths q) (length q.limits) e
 
-  pub pool-lists : Sized n m q
-  pool-lists =
-      let z = sizes in
-      record {
-        lows = omega (arith, z.lows);
-        highs = omega (arith, z.highs);
-        froms = omega (arith, z.froms);
-        tos = omega (arith, z.tos);
-        limits = omega (arith, z.limits);
-      }
+  pub pool-lists : Sized unit n m q
+  pool-lists = let z = sizes in record { lows = z.lows; highs = z.highs; froms = z.froms; tos = z.tos; limits = z.limits }
 
-  pub pool-lent : LentSums n b
-  pool-lent =
-      let z = sizes in
-      record {
-        low = omega (arith, z.low);
-        high = omega (arith, z.high);
-        from = omega (arith, z.from);
-        to = omega
-            (arith, z.to);
-        limit = z.limit;
-      }
+  pub pool-lent : LentSums unit n b
+  pool-lent = let z = sizes in record { low = z.low; high = z.high; from = z.from; to = z.to; limit = z.limit }
+
+-- room for each of the problems
+pub reached : {A : Type 0} {unit n m k : ℕ} {q : Problems (List A)} → Sized unit n m q → k < m → Reach unit n k q
+reached {unit = unit} {n = n} {m = m} {k = k} z h =
+    record {
+      lows = rw z.lows (mul-le-mul_right unit (part_inside (n * n) h));
+      highs = rw z.highs (mul-le-mul_right unit (part_inside (n * n) h));
+      froms = rw z.froms (mul-le-mul_right unit (part_inside n h));
+      tos = rw z.tos (mul-le-mul_right unit (part_inside n h));
+      limits = rw z.limits (mul-le-mul_right unit (omega (arith, h)));
+    }

@@ -17,7 +17,7 @@ use Rattle.sums.specs.Halving.{halved, added_in, fitted}
 use Rattle.sums.specs.Lent.{Lent}
 use Rattle.std.specs.Prelude.{Ok, Err}
 use Rattle.pool.specs.Pool.{count_of, Problems, orders_ok, orders_same, of_both, pool_checks, added_next, pooled, checked_pool, pooling}
-use Rattle.pool.specs.Act.{pool_sized, pool}
+use Rattle.pool.specs.Act.{pool_sized, pool_act, pool}
 
 -- ---- W61, W62
 abbrev one : ℤ → ℤ → ℤ → ℤ → ℤ → Constraint
@@ -76,7 +76,7 @@ worked :
     × Refuses (pos 1) (pos 1 ∷ pos 2 ∷ []) (pair (pos 0) (pos 0)) (alone (pos 0)) Refused.Length
     × Refuses (pos 1) (tabulate 65 (λ k. pos 9)) (pair (pos 0) (pos 0)) (alone (pos 0)) Refused.Length
     × Refuses (pos 1) ones (problems (pos 2 ∷ pos 1048577 ∷ []) (pos 1 ∷ pos 1048577 ∷ []) zeros zeros zeros) (alone (pos 0)) Refused.Range
-unfolding pool pool_sized pooling checked_pool pooled added_next pool_checks of_both orders_ok orders_same count_of halved added_in fitted plus sums_within
+unfolding pool pool_act pool_sized pooling checked_pool pooled added_next pool_checks of_both orders_ok orders_same count_of halved added_in fitted plus sums_within
     after first_refusal bounds_checks ends_checks constraint_sized sizes_ok order_ok order_of same within all_within linear_within tables_within nowhere_crossed
     mended_by all at table tabulate floor_div ceil_div min_ℤ max_ℤ
 worked = (refl, refl, refl, refl, refl, refl, refl, refl, refl, refl)

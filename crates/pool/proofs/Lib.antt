@@ -4,3 +4,4 @@ pub mod Counting
 pub mod Meanings
 pub mod Going
 pub mod Fronts
+pub mod Whole

@@ -1,7 +1,7 @@
 -- D3.10 of docs/RULES.md: what sums explain at a point that every pooled problem allows, the pool explains; so a point that the sums read
 -- with K allow too
 -- is allowed by the pool read with K, and by the same sums halved.
-use mathlib.Core.Path.{◌≡◌, refl, sym, ap, ◌∙◌, subst}
+use mathlib.Core.Path.{◌≡◌, refl, sym, ◌∙◌, subst}
 use mathlib.Core.Bool.{Bool, false≢true}
 use mathlib.Core.List.{List, [], ◌∷◌}
 use Prim.Native.Nat.{ℕ, ◌<◌}
@@ -12,22 +12,24 @@ use lib.Signed.{◌≤ℤ◌}
 use Rattle.integers.specs.Sum.{sum}
 use Rattle.integers.proofs.Parts.{pos_nonneg}
 use Rattle.integers.proofs.Solver.{ring, order, solver}
-use Rattle.tables.specs.Matrix.{at, form, tabulate}
+use Rattle.tables.specs.Matrix.{at, form}
 use Rattle.tables.specs.Checks.{order_of}
-use Rattle.tables.specs.Problem.{constraint_of, ends_in, mended_constraint}
+use Rattle.tables.specs.Elements.{BuffersWhole}
+use Rattle.tables.specs.Problem.{ends_in, mended_constraint}
 use Rattle.tables.specs.declared.Refusal.{Refusal}
 use Rattle.tables.specs.declared.problem.Constraint.{Constraint}
 use Rattle.enclosure.specs.Points.{Point, Allowed}
 use Rattle.sums.specs.Sums.{Outcome, plus, allowing}
 use Rattle.sums.specs.Halving.{halved}
-use Rattle.sums.specs.Lent.{Lent, laid_sums, sums_of}
+use Rattle.sums.specs.Lent.{Lent, sums_of}
 use Rattle.sums.specs.Explaining.{Explained}
 use Rattle.std.specs.Prelude.{Ok, Err}
 use Rattle.sums.proofs.Explained.{mended_explains, plus_explains, halved_explains, fitted_by}
-use Rattle.pool.specs.Pool.{count_of, Problems, problem_at, pooled, checked_pool, pooling}
-use Rattle.pool.specs.Act.{pool_sized, sums_lengths, problems_lengths, pool, Explaining, Allowing, Meaning}
+use Rattle.pool.specs.Pool.{count_of, Problems, problem_at, problems_of, pooled, checked_pool, pooling}
+use Rattle.pool.specs.Act.{pool_sized, sums_lengths, problems_lengths, lent_of, laid_out, pool_act, Explaining, Allowing, Meaning}
 use Rattle.pool.proofs.Passing.{Holds, pooled-holds, passing_is, passing-taken, passing-ordered}
 use Rattle.pool.proofs.Counting.{Behind, pooling_by}
+use Rattle.pool.proofs.Whole.{pooled-whole, back}
 
 -- ---- points, and what is explained
 module _ (c : Constraint) {X : ℕ → ℤ} {q : ℤ} where
@@ -127,27 +129,32 @@ module _ (n : ℤ) (m : ℕ) (orders : List ℤ) (sized : Bool) (c : Constraint)
       go b (Ok d) e = g d b e (checked_means e)
       go b (Err r) e = f r
 
--- sums whose order goes by another name
-by_order : (d : Constraint) {n : ℕ} → d.order ≡ n → d ≡ constraint_of n d.low d.high d.linear.low d.linear.high d.limit
-by_order d e = ap (λ (n : ℕ). constraint_of n d.low d.high d.linear.low d.linear.high d.limit) e
-
-pub pool-means : (n : ℤ) (orders : List ℤ) (q : Problems (List ℤ)) (b : Lent (List ℤ)) →
-    (let j = pool n orders q b in
-    Meaning j.answer (problem_at (order_of n) q) (count_of 1 (length orders)) (sums_of (order_of n) b) (sums_of (order_of n) j.sums))
-unfolding pool tabulate
-pool-means n orders q b =
-    pooling-means n m orders (pool_sized 1 (order_of n) m (sums_lengths b) (length b.limit) (problems_lengths q) (length q.limits)) c p
-    (λ k h. refl)
-    (λ (o : Outcome). let j = laid_sums (λ t. t) (λ x. x) (λ α. tabulate 1 (λ i. α)) o b in
-    Meaning j.answer p m c (sums_of (order_of n) j.sums))
+-- what the act's answer means
+pub pool-means : {A : Type 0} {taken : ℕ → ℕ} {numbers : List A → ℕ → List ℤ} {elements : List ℤ → ℕ → List A} →
+    BuffersWhole taken numbers elements → (n : ℤ) (orders : List A) (q : Problems (List A)) (b : Lent (List A)) →
+    (let j = pool_act taken numbers elements n orders q b in
+    let k : ℕ = order_of n in
+    let m : ℕ = count_of (taken 1) (length orders) in
+    Meaning j.answer (problem_at k (problems_of numbers k m q)) m (sums_of k (lent_of numbers k b)) (sums_of k (lent_of numbers k j.sums)))
+unfolding pool_act
+pool-means {taken = taken} {numbers = numbers} {elements = elements} laws n orders q b =
+    pooling-means n m (numbers orders m)
+    (pool_sized (taken 1) k m (sums_lengths b) (length b.limit) (problems_lengths q) (length q.limits)) c p
+    (λ i h. refl)
+    (λ (o : Outcome). let j = laid_out elements k o b in Meaning j.answer p m c (sums_of k (lent_of numbers k j.sums)))
     (λ r. record { explains = λ e. absurd (false≢true cc); allows = λ e. absurd (false≢true cc) })
-    (λ d behind e w. subst (Meaning (Ok tt) p m c) (by_order d w.order) (record { explains = λ e. w.explains; allows = λ e. w.allows }))
+    (λ d behind e w.
+    let whole = pooled-whole c p m behind.some (passing-taken c p m (passing_is c p m ∙ e)).1 in
+    subst (Meaning (Ok tt) p m c) (sym (back laws k d b whole)) (record { explains = λ e. w.explains; allows = λ e. w.allows }))
   where
+    k : ℕ
+    k = order_of n
+
     m : ℕ
-    m = count_of 1 (length orders)
+    m = count_of (taken 1) (length orders)
 
     c : Constraint
-    c = sums_of (order_of n) b
+    c = sums_of k (lent_of numbers k b)
 
     p : ℕ → Constraint
-    p = problem_at (order_of n) q
+    p = problem_at k (problems_of numbers k m q)

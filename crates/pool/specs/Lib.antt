@@ -3,3 +3,5 @@ pub mod Act
 pub mod Passing
 pub mod Required
 pub mod Listed
+pub mod Spelled
+pub mod Parts

@@ -37,6 +37,16 @@ problem_at n q k =
     constraint_of n (part_of (n * n) k q.lows) (part_of (n * n) k q.highs) (part_of n k q.froms) (part_of n k q.tos)
     (nth q.limits k)
 
+-- the lists of m problems of order n, as numbers: `numbers` of a list, of which so many are asked for
+abbrev pub problems_of : {A : Type 0} → (List A → ℕ → List ℤ) → ℕ → ℕ → Problems (List A) → Problems (List ℤ)
+problems_of numbers n m q = record {
+  lows = numbers q.lows (m * (n * n));
+  highs = numbers q.highs (m * (n * n));
+  froms = numbers q.froms (m * n);
+  tos = numbers q.tos (m * n);
+  limits = numbers q.limits m;
+}
+
 -- ---- R27.3: the checks
 -- 1, of n and of m orders
 unfoldable pub orders_ok : ℤ → ℕ → List ℤ → Bool

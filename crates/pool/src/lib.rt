@@ -4,6 +4,7 @@
 pub mod entering;
 pub mod lists;
 pub mod loading;
+pub mod parts;
 pub mod pool;
 pub mod problems;
 

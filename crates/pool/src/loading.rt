@@ -1,33 +1,43 @@
 // R27.3 and R27.4 of docs/RULES.md: one pass through the problems, each loaded, checked and then added.
 ghost use Rattle.std.specs.Prelude.{ℕ, ◌≤◌, ◌<◌};
-ghost use Rattle.tables.specs.declared.problem.Constraint.{Constraint};
 ghost use Rattle.sums.specs.Running.{sums_in, Roomy, Standing, Leaving, SamePlace};
-ghost use Rattle.pool.specs.Pool.{greatest_pool, checked_pool};
+ghost use Rattle.pool.specs.Pool.{greatest_pool, problem_at, problems_of, checked_pool};
+ghost use Rattle.pool.specs.Required.{Sized, Reach};
+ghost use Rattle.pool.specs.Listed.{problems_in};
 
+use crate::lists::Lists;
+use crate::parts::{Listed, load_part};
 use crate::problems::{add_problem, begin};
 use sums::running::SumsMut;
 use tables::{GREATEST_ORDER, Refusal, TABLE_ROOM};
 
-// Problems of one order, which are loaded one after the other.
-pub trait Problems {
-    // Whether they are `count` problems of order n, and problem k of these.
-    ghost holds: { Self → (n count : ℕ) → Type 0 };
-
-    ghost problem: { Self → (n count k : ℕ) → Constraint };
-
-    // Problem k of count problems, to where sums of its order stand.
-    fn load(&self, count: usize, k: usize, out: &mut SumsMut)
-        requires { Roomy out.old × (count ≤ greatest_pool) × (k < count) × holds self.now out.old.order count }
-        ensures place { SamePlace out.old out.new }
-        ensures problem { Standing (problem self.entry.now out.old.order count k) out.new };
+// Problem k of the lists, to where sums of its order stand.
+fn load_problem<E: Listed>(k: usize, lists: &Lists<E>, out: &mut SumsMut)
+    requires { Roomy out.old × (k < greatest_pool) × Reach (E.taken 1) out.old.order k (problems_in lists.now) }
+    ensures place { SamePlace out.old out.new }
+    ensures problem { (m : ℕ) → k < m →
+        Standing (problem_at out.old.order (problems_of E.numbers out.old.order m (problems_in lists.entry.now)) k) out.new }
+{
+    let n = out.order;
+    load_part(n * n, k, lists.lows, out.low);
+    load_part(n * n, k, lists.highs, out.high);
+    load_part(n, k, lists.froms, out.from);
+    load_part(n, k, lists.tos, out.to);
+    let mut limit = [0i64; 1];
+    load_part(1, k, lists.limits, &mut limit);
+    out.limit = limit[0];
 }
 
 // Sums with the problems added to them, in place.
-pub fn pool_all<P: Problems>(count: usize, problems: &P, sums: &mut SumsMut) -> Result<(), Refusal>
-    requires { Roomy sums.old × (count ≤ greatest_pool) × P.holds problems.now sums.old.order count }
+pub fn pool_all<E: Listed>(
+    count: usize,
+    lists: &Lists<E>,
+    sums: &mut SumsMut,
+) -> Result<(), Refusal>
+    requires { Roomy sums.old × (count ≤ greatest_pool) × Sized (E.taken 1) sums.old.order count (problems_in lists.now) }
     ensures place { SamePlace sums.old sums.new }
-    ensures sums { Leaving (checked_pool (sums_in sums.old) (P.problem problems.entry.now sums.old.order count) count)
-        result sums.new }
+    ensures sums { Leaving (checked_pool (sums_in sums.old) (problem_at sums.old.order (problems_of E.numbers sums.old.order count
+        (problems_in lists.entry.now))) count) result sums.new }
 {
     let mut l = [0i64; TABLE_ROOM];
     let mut u = [0i64; TABLE_ROOM];
@@ -43,7 +53,7 @@ pub fn pool_all<P: Problems>(count: usize, problems: &P, sums: &mut SumsMut) -> 
     };
     let mut done = begin(sums);
     for k in 0..count {
-        problems.load(count, k, &mut problem);
+        load_problem(k, lists, &mut problem);
         done = add_problem(&mut problem, done, sums);
     }
     done

@@ -1,63 +1,37 @@
-// R27 of docs/RULES.md: problems pooled into running sums, as numbers.
-ghost use Rattle.std.specs.Prelude.{◌≡◌, List, ◌+◌, ◌*◌, ◌≤◌, ◌<◌, ℤ, length};
+// R27 of docs/RULES.md: problems pooled into running sums, in buffers of numbers or of bytes.
+ghost use Rattle.std.specs.Prelude.{◌≡◌, List, ◌≤◌, length};
 ghost use Rattle.tables.specs.Ranges.{greatest_order};
-ghost use Rattle.tables.specs.Matrix.{nth, tabulate};
-ghost use Rattle.tables.specs.Buffers.{Filled};
 ghost use Rattle.tables.specs.Checks.{order_of};
-ghost use Rattle.sums.specs.Lent.{Left, laid_sums, sums_of};
-ghost use Rattle.pool.specs.Pool.{greatest_pool, count_of, problem_at, checked_pool};
-ghost use Rattle.pool.specs.Act.{pool, Meaning};
+ghost use Rattle.sums.specs.Lent.{Left, sums_of};
+ghost use Rattle.pool.specs.Pool.{greatest_pool, count_of, problem_at, problems_of, checked_pool};
+ghost use Rattle.pool.specs.Act.{lent_of, laid_out, pool_act, Meaning};
 ghost use Rattle.pool.specs.Required.{Sized, LentSums};
 ghost use Rattle.pool.specs.Listed.{problems_in};
 
+use crate::GREATEST_POOL;
 use crate::entering::{check_entry, count_of};
 use crate::lists::Lists;
-use crate::loading::{Problems, pool_all};
-use sums::copying::copy_sums;
-use sums::running::{SumsMut, SumsRef};
+use crate::loading::pool_all;
+use crate::parts::Listed;
+use sums::running::SumsMut;
 use tables::entering::order;
 use tables::problem::lengths_of;
 use tables::{GREATEST_ORDER, Refusal, TABLE_ROOM};
 
-// Numbers of x, count of them from number `first` on, to the front of out.
-fn copy_part(count: usize, first: usize, x: &[i64], out: &mut [i64])
-    requires { (first + count ≤ length x.now) × (count ≤ length out.old) }
-    ensures { Filled (length out.old) count (λ i. nth x.now (first + i)) out.new }
-{
-    out[..count].copy_from_slice(&x[first..first + count]);
-}
-
-impl Problems for Lists<'_, i64> {
-    ghost use Rattle.pool.specs.Listed.{problems_in};
-
-    ghost holds = { λ q n count. Sized n count (problems_in q) };
-
-    ghost problem = { λ q n count. problem_at n (problems_in q) };
-
-    fn load(&self, count: usize, k: usize, out: &mut SumsMut) {
-        let n = out.order;
-        copy_part(n * n, k * (n * n), self.lows, out.low);
-        copy_part(n * n, k * (n * n), self.highs, out.high);
-        copy_part(n, k * n, self.froms, out.from);
-        copy_part(n, k * n, self.tos, out.to);
-        out.limit = self.limits[k];
-    }
-}
-
 // Pools the problems of the lists into lent sums of order n, all of them of their sizes.
-fn pool_lists(
+fn pool_lists<E: Listed>(
     n: usize,
     count: usize,
-    lists: Lists<i64>,
-    low: &mut [i64],
-    high: &mut [i64],
-    from: &mut [i64],
-    to: &mut [i64],
-    limit: &mut [i64],
+    lists: Lists<E>,
+    low: &mut [E],
+    high: &mut [E],
+    from: &mut [E],
+    to: &mut [E],
+    limit: &mut [E],
 ) -> Result<(), Refusal>
-    requires { (n ≤ greatest_order) × (count ≤ greatest_pool) × Sized n count (problems_in lists)
-        × LentSums n (record { low = low.now; high = high.old; from = from.old; to = to.old; limit = limit.old }) }
-    ensures { ◌≡◌ {A = Left (List ℤ)} (record {
+    requires { (n ≤ greatest_order) × (count ≤ greatest_pool) × Sized (E.taken 1) n count (problems_in lists)
+        × LentSums (E.taken 1) n (record { low = low.now; high = high.old; from = from.old; to = to.old; limit = limit.old }) }
+    ensures { ◌≡◌ {A = Left (List E)} (record {
       answer = result;
       sums = record {
         low = low.exit.now;
@@ -66,73 +40,67 @@ fn pool_lists(
         to = to.new;
         limit = limit.new;
       };
-    }) (laid_sums (λ t. t) (λ x. x) (λ α. tabulate 1 (λ i. α)) (checked_pool (sums_of n (record {
+    }) (laid_out E.elements n (checked_pool (sums_of n (lent_of E.numbers n (record {
       low = low.entry.now;
       high = high.old;
       from = from.old;
       to = to.old;
       limit = limit.old;
-    })) (problem_at n (problems_in lists.entry)) count) (record {
-      low = low.entry.now;
-      high = high.old;
-      from = from.old;
-      to = to.old;
-      limit = limit.old;
-    })) }
+    })))
+        (problem_at n (problems_of E.numbers n count (problems_in lists.entry))) count) (record {
+          low = low.entry.now;
+          high = high.old;
+          from = from.old;
+          to = to.old;
+          limit = limit.old;
+        })) }
 {
     let mut l = [0i64; TABLE_ROOM];
     let mut u = [0i64; TABLE_ROOM];
     let mut a = [0i64; GREATEST_ORDER];
     let mut b = [0i64; GREATEST_ORDER];
+    let mut one = [0i64; 1];
+    E::load(low, n * n, &mut l);
+    E::load(high, n * n, &mut u);
+    E::load(from, n, &mut a);
+    E::load(to, n, &mut b);
+    E::load(limit, 1, &mut one);
     let mut sums = SumsMut {
         order: n,
         low: &mut l,
         high: &mut u,
         from: &mut a,
         to: &mut b,
-        limit: 0,
+        limit: one[0],
     };
-    let given = SumsRef {
-        low,
-        high,
-        from,
-        to,
-        limit: limit[0],
-    };
-    copy_sums(given, &mut sums);
     pool_all(count, &lists, &mut sums)?;
-    let mut lent = SumsMut {
-        order: n,
-        low,
-        high,
-        from,
-        to,
-        limit: 0,
-    };
-    copy_sums(sums.view(), &mut lent);
-    limit[0] = lent.limit;
+    E::store(sums.low, n * n, low);
+    E::store(sums.high, n * n, high);
+    E::store(sums.from, n, from);
+    E::store(sums.to, n, to);
+    E::store(&[sums.limit], 1, limit);
     Ok(())
 }
 
-// Pools problems into running sums, of any numbers at all: n is an order or not, and each slice has any length. The running limit is the
-// one number of limit. The list of orders has 1 to 64 numbers, each of them n, and the other lists have the numbers of one problem after
-// the other. Sums and problems are mended first (R2.10), and each problem may halve the sums once (R23.6). Refused by the first of the
-// checks 1 to 5, 16 and 18 that fails, with every sum kept.
-pub fn pool(
+// Pools problems into running sums, of any numbers at all, in buffers of numbers or of bytes: n is an order or not, and each buffer has any
+// length. The running limit is the one number of limit. The list of orders has 1 to 64 numbers, each of them n, and the other lists have
+// the numbers of one problem after the other. Sums and problems are mended first (R2.10), and each problem may halve the sums once (R23.6).
+// Refused by the first of the checks 1 to 5, 16 and 18 that fails, with every sum kept.
+pub fn pool<E: Listed>(
     n: i64,
-    low: &mut [i64],
-    high: &mut [i64],
-    from: &mut [i64],
-    to: &mut [i64],
-    limit: &mut [i64],
-    orders: &[i64],
-    lows: &[i64],
-    highs: &[i64],
-    froms: &[i64],
-    tos: &[i64],
-    limits: &[i64],
+    low: &mut [E],
+    high: &mut [E],
+    from: &mut [E],
+    to: &mut [E],
+    limit: &mut [E],
+    orders: &[E],
+    lows: &[E],
+    highs: &[E],
+    froms: &[E],
+    tos: &[E],
+    limits: &[E],
 ) -> Result<(), Refusal>
-    ensures exact { ◌≡◌ {A = Left (List ℤ)} (record {
+    ensures exact { ◌≡◌ {A = Left (List E)} (record {
       answer = result;
       sums = record {
         low = low.exit.now;
@@ -141,7 +109,7 @@ pub fn pool(
         to = to.new;
         limit = limit.new;
       };
-    }) (pool n orders.now (record {
+    }) (pool_act E.taken E.numbers E.elements n orders.now (record {
       lows = lows.entry.now;
       highs = highs.now;
       froms = froms.now;
@@ -154,35 +122,39 @@ pub fn pool(
       to = to.old;
       limit = limit.old;
     })) }
-    ensures meaning { Meaning result (problem_at (order_of n) (record {
-      lows = lows.entry.now;
-      highs = highs.now;
-      froms = froms.now;
-      tos = tos.now;
-      limits = limits.now;
-    })) (count_of 1 (length orders.now)) (sums_of (order_of n) (record {
-      low = low.entry.now;
-      high = high.old;
-      from = from.old;
-      to = to.old;
-      limit = limit.old;
-    })) (sums_of (order_of n) (record {
-      low = low.exit.now;
-      high = high.new;
-      from = from.new;
-      to = to.new;
-      limit = limit.new;
-    })) }
+    ensures meaning { Meaning result (problem_at (order_of n) (problems_of E.numbers (order_of n) (count_of (E.taken 1)
+        (length orders.now)) (record {
+          lows = lows.entry.now;
+          highs = highs.now;
+          froms = froms.now;
+          tos = tos.now;
+          limits = limits.now;
+        }))) (count_of (E.taken 1) (length orders.now)) (sums_of (order_of n) (lent_of E.numbers (order_of n) (record {
+          low = low.entry.now;
+          high = high.old;
+          from = from.old;
+          to = to.old;
+          limit = limit.old;
+        }))) (sums_of (order_of n) (lent_of E.numbers (order_of n) (record {
+          low = low.exit.now;
+          high = high.new;
+          from = from.new;
+          to = to.new;
+          limit = limit.new;
+        }))) }
 {
     let order = order(n)?;
-    let count = count_of(1, orders.len()).ok_or(Refusal::Length)?;
+    let unit = E::taken(1);
+    let count = count_of(unit, orders.len()).ok_or(Refusal::Length)?;
+    let mut each = [0i64; GREATEST_POOL];
+    E::load(orders, count, &mut each);
     let sums = lengths_of(low.len(), high.len(), from.len(), to.len());
     let problems = lengths_of(lows.len(), highs.len(), froms.len(), tos.len());
     check_entry(
-        1,
+        unit,
         n,
         count,
-        orders,
+        &each,
         sums,
         limit.len(),
         problems,

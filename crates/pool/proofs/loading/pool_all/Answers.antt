@@ -1,23 +1,34 @@
 use mathlib.Core.Path.{sym, ◌∙◌}
+use Prim.Native.Nat.{◌<◌}
 use native.Mathlib.Omega.{arith}
 use Rattle.sums.specs.Running.{sums_in, Leaving}
+use Rattle.pool.specs.Pool.{problem_at, problems_of}
+use Rattle.pool.specs.Listed.{problems_in}
 use Rattle.pool.specs.Passing.{passing}
+use Rattle.pool.proofs.Counting.{reached}
 use Rattle.pool.proofs.Going.{stands, going_next, going_ready, going_whole}
 use Rattle.pool.proofs.loading.pool_all.Goals as goal
 use Rattle.pool.proofs.loading.pool_all.Goals.{After-begin-done}
 
 -- what is begun with
 first : (g : _) (c : After-begin-done g) → let o = c.begin-done.new.sums in
-    Leaving (passing (sums_in c.args.sums.now) (g.P.Problems.problem c.args.problems.now o.order c.args.count) 0) c.begin-done.result o
+    Leaving (passing (sums_in c.args.sums.now) (problem_at o.order (problems_of g.E.Element.numbers o.order c.args.count (problems_in c.args.lists.now))) 0) c.begin-done.result o
 unfolding passing
 first g c = c.begin-done.ensures.sums
+
+pub load_problem-requires : goal.load_problem-requires
+load_problem-requires g c =
+    let i = c.loop-k.invariant in
+    let h : c.loop-k.k < c.args.count = omega arith in
+    (i.1, omega (arith, h, c.requires.1), rw (i.0, c.begin-done.ensures.place.order) (reached c.requires.2 h))
 
 pub add_problem-done-requires : goal.add_problem-done-requires
 add_problem-done-requires g c =
     let f = first g (goal.at.add_problem-done-requires g c).After-begin-done in
     let i = c.loop-k.invariant in
-    let o = c.load.ensures.place.order in (
-      (omega (arith, o, i.1.0), c.load.ensures.problem.rooms),
+    let h : c.loop-k.k < c.args.count = omega arith in
+    let o = c.load_problem.ensures.place.order in (
+      (omega (arith, o, i.1.0), (c.load_problem.ensures.problem c.args.count h).rooms),
       (omega (arith, i.2.place.order, c.begin-done.ensures.place.order, c.requires.0.0), (stands i.2 c.args.sums.now f).rooms),
       o ∙ i.0 ∙ sym i.2.place.order,
       going_ready i.2 c.args.sums.now f,
@@ -26,8 +37,9 @@ add_problem-done-requires g c =
 pub loop-k-preserved : goal.loop-k-preserved
 loop-k-preserved g c =
     let i = c.loop-k.invariant in
+    let h : c.loop-k.k < c.args.count = omega arith in
     let m = c.add_problem-done.ensures in
-    (m.problem.order ∙ c.load.ensures.place.order ∙ i.0, m.rooms, going_next i.2 (rw i.0 at c.load.ensures.problem.sums) m.place m.sums)
+    (m.problem.order ∙ c.load_problem.ensures.place.order ∙ i.0, m.rooms, going_next i.2 (rw i.0 at (c.load_problem.ensures.problem c.args.count h).sums) m.place m.sums)
 
 pub returns-clause-sums : goal.returns-clause-sums
 returns-clause-sums g c =

@@ -1,6 +1,6 @@
 -- R15.2, R15.3 and R27.2 of docs/RULES.md: the problems that lists of bytes spell, and what pooling them into the sums that buffers spell
 -- gives.
-use Rattle.std.specs.Prelude.{◌≡◌, Bool, List, ℕ, ◌*◌, ℤ, length}
+use Rattle.std.specs.Prelude.{Bool, List, ℕ, ◌*◌, ℤ, length}
 use Rattle.std.specs.Int.{w64}
 use mir.Val.{bytes}
 use Rattle.words.specs.Numbers.{numbers_of}
@@ -10,7 +10,7 @@ use Rattle.sums.specs.Sums.{Outcome}
 use Rattle.sums.specs.Lent.{Lent}
 use Rattle.pool.specs.Pool.{count_of, Problems, problem_at, pooling}
 use Rattle.pool.specs.Act.{sums_lengths, problems_lengths, pool_sized}
-use Rattle.sums_buffers.specs.SumsBuffers.{spelled_sums, SumsBytes}
+use Rattle.sums_buffers.specs.SumsBuffers.{spelled_sums}
 
 -- how many problems the list of orders stands for
 abbrev pub pool_count : List ℕ → ℕ
@@ -41,17 +41,3 @@ spelled_pool n orders q b =
     let k : ℕ = order_of n in
     let m : ℕ = pool_count orders in
     pooling n m (numbers_of w64 orders m) (pool_buffers k m q b) (spelled_sums k b) (spelled_problems k m q)
-
--- ---- buffers of their sizes
--- the lists of m problems of order n
-pub record ListsBytes (n m : ℕ) (q : Problems (List ℕ)) : Type 0 where
-  pub lows : length q.lows ≡ m * (n * n) * bytes w64
-  pub highs : length q.highs ≡ m * (n * n) * bytes w64
-  pub froms : length q.froms ≡ m * n * bytes w64
-  pub tos : length q.tos ≡ m * n * bytes w64
-  pub limits : length q.limits ≡ m * bytes w64
-
--- the lent sums of order n
-pub record LentBytes (n : ℕ) (b : Lent (List ℕ)) : Type 0 where
-  pub sums : SumsBytes n b.low b.high b.from b.to
-  pub limit : length b.limit ≡ bytes w64
