@@ -25,7 +25,8 @@ use mir.Val.{SFits, to_z, of_z}
 use Rattle.tables.specs.declared.problem.Constraint.{Constraint}
 use Rattle.tables.specs.declared.problem.Sizes.{Sizes}
 use Rattle.tables.specs.declared.problem.Lengths.{Lengths}
-use Rattle.tables.proofs.Checks.{and_left, and_right, all-at, all_ext, same_of, first-none, first_passes, first-refuses, first-passed, rest-passed}
+use Rattle.tables.proofs.Checks.{and_left, and_right, all-at, all_ext, same_of}
+use Rattle.tables.proofs.Checks.{first-none, first_passes, first-refuses, first-passed, rest-passed}
 use Rattle.tables.proofs.Answers.{after-refused, after-passed, after-means}
 use Rattle.tables.proofs.Problems.{constraint_sizes-of}
 use Rattle.sums.specs.Sums.{Outcome}

@@ -65,7 +65,8 @@ module _ (c : Constraint) (p : ℕ → Constraint) where
   pooled-ordered zero e = cc
   pooled-ordered (suc m) {d} e = go (pooled c p m) e (λ x q. pooled-ordered m q)
     where
-      go : (o : Outcome) → added_next (mended_constraint (p m)) o ≡ Ok d → ((x : Constraint) → o ≡ Ok x → x.order ≡ c.order) → d.order ≡ c.order
+      go : (o : Outcome) → added_next (mended_constraint (p m)) o ≡ Ok d → ((x : Constraint) → o ≡ Ok x → x.order ≡ c.order) →
+          d.order ≡ c.order
       go (Ok x) f before = fitted-ordered (mended_constraint (p m)) x f ∙ before x refl
       go (Err r) f before = absurd (false≢true cc)
 
@@ -83,19 +84,22 @@ zero_fits : SFits w64 (pos 0)
 zero_fits = let w : Within 0 (pos 0) = record { size = omega arith } in fits_within w (omega arith)
 
 -- numbers that 64 bits hold: past the end of a list they are 0
-each_fits : {m b : ℕ} (x : List ℤ) → b ≤ 1125899906842624 → length x ≡ m → ((i : ℕ) → i < m → Within b (nth x i)) → (i : ℕ) → SFits w64 (nth x i)
+each_fits : {m b : ℕ} (x : List ℤ) → b ≤ 1125899906842624 → length x ≡ m → ((i : ℕ) → i < m → Within b (nth x i)) → (i : ℕ) →
+    SFits w64 (nth x i)
 each_fits {m} {b} x l e h i =
     by_cases (dec_lt i m) (λ k. fits_within (h i k) (omega (arith, l)))
     (λ k. rw (nth_past x i (omega (arith, e))) zero_fits)
 
-module _ {A : Type 0} {taken : ℕ → ℕ} {numbers : List A → ℕ → List ℤ} {elements : List ℤ → ℕ → List A} (laws : BuffersWhole taken numbers elements) where
+module _ {A : Type 0} {taken : ℕ → ℕ} {numbers : List A → ℕ → List ℤ} {elements : List ℤ → ℕ → List A}
+    (laws : BuffersWhole taken numbers elements) where
   limit_back : (α : ℤ) → SFits w64 α → nth (numbers (elements (tabulate 1 (λ i. α)) 1) 1) 0 ≡ α
   unfolding tabulate
   limit_back α f = ap (λ (x : List ℤ). nth x 0) (laws.read_back (tabulate 1 (λ i. α)) 1 refl
       (λ i. by_cases (dec_lt i 1) (λ k. rw (nth-tabulate 1 (λ i. α) i k) f)
       (λ k. rw (nth_past (tabulate 1 (λ i. α)) i (omega arith)) zero_fits)))
 
-  pub back : (n : ℕ) (c : Constraint) (b : Lent (List A)) → Whole n c → sums_of n (lent_of numbers n (laid_out elements n (Ok c) b).sums) ≡ c
+  pub back : (n : ℕ) (c : Constraint) (b : Lent (List A)) → Whole n c →
+      sums_of n (lent_of numbers n (laid_out elements n (Ok c) b).sums) ≡ c
   back n c b w =
       let t = rw w.order at (within-tables c w.within) in
       let x = rw w.order at (within_linear c w.within) in

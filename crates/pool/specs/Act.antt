@@ -42,7 +42,8 @@ laid_out elements n = laid_sums (λ t. elements t (n * n)) (λ x. elements x n) 
 
 -- pooling what lists of any lengths hold: `taken` says how many elements so many numbers take, `numbers` gives the numbers of a list, and
 -- `elements` the elements of so many numbers
-unfoldable pub pool_act : {A : Type 0} → (ℕ → ℕ) → (List A → ℕ → List ℤ) → (List ℤ → ℕ → List A) → ℤ → List A → Problems (List A) → Lent (List A) → Left (List A)
+unfoldable pub pool_act : {A : Type 0} → (ℕ → ℕ) → (List A → ℕ → List ℤ) → (List ℤ → ℕ → List A) → ℤ → List A →
+    Problems (List A) → Lent (List A) → Left (List A)
 pool_act taken numbers elements n orders q b =
     let k : ℕ = order_of n in
     let m : ℕ = count_of (taken 1) (length orders) in

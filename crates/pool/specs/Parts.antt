@@ -10,8 +10,8 @@ use Rattle.words.proofs.Laws.{length-numbers_of}
 use Rattle.tables.specs.Matrix.{nth}
 use Rattle.pool.specs.Spelled.{spelled-later}
 
--- each number takes as many elements as one does, which are 1 to 8, k of them in their elements are k numbers at least, and the j numbers of what stands
--- from number k on are numbers k, k + 1, .. of all m
+-- each number takes as many elements as one does, which are 1 to 8; a list with room for k numbers has them; and the j numbers of what
+-- stands from number k on are numbers k, k + 1, .. of all m
 pub record PartsWhole {A : Type 0} (taken : ℕ → ℕ) (numbers : List A → ℕ → List ℤ) : Type 0 where
   pub each : (k : ℕ) → taken k ≡ k * taken 1
   pub some : 0 < taken 1
@@ -21,7 +21,19 @@ pub record PartsWhole {A : Type 0} (taken : ℕ → ℕ) (numbers : List A → �
 
 -- so it is of numbers, and of the bytes that spell them
 pub numbers_parts : PartsWhole {A = ℤ} (λ k. k) (λ x k. x)
-numbers_parts = record { each = λ k. omega arith; some = omega arith; few = omega arith; room = λ b k h. h; later = λ b k j m i h l. get_or-drop k b i (pos 0) }
+numbers_parts = record {
+  each = λ k. omega arith;
+  some = omega arith;
+  few = omega arith;
+  room = λ b k h. h;
+  later = λ b k j m i h l. get_or-drop k b i (pos 0);
+}
 
 pub bytes_parts : PartsWhole (λ k. k * bytes w64) (numbers_of w64)
-bytes_parts = record { each = λ k. omega arith; some = omega arith; few = omega arith; room = λ b k h. omega (arith, length-numbers_of w64 b k); later = λ b k j m i h l. spelled-later w64 b k h l }
+bytes_parts = record {
+  each = λ k. omega arith;
+  some = omega arith;
+  few = omega arith;
+  room = λ b k h. omega (arith, length-numbers_of w64 b k);
+  later = λ b k j m i h l. spelled-later w64 b k h l;
+}

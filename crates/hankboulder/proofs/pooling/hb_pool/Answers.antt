@@ -16,7 +16,8 @@ pub returns : goal.returns
 unfolding pool_entry
 returns c =
     let a = c.args in
-    let lent : Lent (List ℕ) = record { low = a.low.now; high = a.high.now; from = a.linear_low.now; to = a.linear_high.now; limit = a.running_limit.now } in
+    let lent : Lent (List ℕ) =
+    record { low = a.low.now; high = a.high.now; from = a.linear_low.now; to = a.linear_high.now; limit = a.running_limit.now } in
     let lists : Problems (List ℕ) =
     record { lows = a.lows.now; highs = a.highs.now; froms = a.linear_lows.now; tos = a.linear_highs.now; limits = a.limits.now } in
     let done = rw (clean c.ranges.n) at c.pool.ensures in

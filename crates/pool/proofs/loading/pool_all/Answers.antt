@@ -12,7 +12,8 @@ use Rattle.pool.proofs.loading.pool_all.Goals.{After-begin-done}
 
 -- what is begun with
 first : (g : _) (c : After-begin-done g) → let o = c.begin-done.new.sums in
-    Leaving (passing (sums_in c.args.sums.now) (problem_at o.order (problems_of g.E.Element.numbers o.order c.args.count (problems_in c.args.lists.now))) 0) c.begin-done.result o
+    let p = problem_at o.order (problems_of g.E.Element.numbers o.order c.args.count (problems_in c.args.lists.now)) in
+    Leaving (passing (sums_in c.args.sums.now) p 0) c.begin-done.result o
 unfolding passing
 first g c = c.begin-done.ensures.sums
 
@@ -39,7 +40,8 @@ loop-k-preserved g c =
     let i = c.loop-k.invariant in
     let h : c.loop-k.k < c.args.count = omega arith in
     let m = c.add_problem-done.ensures in
-    (m.problem.order ∙ c.load_problem.ensures.place.order ∙ i.0, m.rooms, going_next i.2 (rw i.0 at (c.load_problem.ensures.problem c.args.count h).sums) m.place m.sums)
+    let next = rw i.0 at (c.load_problem.ensures.problem c.args.count h).sums in
+    (m.problem.order ∙ c.load_problem.ensures.place.order ∙ i.0, m.rooms, going_next i.2 next m.place m.sums)
 
 pub returns-clause-sums : goal.returns-clause-sums
 returns-clause-sums g c =

@@ -155,4 +155,5 @@ returns g c =
     at c.in_ok-check_entry.ensures in
     let e = checks g s c.load.new.out found (each g p.After-load) many in
     let order = (order-passed c.ranges.n c.in_ok-order.ensures).0 in
-    meant g s _ ((rw (many, order) at c.pool_lists.ensures) ∙ ap (given g s) (pooling-passed _ _ _ (sized g s _) (sums g s) (problems g s) (sym e)))
+    meant g s _
+    ((rw (many, order) at c.pool_lists.ensures) ∙ ap (given g s) (pooling-passed _ _ _ (sized g s _) (sums g s) (problems g s) (sym e)))

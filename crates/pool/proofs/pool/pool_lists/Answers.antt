@@ -51,7 +51,9 @@ module _ (g : Over) where
       (constraint_by (loaded-front _ _ (whole _ z.low) c.load.ensures) (loaded-front _ _ (whole _ z.high) c.load-2.ensures)
       (loaded-front _ _ (whole _ z.from) c.load-3.ensures)
       (loaded-front _ _ (whole _ z.to) c.load-4.ensures)
-      (clean_element _ (omega arith) ∙ loaded-nth {m = 1} (g.E.Element.numbers a.limit.now 1) _ (omega (arith, whole a.limit.now (one z.limit))) c.load-5.ensures 0 (omega arith))))
+      (clean_element _ (omega arith)
+      ∙ loaded-nth {m = 1} (g.E.Element.numbers a.limit.now 1) _ (omega (arith, whole a.limit.now (one z.limit))) c.load-5.ensures 0
+      (omega arith))))
       (rw c.pool_all.ensures.place.order at c.pool_all.ensures.sums)
 
 pub returns-in_err-pool_all : goal.returns-in_err-pool_all
@@ -73,6 +75,9 @@ returns g c =
     let r = st.rooms in
     laid-taken (λ t. g.E.Element.elements t (n * n)) (λ x. g.E.Element.elements x n)
     (λ α. g.E.Element.elements (tabulate 1 (λ i. α)) 1) (lent g p.Start) (rw c.in_ok-pool_all.was at st)
-    (c.store.ensures ∙ stored-whole g.E.Element.elements _ _ r.low (takes g z.low)) (c.store-2.ensures ∙ stored-whole g.E.Element.elements _ _ r.high (takes g z.high))
-    (c.store-3.ensures ∙ stored-whole g.E.Element.elements _ _ r.linear_low (takes g z.from)) (c.store-4.ensures ∙ stored-whole g.E.Element.elements _ _ r.linear_high (takes g z.to))
-    ((rw (clean_element c.pool_all.new.sums.limit (omega arith)) at c.store-5.ensures) ∙ stored-whole g.E.Element.elements (c.pool_all.new.sums.limit ∷ []) _ (omega arith) z.limit)
+    (c.store.ensures ∙ stored-whole g.E.Element.elements _ _ r.low (takes g z.low))
+    (c.store-2.ensures ∙ stored-whole g.E.Element.elements _ _ r.high (takes g z.high))
+    (c.store-3.ensures ∙ stored-whole g.E.Element.elements _ _ r.linear_low (takes g z.from))
+    (c.store-4.ensures ∙ stored-whole g.E.Element.elements _ _ r.linear_high (takes g z.to))
+    ((rw (clean_element c.pool_all.new.sums.limit (omega arith)) at c.store-5.ensures)
+    ∙ stored-whole g.E.Element.elements (c.pool_all.new.sums.limit ∷ []) _ (omega arith) z.limit)
