@@ -27,7 +27,8 @@ use Rattle.rides.specs.Rides.{no_sums, gathered, sums_after, gathered_all, squar
 use Rattle.rides.proofs.Wanted.{by_outcome, gathered_allows}
 use Rattle.sums_buffers.specs.SumsBuffers.{spelled_sums, sums_buffers, stored_sums}
 use Rattle.hankboulder.specs.Entries.{gather_stored, gather_entry}
-use Rattle.hankboulder.proofs.SumsGathered.{fitted-whole, back}
+use Rattle.rides.proofs.Stored.{fitted-whole}
+use Rattle.hankboulder.proofs.SumsGathered.{back}
 
 -- the buffers as calls leave them, one for each sample, with the samples' order
 abbrev pub called : List Sample → Lent (List ℕ) → Lent (List ℕ)

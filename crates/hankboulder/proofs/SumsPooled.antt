@@ -2,25 +2,19 @@
 use mathlib.Core.Path.{◌≡◌, refl}
 use mathlib.Core.List.{List}
 use Prim.Native.Nat.{ℕ, ◌*◌}
-use lib.IntN.{ℤ, pos}
+use lib.IntN.{ℤ}
 use mir.Syntax.{w64}
 use mir.Val.{bytes}
 use Rattle.words.specs.Numbers.{numbers_of, bytes_of}
 use Rattle.tables.specs.Matrix.{tabulate}
 use Rattle.tables.specs.Checks.{Checked, order_of}
-use Rattle.std.specs.Prelude.{Ok, Err}
 use Rattle.sums.specs.Lent.{Lent, sums_of, gathered_code}
 use Rattle.pool.specs.Pool.{Problems, problem_at, problems_of}
 use Rattle.pool.specs.Act.{lent_of, pool_act, Meaning}
 use Rattle.hankboulder.specs.PoolBuffers.{pool_count, spelled_pool}
 use Rattle.hankboulder.specs.Entries.{pool_stored}
 use Rattle.hankboulder.specs.Meanings.{PoolMeaning}
-use Rattle.hankboulder.proofs.SumsGathered.{number-nonzero}
-
--- the number 0 is the answer of what is taken
-answered : (r : Checked) → gathered_code r ≡ pos 0 → r ≡ Ok tt
-answered (Ok _) e = refl
-answered (Err r) e = absurd (number-nonzero r e)
+use Rattle.hankboulder.proofs.SumsGathered.{code_zero}
 
 module _ (n : ℤ) (orders : List ℕ) (q : Problems (List ℕ)) (b : Lent (List ℕ)) where
   pub pool-spelled : pool_act (λ k. k * bytes w64) (numbers_of w64) (bytes_of w64) n orders q b ≡ pool_stored n orders q b
@@ -37,4 +31,4 @@ module _ (n : ℤ) (orders : List ℕ) (q : Problems (List ℕ)) (b : Lent (List
       Meaning r (problem_at k (problems_of (numbers_of w64) k m q)) m (sums_of k (lent_of (numbers_of w64) k b))
       (sums_of k (lent_of (numbers_of w64) k d)) → PoolMeaning n orders q b d (gathered_code r)
   unfolding numbers_of
-  pooled-means d r w = record { explains = λ e. w.explains (answered r e); allows = λ e. w.allows (answered r e) }
+  pooled-means d r w = record { explains = λ e. w.explains (code_zero r e); allows = λ e. w.allows (code_zero r e) }

@@ -48,13 +48,5 @@ pub extern "C" fn hb_gather(
       limit = running_limit.new;
     }) result }
 {
-    answer_code(sums_buffers::gathering::gather(
-        sample,
-        n,
-        low,
-        high,
-        linear_low,
-        linear_high,
-        running_limit,
-    ))
+    answer_code(rides::gather::gather(sample, n, low, high, linear_low, linear_high, running_limit))
 }

@@ -19,33 +19,26 @@ use Rattle.std.specs.Prelude.{Err}
 use Rattle.sums.specs.Sums.{terms_in}
 use Rattle.samples.specs.Samples.{factor_count}
 use Rattle.samples.specs.Gathering.{sums_sized, added_within, checked_sums, entered_sums}
+use Rattle.rides.specs.Act.{SumsSizes}
 
 -- ---- check 1
 pub order_given : (n : ℤ) → order_ok n ≡ true → order_of n ≡ 0 → ⊥
 order_given n o z = false≢true (sym (order-none n z) ∙ o)
 
 -- ---- check 2
-pub record SumsSizes (unit n : ℕ) (b : Lengths) (α : ℕ) : Type 0 where
-  pub order : n ≡ factor_count
-  pub low : b.bounds.low ≡ factor_count * factor_count * unit
-  pub high : b.bounds.high ≡ factor_count * factor_count * unit
-  pub linear_low : b.linear.low ≡ factor_count * unit
-  pub linear_high : b.linear.high ≡ factor_count * unit
-  pub limit : α ≡ unit
-
-pub sums-sizes-of : (unit n : ℕ) (b : Lengths) (α : ℕ) → sums_sized unit n b α ≡ true → SumsSizes unit n b α
+pub sums-sizes-of : (taken : ℕ → ℕ) (n : ℕ) (b : Lengths) (α : ℕ) → sums_sized taken n b α ≡ true → SumsSizes taken n b α
 unfolding sums_sized
-sums-sizes-of unit n b α e =
-    let z : Sizes = record { table = factor_count * factor_count * unit; vector = factor_count * unit } in
-    let f = and_right (eqb n factor_count) (constraint_sized z b && eqb α unit) e in
-    let v = constraint_sizes-of z b (and_left (constraint_sized z b) (eqb α unit) f) in
+sums-sizes-of taken n b α e =
+    let z : Sizes = record { table = taken (factor_count * factor_count); vector = taken factor_count } in
+    let f = and_right (eqb n factor_count) (constraint_sized z b && eqb α (taken 1)) e in
+    let v = constraint_sizes-of z b (and_left (constraint_sized z b) (eqb α (taken 1)) f) in
     record {
-      order = eqb-true n factor_count (and_left (eqb n factor_count) (constraint_sized z b && eqb α unit) e);
+      order = eqb-true n factor_count (and_left (eqb n factor_count) (constraint_sized z b && eqb α (taken 1)) e);
       low = v.0;
       high = v.1;
       linear_low = v.2;
       linear_high = v.3;
-      limit = eqb-true α unit (and_right (constraint_sized z b) (eqb α unit) f);
+      limit = eqb-true α (taken 1) (and_right (constraint_sized z b) (eqb α (taken 1)) f);
     }
 
 -- where n is an order and the buffers have their sizes, 3, 4, 5, 16 and 18 are all that is left to ask

@@ -15,11 +15,12 @@ use Rattle.samples.specs.Samples.{factor_count, sample_fits, factor_next, draw_n
 use Rattle.samples.specs.Gains.{gains}
 
 -- ---- the checks of sums that are handed in
--- 2, R4.2: the order is that of a sample, and each lent buffer has its size, where a number takes `unit`
-unfoldable pub sums_sized : ℕ → ℕ → Lengths → ℕ → Bool
-sums_sized unit n lengths limit =
+-- 2, R4.2: the order is that of a sample, and each lent buffer has its size, where so many numbers take `taken` elements
+unfoldable pub sums_sized : (ℕ → ℕ) → ℕ → Lengths → ℕ → Bool
+sums_sized taken n lengths limit =
     eqb n factor_count
-    && (constraint_sized (record { table = factor_count * factor_count * unit; vector = factor_count * unit }) lengths && eqb limit unit)
+    && (constraint_sized (record { table = taken (factor_count * factor_count); vector = taken factor_count }) lengths
+    && eqb limit (taken 1))
 
 -- ---- gathering
 -- of factors between the ends F and a draw between the ends D, added to mended sums, R2.10; 18 is asked there

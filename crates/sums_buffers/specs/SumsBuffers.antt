@@ -21,7 +21,7 @@ spelled_sums n b =
 abbrev pub sums_buffers : ℕ → Lent (List ℕ) → Bool
 sums_buffers n b =
     let lengths : Lengths = lengths_of (length b.low) (length b.high) (length b.from) (length b.to) in
-    sums_sized (bytes w64) n lengths (length b.limit)
+    sums_sized (λ k. k * bytes w64) n lengths (length b.limit)
 
 -- the sums of order n are written, 8 bytes for each number, or all five buffers are kept
 abbrev pub stored_sums : ℕ → Outcome → Lent (List ℕ) → Left (List ℕ)

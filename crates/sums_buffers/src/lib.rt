@@ -1,6 +1,5 @@
 // The acts on running sums, on buffers of bytes: the sums are loaded and checked, the act is asked, and what it gives is stored.
 #![tactic(auto)]
 
-pub mod gathering;
 pub mod reading;
 pub mod storing;

@@ -1,64 +1,64 @@
 use mathlib.Core.Path.{◌≡◌, refl, sym, ap, ◌∙◌}
-use mathlib.Core.Bool.{Bool}
 use mathlib.Core.List.{List}
-use lib.IntN.{ℤ}
-use lib.ListN.{length}
 use Rattle.integers.proofs.Machine.{clean}
-use Rattle.tables.specs.Matrix.{tabulate}
 use Rattle.tables.specs.Checks.{order_of}
-use Rattle.tables.specs.Problem.{lengths_of}
-use Rattle.tables.proofs.Answers.{exactly, handed_on}
 use Rattle.tables.specs.declared.Refusal.TheVariants.{Sample}
-use Rattle.samples.specs.declared.sample.Sample as Declared
-use Rattle.samples.specs.Gathering.{sums_sized, gathering}
+use Rattle.tables.proofs.Answers.{exactly, handed_on}
 use Rattle.sums.specs.Sums.{Outcome}
-use Rattle.sums.specs.Lent.{Lent, Left, laid_sums, sums_of}
-use Rattle.rides.specs.Act.{gather, Meaning}
+use Rattle.sums.specs.Lent.{Lent, Left}
+use Rattle.samples.specs.Gathering.{gathering}
 use Rattle.samples.proofs.Measuring.{Narrow, inside_near, gathering_inside, gathering_outside}
+use Rattle.rides.specs.Act.{held_lent, gather_sizes, laid_sample, gather_act, Meaning}
 use Rattle.rides.proofs.Meaning.{gather-means}
+use Rattle.rides.proofs.gather.gather.Given.{Over}
 use Rattle.rides.proofs.gather.gather.Goals as goal
 use Rattle.rides.proofs.gather.gather.Goals.{Start}
 
--- the numbers of the sample are of 32 bits
-narrow : (c : Start) → Narrow c.args.sample
-narrow c =
-    let g = c.well_formed.0.1.1 in
-    record { rolling = g.0.1; climb = g.1.0.1; air = g.1.1.0.1; start = g.1.1.1.0.1; draw = g.1.1.1.1.0.1 }
+module _ (g : Over) (c : Start g) where
+  -- the numbers of the sample are of 32 bits
+  narrow : Narrow c.args.sample
+  narrow =
+      let w = c.well_formed.0.1.1 in
+      record { rolling = w.0.1; climb = w.1.0.1; air = w.1.1.0.1; start = w.1.1.1.0.1; draw = w.1.1.1.1.0.1 }
 
--- what gathering into lent sums gives, and what that means
-module _ (s : Declared.Sample) (n : ℤ) (b : Lent (List ℤ)) where
-  abbrev sized : Bool
-  sized = sums_sized 1 (order_of n) (lengths_of (length b.low) (length b.high) (length b.from) (length b.to)) (length b.limit)
+  abbrev lent : Lent (List g.row.E.Denot)
+  lent = let a = c.args in record { low = a.low.now; high = a.high.now; from = a.from.now; to = a.to.now; limit = a.limit.now }
 
-  abbrev given : Outcome → Left (List ℤ)
-  given o = laid_sums (λ t. t) (λ x. x) (λ α. tabulate 1 (λ i. α)) o b
+  -- what gathering gives, the buffers with it, and what that means
+  abbrev whole : Outcome
+  whole = gathering c.args.sample c.args.n (gather_sizes g.E.Element.taken (order_of c.args.n) lent)
+      (held_lent g.E.Element.numbers (order_of c.args.n) lent)
 
-  abbrev means : Left (List ℤ) → Type 0
-  means j = Meaning s j.answer (sums_of (order_of n) b) (sums_of (order_of n) j.sums)
+  abbrev given : Outcome → Left (List g.row.E.Denot)
+  given o = laid_sample g.E.Element.elements o lent
 
-  stated : Narrow s → (o : Outcome) → o ≡ gathering s n sized (sums_of (order_of n) b) → (j : Left (List ℤ)) → j ≡ given o →
-      record { exact : j ≡ gather s n b; meaning : means j }
-  unfolding gather
-  stated w o e j q = exactly means (gather-means s w n b) j (q ∙ ap given e)
+  abbrev means : Left (List g.row.E.Denot) → Type 0
+  means j =
+      Meaning c.args.sample j.answer (held_lent g.E.Element.numbers (order_of c.args.n) lent)
+      (held_lent g.E.Element.numbers (order_of c.args.n) j.sums)
 
-abbrev lent : Start → Lent (List ℤ)
-lent c = let a = c.args in record { low = a.low.now; high = a.high.now; from = a.from.now; to = a.to.now; limit = a.limit.now }
+  stated : (o : Outcome) → o ≡ whole → (j : Left (List g.row.E.Denot)) → j ≡ given o →
+      record {
+        exact : j ≡ gather_act g.E.Element.taken g.E.Element.numbers g.E.Element.elements c.args.sample c.args.n lent;
+        meaning : means j;
+      }
+  unfolding gather_act
+  stated o e j q = exactly means (gather-means g.E.Element.laws c.args.sample narrow c.args.n lent) j (q ∙ ap given e)
 
 pub returns-in_err-measures : goal.returns-in_err-measures
-returns-in_err-measures c =
-    let s = (goal.at.returns-in_err-measures c).Start in
+returns-in_err-measures g c =
+    let s = (goal.at.returns-in_err-measures g c).Start in
     let e = c.in_err-measures.ensures in
     let k : c.in_err-measures.field-0.0 ≡ Sample = (let v = rw e.ok_part at e.value in cc) in
-    stated c.args.sample c.args.n (lent s) (narrow s) _ (gathering_outside _ c.args.n _ _ (sym e.ok_part ∙ c.measure.ensures)) _
+    stated g s _ (gathering_outside _ c.args.n _ _ (sym e.ok_part ∙ c.measure.ensures)) _
     (rw (handed_on c.from_residual.ensures.1, k) refl)
 
 pub gather_measured-requires : goal.gather_measured-requires
-gather_measured-requires c =
-    inside_near _ (narrow (goal.at.gather_measured-requires c).Start) (sym c.in_ok-measures.ensures.ok_part ∙ c.measure.ensures)
+gather_measured-requires g c =
+    inside_near _ (narrow g (goal.at.gather_measured-requires g c).Start) (sym c.in_ok-measures.ensures.ok_part ∙ c.measure.ensures)
 
 pub returns : goal.returns
-returns c =
-    let s = (goal.at.returns c).Start in
-    stated c.args.sample c.args.n (lent s) (narrow s) _ (gathering_inside _ c.args.n _ _
-    (sym c.in_ok-measures.ensures.ok_part ∙ c.measure.ensures)) _
+returns g c =
+    let s = (goal.at.returns g c).Start in
+    stated g s _ (gathering_inside _ c.args.n _ _ (sym c.in_ok-measures.ensures.ok_part ∙ c.measure.ensures)) _
     (rw (clean c.ranges.n) at c.gather_measured.ensures)
