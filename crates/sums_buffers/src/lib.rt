@@ -2,4 +2,3 @@
 #![tactic(auto)]
 
 pub mod reading;
-pub mod storing;
