@@ -26,7 +26,8 @@ use Rattle.hankboulder.specs.Entries.{gather_stored}
 use Rattle.hankboulder.specs.Meanings.{GatherMeaning}
 
 -- ---- stored and read back
-pub back : (c : Constraint) (b : Lent (List ℕ)) → Whole factor_count c → spelled_sums factor_count (stored_sums factor_count (Ok c) b).sums ≡ c
+pub back : (c : Constraint) (b : Lent (List ℕ)) → Whole factor_count c →
+    spelled_sums factor_count (stored_sums factor_count (Ok c) b).sums ≡ c
 unfolding tabulate numbers_of bytes_of
 back c b w = read-sample bytes_whole c b w
 
