@@ -1,52 +1,35 @@
 -- What hb_gather's number means: the sums that it stores are read back from the buffers as they are left.
-use mathlib.Core.Path.{◌≡◌, refl, sym, ap, ◌∙◌}
+use mathlib.Core.Path.{◌≡◌, refl, ap}
 use mathlib.Core.List.{List}
-use Prim.Native.Nat.{ℕ, ◌*◌, ◌<◌}
+use Prim.Native.Nat.{ℕ, ◌*◌}
 use native.Mathlib.Omega.{arith}
 use lib.IntN.{ℤ, pos, nat_abs}
 use mir.Syntax.{w64}
 use mir.Val.{bytes}
-use Rattle.integers.specs.Numbers.{Within}
-use Rattle.integers.proofs.Machine.{fits_within}
 use Rattle.words.specs.Numbers.{numbers_of, bytes_of}
-use Rattle.tables.specs.Ranges.{entry_range, linear_range}
 use Rattle.tables.specs.Refusals.{refusal_number}
-use Rattle.tables.specs.Matrix.{nth, tabulate}
+use Rattle.tables.specs.Matrix.{tabulate}
+use Rattle.tables.specs.Elements.{bytes_whole}
 use Rattle.tables.specs.Checks.{Checked, order_of}
-use Rattle.tables.specs.Problem.{constraint_of}
 use Rattle.tables.specs.declared.Refusal.{Refusal}
 use Rattle.tables.specs.declared.Refusal.TheVariants as Refused
 use Rattle.tables.specs.declared.problem.Constraint.{Constraint}
 use Rattle.tables.proofs.Answers.{refusal_positive}
-use Rattle.tables.proofs.Buffers.{Small}
-use Rattle.verdict.proofs.Fitting.{sized}
 use Rattle.std.specs.Prelude.{Ok, Err}
 use Rattle.sums.specs.Lent.{Lent, Left, gathered_code}
-use Rattle.sums.proofs.Checked.{within_linear, within-limit, within-tables}
-use Rattle.sums.proofs.Fronts.{constraint_by}
 use Rattle.samples.specs.declared.sample.Sample.{Sample}
+use Rattle.samples.specs.Samples.{factor_count}
 use Rattle.rides.specs.Act.{held_lent, gather_act, Meaning}
-use Rattle.rides.proofs.Stored.{Whole}
-use Rattle.buffers.proofs.Stores.{read-numbers, read_number}
+use Rattle.rides.proofs.Stored.{Whole, read-sample}
 use Rattle.sums_buffers.specs.SumsBuffers.{spelled_sums, stored_sums}
 use Rattle.hankboulder.specs.Entries.{gather_stored}
 use Rattle.hankboulder.specs.Meanings.{GatherMeaning}
 
--- stored and read back
-pub back : (n : ℕ) (c : Constraint) (b : Lent (List ℕ)) → Whole n c → spelled_sums n (stored_sums n (Ok c) b).sums ≡ c
-back n c b w =
-    let t : (k : ℕ) → k < n * n → Within entry_range (nth c.low k) × Within entry_range (nth c.high k) =
-    rw w.order at (within-tables c w.within) in
-    let x : (k : ℕ) → k < n → Within linear_range (nth c.linear.low k) × Within linear_range (nth c.linear.high k) =
-    rw w.order at (within_linear c w.within) in
-    let l : Small (n * n) entry_range c.low = sized w.low (λ k h. (t k h).0) in
-    let u : Small (n * n) entry_range c.high = sized w.high (λ k h. (t k h).1) in
-    let f : Small n linear_range c.linear.low = sized w.linear_low (λ k h. (x k h).0) in
-    let g : Small n linear_range c.linear.high = sized w.linear_high (λ k h. (x k h).1) in
-    constraint_by (read-numbers c.low l.size l.small (omega arith)) (read-numbers c.high u.size u.small (omega arith))
-    (read-numbers c.linear.low f.size f.small (omega arith)) (read-numbers c.linear.high g.size g.small (omega arith))
-    (read_number c.limit (fits_within (within-limit c w.within) (omega arith)))
-    ∙ ap (λ (m : ℕ). constraint_of m c.low c.high c.linear.low c.linear.high c.limit) (sym w.order)
+-- ---- stored and read back
+pub back : (c : Constraint) (b : Lent (List ℕ)) → Whole factor_count c →
+    spelled_sums factor_count (stored_sums factor_count (Ok c) b).sums ≡ c
+unfolding tabulate numbers_of bytes_of
+back c b w = read-sample bytes_whole c b w
 
 -- ---- a refusal's number is not 0
 pub number-nonzero : (r : Refusal) → pos (refusal_number r) ≡ pos 0 → ⊥
