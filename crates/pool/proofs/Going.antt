@@ -30,6 +30,10 @@ module _ {p : ℕ → Constraint} {d₀ : Checked} {s₀ : SumsMut} {k : ℕ} {d
       high = w.high ∙ g.place.high;
       from = w.from ∙ g.place.from;
       to = w.to ∙ g.place.to;
+      low_size = w.low_size ∙ g.place.low_size;
+      high_size = w.high_size ∙ g.place.high_size;
+      from_size = w.from_size ∙ g.place.from_size;
+      to_size = w.to_size ∙ g.place.to_size;
     };
     passed = λ c f. rw add-one
         (stated_by

@@ -1,13 +1,19 @@
 // R27.3 and R27.4 of docs/RULES.md: one pass through the problems, each loaded, checked and then added.
-ghost use Rattle.std.specs.Prelude.{ℕ, ◌≤◌, ◌<◌};
-ghost use Rattle.sums.specs.Running.{sums_in, Roomy, Standing, Leaving, SamePlace};
+ghost use Rattle.std.specs.Prelude.{◌≡◌, ℕ, ◌≤◌, ◌<◌};
+ghost use Rattle.tables.specs.Checks.{first_refusal};
+ghost use Rattle.tables.specs.Answers.{after};
+ghost use Rattle.tables.specs.Problem.{mended_constraint};
+ghost use Rattle.sums.specs.Sums.{own_checks};
+ghost use Rattle.sums.specs.Running.{sums_in, stated_in, Roomy, Standing, Leaving, SamePlace};
 ghost use Rattle.pool.specs.Pool.{greatest_pool, problem_at, problems_of, checked_pool};
-ghost use Rattle.pool.specs.Required.{Sized, Reach};
+ghost use Rattle.pool.specs.Passing.{next};
+ghost use Rattle.pool.specs.Required.{Sized, Reach, ReadyFor};
 ghost use Rattle.pool.specs.Listed.{problems_in};
 
 use crate::lists::Lists;
 use crate::parts::{Listed, load_part};
 use crate::problems::{add_problem, begin};
+use sums::mending::SumsToMend;
 use sums::running::SumsMut;
 use tables::{GREATEST_ORDER, Refusal, TABLE_ROOM};
 
@@ -26,6 +32,51 @@ fn load_problem<E: Listed>(k: usize, lists: &Lists<E>, out: &mut SumsMut)
     let mut limit = [0i64; 1];
     load_part(1, k, lists.limits, &mut limit);
     out.limit = limit[0];
+}
+
+// The checks of the sums, which are mended in place.
+fn begin_sums(sums: &mut SumsMut) -> Result<(), Refusal>
+    requires { Roomy sums.old }
+    ensures place { SamePlace sums.old sums.new }
+    ensures sums { Leaving (after Err (first_refusal (own_checks (sums_in sums.old))) (Ok (mended_constraint (sums_in sums.old))))
+        result sums.new }
+{
+    let from: &mut [i64] = sums.from;
+    let to: &mut [i64] = sums.to;
+    let mut given = SumsToMend {
+        order: sums.order,
+        low: sums.low,
+        high: sums.high,
+        from,
+        to,
+        limit: sums.limit,
+    };
+    begin(&mut given)
+}
+
+// The problem that was loaded last, checked and then added.
+fn add_loaded(
+    problem: &mut SumsMut,
+    done: Result<(), Refusal>,
+    sums: &mut SumsMut,
+) -> Result<(), Refusal>
+    requires { Roomy problem.old × Roomy sums.old × (problem.old.order ≡ sums.old.order) × ReadyFor done sums.old }
+    ensures place { SamePlace sums.old sums.new }
+    ensures sums { Leaving (next (sums_in problem.old) (stated_in done sums.old)) result sums.new }
+    ensures problem { SamePlace problem.old problem.new }
+    ensures rooms { Roomy problem.new }
+{
+    let from: &mut [i64] = problem.from;
+    let to: &mut [i64] = problem.to;
+    let mut given = SumsToMend {
+        order: problem.order,
+        low: problem.low,
+        high: problem.high,
+        from,
+        to,
+        limit: problem.limit,
+    };
+    add_problem(&mut given, done, sums)
 }
 
 // Sums with the problems added to them, in place.
@@ -51,10 +102,10 @@ pub fn pool_all<E: Listed>(
         to: &mut b,
         limit: 0,
     };
-    let mut done = begin(sums);
+    let mut done = begin_sums(sums);
     for k in 0..count {
         load_problem(k, lists, &mut problem);
-        done = add_problem(&mut problem, done, sums);
+        done = add_loaded(&mut problem, done, sums);
     }
     done
 }

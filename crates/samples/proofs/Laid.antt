@@ -5,7 +5,7 @@ use Prim.Native.Nat.{ℕ, ◌*◌}
 use native.Mathlib.Omega.{arith}
 use lib.IntN.{ℤ}
 use lib.ListN.{length}
-use Rattle.tables.specs.Checks.{first_refusal}
+use Rattle.tables.specs.Checks.{Checked, first_refusal}
 use Rattle.tables.specs.Problem.{constraint_of, mended_constraint}
 use Rattle.tables.specs.declared.Refusal.{Refusal}
 use Rattle.std.specs.Prelude.{Ok, Err}
@@ -13,10 +13,11 @@ use Rattle.tables.specs.declared.problem.Constraint.{Constraint}
 use Rattle.tables.proofs.Matrix.{length-tabulate, length-table}
 use Rattle.tables.proofs.Answers.{after-refused, after-passed}
 use Rattle.floats.specs.declared.Neighbours.{Neighbours}
-use Rattle.sums.specs.Sums.{own_checks, sums_within}
+use Rattle.sums.specs.Sums.{Outcome, own_checks, sums_within}
 use Rattle.sums.specs.Halving.{fitted}
-use Rattle.sums.specs.Required.{sums_at, Rooms, Ranged}
+use Rattle.sums.specs.Required.{sums_at, Rooms, Ranged, Stated}
 use Rattle.sums.proofs.Fronts.{front-whole, constraint_by}
+use Rattle.sums.proofs.Laying.{stated_by}
 use Rattle.samples.specs.declared.sample.Measures.{Measures}
 use Rattle.samples.specs.Samples.{factor_count, factor_of}
 use Rattle.samples.specs.Gains.{gains}
@@ -72,3 +73,9 @@ module _ (F : ℕ → Neighbours) (D : Neighbours) (c : Constraint) where
       fitted g d ≡ checked_sums F D c
   unfolding checked_sums
   sums-added e f h = ap₂ fitted f h ∙ after-passed Err (added_within F D c) e
+
+-- what is added to sums whose bounds were lent on and came back
+pub added_where : (g : Constraint) (a b : List ℤ) (α : ℤ) {o : Outcome} {r : Checked} {l u l' u' x y z w : List ℤ} {β : ℤ} →
+    Stated factor_count (fitted g (sums_at factor_count l' u' a b α)) r x y z w β → l' ≡ l → u' ≡ u →
+    fitted g (sums_at factor_count l u a b α) ≡ o → Stated factor_count o r x y z w β
+added_where g a b α st e f h = stated_by (ap₂ (λ (l u : List ℤ). fitted g (sums_at factor_count l u a b α)) e f ∙ h) st

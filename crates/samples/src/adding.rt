@@ -14,6 +14,7 @@ use floats::Neighbours;
 use integers::{greater, smaller};
 use sums::adding::add_fitted;
 use sums::checking::mend_sums;
+use sums::mending::SumsToMend;
 use sums::running::{SumsMut, SumsRef};
 use tables::{LIMIT_RANGE, Refusal, within};
 
@@ -110,7 +111,17 @@ pub fn add_checked(m: Measures, sums: &mut SumsMut) -> Result<(), Refusal>
     ensures sums { Leaving (checked_sums (factor_of m) m.draw (sums_in sums.old)) result sums.new }
 {
     let within = within(sums.limit, LIMIT_RANGE);
-    mend_sums(sums, within)?;
+    let from: &mut [i64] = sums.from;
+    let to: &mut [i64] = sums.to;
+    let mut given = SumsToMend {
+        order: sums.order,
+        low: sums.low,
+        high: sums.high,
+        from,
+        to,
+        limit: sums.limit,
+    };
+    mend_sums(&mut given, within)?;
     let mut l = [0i64; PRODUCT_COUNT];
     let mut u = [0i64; PRODUCT_COUNT];
     let mut a = [0i64; FACTOR_COUNT];

@@ -12,7 +12,7 @@ use Rattle.std.specs.Prelude.{Ok, Err}
 use Rattle.tables.specs.Checks.{Checked}
 use Rattle.sums.specs.Sums.{Outcome}
 use Rattle.sums.specs.Lent.{Lent, Left, laid_sums}
-use Rattle.sums.specs.Required.{front, stated, Stated}
+use Rattle.sums.specs.Required.{front, Ranged, stated, Stated}
 
 -- ---- a buffer of one number that is written
 pub set-one : (x : List ℤ) (v : ℤ) → length x ≡ 1 → set x 0 v ≡ tabulate 1 (λ i. v)
@@ -25,6 +25,14 @@ set-one (y ∷ z ∷ x) v e = absurd (omega (arith, e))
 pub stated_by : {n : ℕ} {o o' : Outcome} {r : Checked} {l u a b : List ℤ} {α : ℤ} → o ≡ o' → Stated n o r l u a b α →
     Stated n o' r l u a b α
 stated_by e st = record { outcome = sym e ∙ st.outcome; rooms = st.rooms }
+
+-- of bounds that were lent on and came back
+pub stated_where : {n : ℕ} {o : Outcome} {r : Checked} {l u a b l' u' : List ℤ} {α : ℤ} → l' ≡ l → u' ≡ u → Stated n o r l u a b α →
+    Stated n o r l' u' a b α
+stated_where e f st = rw (e, f) st
+
+pub ranged_where : {n : ℕ} {l u a b l' u' : List ℤ} {α : ℤ} → l' ≡ l → u' ≡ u → Ranged n l u a b α → Ranged n l' u' a b α
+ranged_where e f w = rw (e, f) w
 
 module _ {A : Type 0} (T X : List ℤ → A) (N : ℤ → A) {n : ℕ} {o : Outcome} {l u a b : List ℤ} {α : ℤ} (lent : Lent A) where
   pub laid-taken : {l' u' a' b' α' : A} → Stated n o (Ok tt) l u a b α → l' ≡ T (front (n * n) l) → u' ≡ T (front (n * n) u) →

@@ -4,3 +4,4 @@ pub mod Lent
 pub mod Explaining
 pub mod Required
 pub mod Running
+pub mod Mending

@@ -1,5 +1,5 @@
 -- Running sums in slices, lent for writing or to be read, by the constraint that stands there.
-use Rattle.std.specs.Prelude.{◌≡◌, ◌++◌, ℕ, ◌*◌, ◌≤◌, take, drop}
+use Rattle.std.specs.Prelude.{◌≡◌, ◌++◌, ℕ, ◌*◌, ◌≤◌, length, take, drop}
 use Rattle.tables.specs.Ranges.{greatest_order}
 use Rattle.tables.specs.Checks.{Checked}
 use Rattle.tables.specs.declared.problem.Constraint.{Constraint}
@@ -24,19 +24,17 @@ InRanges s = (s.order ≤ greatest_order) × Ranged s.order s.low.now s.high.now
 abbrev pub Standing : Constraint → SumsMut → Type 0
 Standing c s = Sums c s.order s.low.now s.high.now s.from.now s.to.now s.limit
 
--- the order and the slices are the same
+-- the order and the slices are the same, and each slice keeps its length
 pub record SamePlace (s t : SumsMut) : Type 0 where
   pub order : t.order ≡ s.order
   pub low : t.low.ghost_name ≡ s.low.ghost_name
   pub high : t.high.ghost_name ≡ s.high.ghost_name
   pub from : t.from.ghost_name ≡ s.from.ghost_name
   pub to : t.to.ghost_name ≡ s.to.ghost_name
-
--- the linear terms and the running limit are kept
-pub record SameTerms (s t : SumsMut) : Type 0 where
-  pub from : t.from.now ≡ s.from.now
-  pub to : t.to.now ≡ s.to.now
-  pub limit : t.limit ≡ s.limit
+  pub low_size : length t.low.now ≡ length s.low.now
+  pub high_size : length t.high.now ≡ length s.high.now
+  pub from_size : length t.from.now ≡ length s.from.now
+  pub to_size : length t.to.now ≡ length s.to.now
 
 -- what an answer says of the sums there
 abbrev pub stated_in : Checked → SumsMut → Outcome

@@ -5,9 +5,11 @@ ghost use Rattle.tables.specs.Checks.{first_refusal, linear_within};
 ghost use Rattle.tables.specs.Entering.{Mended};
 ghost use Rattle.tables.specs.Problem.{constraint_of};
 ghost use Rattle.sums.specs.Sums.{sums_checks};
-ghost use Rattle.sums.specs.Running.{Roomy, BehindRoomy, SamePlace, SameTerms};
+ghost use Rattle.sums.specs.Running.{BehindRoomy};
+ghost use Rattle.sums.specs.Mending.{RoomToMend, SameBounds, SameTerms};
 
-use crate::running::{SumsMut, SumsRef};
+use crate::mending::SumsToMend;
+use crate::running::SumsRef;
 use tables::bounded::Handed;
 use tables::mending::mend_bounds;
 use tables::{Refusal, check_bounds, check_ends, linear_within};
@@ -35,18 +37,16 @@ pub fn check_sums(n: usize, limits: bool, sums: SumsRef) -> Result<(), Refusal>
     check_ends(n, sums.from, sums.to)
 }
 
-// The same checks of sums that are lent for writing, and where they pass the bounds mended in place (R2.10).
-pub fn mend_sums(sums: &mut SumsMut, limits: bool) -> Result<(), Refusal>
-    requires { Roomy sums.old }
-    ensures place { SamePlace sums.old sums.new }
+// The same checks of sums whose bounds are lent for writing, and where they pass the bounds mended in place (R2.10).
+pub fn mend_sums(sums: &mut SumsToMend, limits: bool) -> Result<(), Refusal>
+    requires { RoomToMend sums.old }
+    ensures place { SameBounds sums.old sums.new }
     ensures kept { SameTerms sums.old sums.new }
     ensures mended { Mended (sums_checks limits (constraint_of sums.old.order sums.old.low.now sums.old.high.now sums.old.from.now
         sums.old.to.now (pos 0))) sums.old.order sums.old.low.now sums.old.high.now result sums.new.low.now sums.new.high.now }
 {
     let n = sums.order;
-    let given = sums.view();
-    let terms = terms_in(n, limits, given.from, given.to);
+    let terms = terms_in(n, limits, sums.from, sums.to);
     mend_bounds(n, terms, sums.low, sums.high)?;
-    let mended = sums.view();
-    check_ends(n, mended.from, mended.to)
+    check_ends(n, sums.from, sums.to)
 }

@@ -5,4 +5,5 @@ pub mod adding;
 pub mod checking;
 pub mod copying;
 pub mod halving;
+pub mod mending;
 pub mod running;

@@ -6,12 +6,9 @@ use Rattle.sums.proofs.checking.mend_sums.Goals as goal
 pub returns-in_err-mend_bounds-clause-mended : goal.returns-in_err-mend_bounds-clause-mended
 unfolding after
 returns-in_err-mend_bounds-clause-mended c =
-    let v = c.view-given.ensures in
-    mended_both _ _ (rw (c.terms_in-terms.ensures, v.from, v.to) at c.in_err-mend_bounds.ensures) (handed_on c.from_residual.ensures.1)
+    mended_both _ _ (rw c.terms_in-terms.ensures at c.in_err-mend_bounds.ensures) (handed_on c.from_residual.ensures.1)
 
 pub returns-clause-mended : goal.returns-clause-mended
 unfolding after
 returns-clause-mended c =
-    let v = c.view-given.ensures in
-    let w = c.view-mended.ensures in
-    mended_both _ _ (rw (c.terms_in-terms.ensures, v.from, v.to) at c.in_ok-mend_bounds.ensures) (rw (w.from, w.to) at c.check_ends.ensures)
+    mended_both _ _ (rw c.terms_in-terms.ensures at c.in_ok-mend_bounds.ensures) c.check_ends.ensures
