@@ -1,8 +1,7 @@
 -- Both tables scaled, by a scale that is read from its array.
 use mathlib.Core.Path.{◌≡◌, sym, ap, ap₂, ◌∙◌}
-use mathlib.Core.Bool.{Bool, true, false}
+use mathlib.Core.Bool.{Bool, true, false, false≢true}
 use mathlib.Core.List.{List}
-use Rattle.std.proofs.Common.{Some, None}
 use Prim.Native.Nat.{ℕ, ◌+◌, ◌*◌, ◌^◌, ◌<◌}
 use native.Mathlib.Omega.{arith}
 use lib.IntN.{ℤ, pos, ◌*ℤ◌}
@@ -11,11 +10,10 @@ use Rattle.tables.specs.Ranges.{table_room, entry_range}
 use Rattle.tables.specs.Matrix.{Matrix, at}
 use Rattle.tables.specs.Checks.{within}
 use Rattle.tables.specs.Bounds.{Bounds, CheckedTables}
-use Rattle.tables.specs.Entering.{Rooms}
 use Rattle.tables.proofs.Checks.{and_first_false, all_ext}
 use Rattle.tables.proofs.Matrix.{inside, table_fits}
 use Rattle.scaling.specs.Scaling.{exponents, rescaled, scaled_low, scaled_high, entries_within, scaled_within}
-use Rattle.scaling.specs.Scratch.{scale_in, Scale, Rescaling, Scaling}
+use Rattle.scaling.specs.Scratch.{scale_in, Scale, Rescaling, ScaledTables}
 use Rattle.scaling.proofs.Scales.{scale-read}
 use Rattle.scaling.proofs.Scaled.{rescaled-bounds}
 
@@ -53,52 +51,38 @@ module _ {n : ℕ} {l₀ u₀ : List ℤ} (c : CheckedTables n l₀ u₀) {x : L
   low-stays = a.answered ∙ entries_ext (scale-read s) L
 
   -- the low table does not stay inside
-  pub low_leaves : p ≡ false → length u₀ ≡ table_room → Scaling n L U None l u₀
+  pub low_leaves : p ≡ false → length u₀ ≡ table_room → ScaledTables n L U false l u₀ x
   unfolding scaled_within
   low_leaves e z = record {
     answered = sym (and_first_false _ (sym low-stays ∙ e));
+    scale = s;
     rooms = record { low-size = a.size; high-size = z };
-    scaled = tt;
+    tables = λ q. absurd (false≢true q);
+    low = λ q. absurd (false≢true q);
+    high = λ q. absurd (false≢true q);
   }
 
   -- it stays, and so the answer is the high table's
-  module _ (e : p ≡ true) {u : List ℤ} {r : Bool}
-      (b : Rescaling n (scale_in x) U 0 (n * n) (entries_within n (rescaled (scale_in x) U)) r u) where
-    low-true : entries_within n (scaled_low L U) ≡ true
-    low-true = sym low-stays ∙ e
-
-    high-stays : r ≡ entries_within n (scaled_high U)
-    high-stays = b.answered ∙ entries_ext (scale-read s) U
-
-    stays : r ≡ scaled_within n L U
-    unfolding scaled_within
-    stays = high-stays ∙ rw low-true
-
-    rooms : Rooms l u
-    rooms = record { low-size = a.size; high-size = b.size }
-
-    pub high_leaves : r ≡ false → Scaling n L U None l u
-    high_leaves q = record { answered = sym q ∙ stays; rooms = rooms; scaled = tt }
-
-    low_same : (i j : ℕ) → i < n → j < n → at n l i j ≡ scaled_low L U i j
-    low_same i j h m = (a.part e).scaled i j m (omega arith) (inside h m) ∙ rescaled_ext (scale-read s) L i j h m
-
-    high_same : r ≡ true → (i j : ℕ) → i < n → j < n → at n u i j ≡ scaled_high U i j
-    high_same q i j h m = (b.part q).scaled i j m (omega arith) (inside h m) ∙ rescaled_ext (scale-read s) U i j h m
-
-    pub both_scaled : r ≡ true → Scaling n L U (Some x) l u
-    both_scaled q = record {
-      answered = sym q ∙ stays;
-      rooms = rooms;
-      scaled = record {
+  pub both_scaled : p ≡ true → {u : List ℤ} {r : Bool} →
+      Rescaling n (scale_in x) U 0 (n * n) (entries_within n (rescaled (scale_in x) U)) r u → ScaledTables n L U r l u x
+  unfolding scaled_within
+  both_scaled e {u} {r} b =
+      let low-true = sym low-stays ∙ e in
+      let low_same : (i j : ℕ) → i < n → j < n → at n l i j ≡ scaled_low L U i j =
+      λ i j h m. (a.part e).scaled i j m (omega arith) (inside h m) ∙ rescaled_ext (scale-read s) L i j h m in
+      let high_same : r ≡ true → (i j : ℕ) → i < n → j < n → at n u i j ≡ scaled_high U i j =
+      λ q i j h m. (b.part q).scaled i j m (omega arith) (inside h m) ∙ rescaled_ext (scale-read s) U i j h m in
+      let answer : r ≡ entries_within n (scaled_high U) = b.answered ∙ entries_ext (scale-read s) U in
+      record {
+        answered = answer ∙ rw low-true;
         scale = s;
-        tables = record {
+        rooms = record { low-size = a.size; high-size = b.size };
+        tables = λ q. record {
           order = c.order;
           low-length = omega (arith, a.size, table_fits c.order);
           high-length = omega (arith, b.size, table_fits c.order);
-          bounds = bounds_ext low_same (high_same q) (rescaled-bounds n (exponents U) c.bounds low-true (sym high-stays ∙ q));
+          bounds = bounds_ext low_same (high_same q) (rescaled-bounds n (exponents U) c.bounds low-true (sym answer ∙ q));
         };
-        low = low_same;
-        high = high_same q;
-      };
-    }
+        low = λ q. low_same;
+        high = high_same;
+      }

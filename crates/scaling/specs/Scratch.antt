@@ -1,6 +1,5 @@
 -- What the code of the scaling asks and leaves.
-use Rattle.std.specs.Prelude.{◌≡◌, Bool, true, Option, is_some, IfSome, List, ℕ, ◌+◌, ◌*◌, ◌≤◌, ◌<◌}
-use Rattle.std.specs.Prelude.{ℤ, pos, nat_abs, ◌≤ℤ◌, length}
+use Rattle.std.specs.Prelude.{◌≡◌, Bool, true, List, ℕ, ◌+◌, ◌*◌, ◌≤◌, ◌<◌, ℤ, pos, nat_abs, ◌≤ℤ◌, length}
 use Rattle.integers.specs.Numbers.{Within}
 use Rattle.tables.specs.Ranges.{greatest_order, table_room, entry_range}
 use Rattle.tables.specs.Matrix.{Matrix, at, nth}
@@ -41,16 +40,11 @@ pub record Rescaling (n : ℕ) (k : ℕ → ℕ) (M : Matrix) (a b : ℕ) (stay 
   pub size : length t ≡ table_room
   pub part : r ≡ true → Part n k M a b t
 
--- bounds L and U scaled, in l and u, and their scale in x
-pub record ScaledTables (n : ℕ) (L U : Matrix) (l u x : List ℤ) : Type 0 where
+-- the answer r whether all entries of bounds L and U, scaled, are inside of ±2^20, the scale in x, and if so the scaled tables in l and u
+pub record ScaledTables (n : ℕ) (L U : Matrix) (r : Bool) (l u x : List ℤ) : Type 0 where
+  pub answered : r ≡ scaled_within n L U
   pub scale : Scale (exponents U) n x
-  pub tables : CheckedTables n l u
-  pub low : (i j : ℕ) → i < n → j < n → at n l i j ≡ scaled_low L U i j
-  pub high : (i j : ℕ) → i < n → j < n → at n u i j ≡ scaled_high U i j
-
--- the answer r is the scale of bounds L and U where all their entries, scaled, are inside of ±2^20, and then the scaled tables are in l
--- and u
-pub record Scaling (n : ℕ) (L U : Matrix) (r : Option (List ℤ)) (l u : List ℤ) : Type 0 where
-  pub answered : is_some r ≡ scaled_within n L U
   pub rooms : Rooms l u
-  pub scaled : IfSome r (ScaledTables n L U l u)
+  pub tables : r ≡ true → CheckedTables n l u
+  pub low : r ≡ true → (i j : ℕ) → i < n → j < n → at n l i j ≡ scaled_low L U i j
+  pub high : r ≡ true → (i j : ℕ) → i < n → j < n → at n u i j ≡ scaled_high U i j

@@ -7,7 +7,7 @@ ghost use Rattle.tables.specs.Checks.{all, within};
 ghost use Rattle.tables.specs.Bounds.{CheckedTables};
 ghost use Rattle.tables.specs.Entering.{Rooms};
 ghost use Rattle.scaling.specs.Scaling.{rescaled, entries_within};
-ghost use Rattle.scaling.specs.Scratch.{Exponent, scale_in, Scale, InRange, Rescaling, Scaling};
+ghost use Rattle.scaling.specs.Scratch.{Exponent, scale_in, Scale, InRange, Rescaling, ScaledTables};
 
 use crate::exponents::{find_scale, power};
 use tables::bounded::Bounded;
@@ -51,19 +51,18 @@ fn scale_table(n: usize, x: &Vector, t: &mut Table) -> Option<()>
     Some(())
 }
 
-// The scale of bounds of order n, and their tables scaled in their place; nothing where an entry leaves ±2^20, and what is left in the
-// tables is then of no use.
-pub fn scale_tables(n: usize, low: &mut Table, high: &mut Table) -> Option<Vector>
+// The scale of bounds of order n, and their tables scaled in their place; nothing where an entry leaves ±2^20. The scale is written then
+// too, and what is left in the tables is of no use.
+pub fn scale_tables(n: usize, low: &mut Table, high: &mut Table, scale: &mut Vector) -> Option<()>
     requires { CheckedTables n low.old high.old × Rooms low.old high.old }
-    ensures { Scaling n (at n low.old) (at n high.old) result low.new high.new }
+    ensures { ScaledTables n (at n low.old) (at n high.old) (is_some result) low.new high.new scale.new }
 {
     let bounds = Bounded {
         order: n,
         low: &*low,
         high: &*high,
     };
-    let scale = find_scale(bounds);
-    scale_table(n, &scale, low)?;
-    scale_table(n, &scale, high)?;
-    Some(scale)
+    *scale = find_scale(bounds);
+    scale_table(n, scale, low)?;
+    scale_table(n, scale, high)
 }
