@@ -26,7 +26,7 @@ use Rattle.tables.proofs.Matrix.{at_table}
 use Rattle.tables.proofs.Checks.{and_left, and_right, and_of, sizes-of}
 use Rattle.cholesky.specs.Scale.{scale}
 use Rattle.residual.specs.Residual.{residual, radius, row_passes, rows_pass, accepts, least_over, over}
-use Rattle.residual.specs.FactorTest.{check_factor, tested, factor_answer, factor_tested, factor_lengths, factor_act, factor_test}
+use Rattle.residual.specs.FactorTest.{check_factor, tested, factor_answer, factor_tested, factor_sizes, factor_act, factor_test}
 use Rattle.residual.specs.declared.factor_test.FactorAnswer.{FactorAnswer}
 use Rattle.residual.specs.ResidualAct.{Tabled, kept, tables, tabled, tabling, residual_sizes, residual_act}
 use Rattle.residual.proofs.Rows.{rows_ext, least-over_ext}
@@ -94,7 +94,7 @@ pub acts_in_order : (n : ℤ) (l u f a b : List ℤ) → length a ≡ order_of n
     factor_test n l u f ≡ then_rows (order_of n) (residual_act n l u f a b)
 unfolding factor_test factor_act residual_act
 acts_in_order n l u f a b p q =
-    in_order n (factor_lengths (λ k. k) (order_of n) l u f) l u f a b
+    in_order n (factor_sizes (order_of n) (length l) (length u) (length f)) l u f a b
     ∙ ap (λ (z : Bool). then_rows (order_of n) (tabling n z l u f a b))
     (lent-sized (order_of n * order_of n) (length l) (length u) (length f) (length a) (length b) p q)
 

@@ -52,11 +52,11 @@ factor_tested n sized l u f =
 
 -- 2, R4.2: each lent table has the size that belongs to n
 abbrev pub factor_sizes : ℕ → ℕ → ℕ → ℕ → Bool
-factor_sizes table = sizes_ok table table
+factor_sizes n = sizes_ok (n * n) (n * n)
 
 -- the same of buffers, where `taken` says how many elements so many numbers take
 abbrev pub factor_lengths : {A : Type 0} → (ℕ → ℕ) → ℕ → List A → List A → List A → Bool
-factor_lengths taken n l u f = factor_sizes (taken (n * n)) (length l) (length u) (length f)
+factor_lengths taken n l u f = sizes_ok (taken (n * n)) (taken (n * n)) (length l) (length u) (length f)
 
 -- the factor test of the numbers that buffers hold, where check 2 finds `sized`
 unfoldable pub factor_act : {A : Type 0} → (List A → ℕ → List ℤ) → ℤ → Bool → List A → List A → List A → Result FactorAnswer Refusal
@@ -66,7 +66,7 @@ factor_act numbers n sized l u f =
 
 -- of numbers themselves, of anything at all
 unfoldable pub factor_test : ℤ → List ℤ → List ℤ → List ℤ → Result FactorAnswer Refusal
-factor_test n l u f = factor_act (λ x k. x) n (factor_lengths (λ k. k) (order_of n) l u f) l u f
+factor_test n l u f = factor_act (λ x k. x) n (factor_sizes (order_of n) (length l) (length u) (length f)) l u f
 
 -- R15.4: the number at the C entry, 0, -1, or the refusal's
 abbrev pub factor_number : FactorAnswer → ℤ

@@ -99,6 +99,9 @@ pub fn test_factor_among<E: Element>(
     let table = E::taken(m * m);
     let own = tables::sizes_ok(table, table, low.len(), high.len(), factor.len());
     let sized = own && others;
+    if !sized {
+        return Err(Refusal::Length);
+    }
     let mut l = [0i64; TABLE_ROOM];
     let mut u = [0i64; TABLE_ROOM];
     enter(n, sized, true, low, high, &mut l, &mut u)?;

@@ -14,7 +14,7 @@ use Rattle.tables.specs.declared.Refusal.{Refusal}
 use Rattle.tables.proofs.Checks.{sizes-of, and_left, and_by}
 use Rattle.tables.proofs.Answers.{exactly, handed_on}
 use Rattle.tables.proofs.Admission.{Padded, loaded, loaded_room, padded-at, order_fits, order-positive}
-use Rattle.tables.proofs.Admission.{no-order, order-passed, order-refused, came-through, entered-refused, entered-passed}
+use Rattle.tables.proofs.Admission.{no-order, no-sizes, order-passed, order-refused, came-through, entered-refused, entered-passed}
 use Rattle.residual.specs.FactorTest.{factor_lengths, factor_tested, factor_act, Meaning}
 use Rattle.residual.specs.declared.factor_test.FactorAnswer.{FactorAnswer}
 use Rattle.residual.proofs.Meaning.{tested-means}
@@ -76,6 +76,13 @@ overflow_mul-m g c = record { fits = omega (arith, order_fits _ (order-passed c.
 
 pub taken-table-requires : goal.taken-table-requires
 taken-table-requires g c = omega (arith, order_fits _ (order-passed c.ranges.n c.in_ok-m.ensures).0)
+
+pub returns-then-not-sized : goal.returns-then-not-sized
+unfolding factor_act factor_tested
+returns-then-not-sized g c =
+    let o = (order-passed c.ranges.n c.in_ok-m.ensures).1 in
+    let e = sym (found g (goal.at.returns-then-not-sized g c).Joined-own) ∙ c.if-not-sized.true in
+    means g (goal.at.returns-then-not-sized g c).Start _ (no-sizes _ _ _ _ _ Err _ (λ z. omega (arith, z, order-positive _ o)) e)
 
 pub enter-requires : goal.enter-requires
 enter-requires g c = (
