@@ -53,6 +53,9 @@ pub fn test_vector<E: Element>(n: i64, low: &[E], high: &[E], x: &[E]) -> Result
     let table = E::taken(m * m);
     let vector = E::taken(m);
     let sized = tables::sizes_ok(table, vector, low.len(), high.len(), x.len());
+    if !sized {
+        return Err(Refusal::Length);
+    }
     let mut l = [0i64; TABLE_ROOM];
     let mut u = [0i64; TABLE_ROOM];
     enter(n, sized, true, low, high, &mut l, &mut u)?;

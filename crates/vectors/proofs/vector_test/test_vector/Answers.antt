@@ -14,7 +14,7 @@ use Rattle.tables.specs.declared.Refusal.{Refusal}
 use Rattle.tables.proofs.Checks.{sizes-of}
 use Rattle.tables.proofs.Answers.{exactly, handed_on}
 use Rattle.tables.proofs.Admission.{loaded, padded-nth, order_small, order_fits}
-use Rattle.tables.proofs.Admission.{no-order, order-passed, order-refused, came-through, entered-refused, entered-passed}
+use Rattle.tables.proofs.Admission.{no-order, no-sizes, order-positive, order-passed, order-refused, came-through, entered-refused, entered-passed}
 use Rattle.vectors.specs.VectorTest.{vector_sizes, vector_tested, vector_act, Meaning}
 use Rattle.vectors.proofs.Answers.{tested-means}
 use Rattle.vectors.proofs.vector_test.test_vector.Given.{Over}
@@ -72,6 +72,13 @@ taken-table-requires g c = omega (arith, order_fits _ (order-passed c.ranges.n c
 
 pub taken-vector-requires : goal.taken-vector-requires
 taken-vector-requires g c = omega (arith, order_small c.args.n, (order-passed c.ranges.n c.in_ok-m.ensures).0)
+
+pub returns-then-not-sized : goal.returns-then-not-sized
+unfolding vector_act vector_tested
+returns-then-not-sized g c =
+    let o = (order-passed c.ranges.n c.in_ok-m.ensures).1 in
+    let e = sym (sized g (goal.at.returns-then-not-sized g c).After-sizes_ok-sized) ∙ c.if-not-sized.true in
+    means g (goal.at.returns-then-not-sized g c).Start _ (no-sizes _ _ _ _ _ Err _ (λ z. omega (arith, z, order-positive _ o)) e)
 
 pub enter-requires : goal.enter-requires
 enter-requires g c = (
