@@ -29,7 +29,7 @@ use Rattle.solved.specs.Stopped.{stopped_at}
 use Rattle.solved.proofs.Stops.{stopped-at}
 use Rattle.verdict.specs.FactorTable.{Written}
 use Rattle.verdict.specs.Judge.{Judgement, definite, listed, shown_by, definite_by, judged, judge_sizes}
-use Rattle.verdict.specs.Deciding.{stated, shown_decision}
+use Rattle.verdict.specs.Deciding.{stated, shown_decision, Decided}
 use Rattle.verdict.specs.declared.judge.Decision.{Decision}
 use Rattle.verdict.proofs.Writing.{triangle-entries}
 
@@ -101,6 +101,11 @@ module _ (n : ℕ) (L U : Matrix) (t f : List ℤ) where
       answered n r ≡ first passes (tried n ++ (solved n (stopped_at t j m) (pos 1) ++ solved n (stopped_at t j m) (pos 64))) →
       {w : Decision} → w ≡ shown_decision r → judged n L U ≡ stated n w f
   decided_shown s r a e = found-is s r a ∙ shown-stated r ∙ ap (λ (w : Decision). stated n w f) (sym e)
+
+-- ---- what is made of a judgement is made of what the code states
+pub made_of : {A : Type 0} (P : Judgement → A) {g : Judgement} {n : ℕ} {r : Decision} {f₀ f : List ℤ} → Decided g n r f₀ f →
+    (s : Decision) → r ≡ s → P (stated n s f) ≡ P g
+made_of P {n = n} {f = f} d s q = sym (ap P (d.verdict ∙ ap (λ (r : Decision). stated n r f) q))
 
 -- ---- checks 1 and 2 passed
 pub judge-sizes-of : (size entries l u f v : ℕ) → judge_sizes size entries l u f v ≡ true →

@@ -118,7 +118,7 @@ fn judge_bounds<E: Element>(
 
 // Whether the buffers of a call have their sizes: that of a table, or that of a vector.
 #[tactic(auto, unfolding(crate::specs::Judge::judge_sizes))]
-fn sizes_ok(
+pub fn sizes_ok(
     table: usize,
     entries: usize,
     low: usize,
@@ -161,6 +161,9 @@ pub fn judge_among<E: Element>(
         vector.len(),
     );
     let sized = own && others;
+    if !sized {
+        return Err(Refusal::Length);
+    }
     let mut l = [0i64; TABLE_ROOM];
     let mut u = [0i64; TABLE_ROOM];
     enter(n, sized, true, low, high, &mut l, &mut u)?;

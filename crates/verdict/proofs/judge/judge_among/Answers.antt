@@ -10,7 +10,7 @@ use Rattle.tables.specs.Entering.{Entered}
 use Rattle.tables.proofs.Checks.{and_left, and_by}
 use Rattle.tables.proofs.Answers.{exactly, handed_on}
 use Rattle.tables.proofs.Admission.{order_small, order_fits, order-positive, order-passed, order-refused}
-use Rattle.tables.proofs.Admission.{no-order, came-through, entered-refused, entered-passed}
+use Rattle.tables.proofs.Admission.{no-order, no-sizes, came-through, entered-refused, entered-passed}
 use Rattle.verdict.specs.Judge.{Judgement, refused, Judged, stored, judge_lengths, judging, judge_act, Meaning}
 use Rattle.verdict.proofs.Decisions.{judge-sizes-of}
 use Rattle.verdict.proofs.Meanings.{act-means}
@@ -78,6 +78,14 @@ taken-table-requires g c = omega (arith, order_fits _ (order-passed c.ranges.n c
 
 pub taken-entries-requires : goal.taken-entries-requires
 taken-entries-requires g c = omega (arith, order_small c.args.n, (order-passed c.ranges.n c.in_ok-m.ensures).0)
+
+pub returns-then-not-sized : goal.returns-then-not-sized
+unfolding judge_act judging
+returns-then-not-sized g c =
+    let o = (order-passed c.ranges.n c.in_ok-m.ensures).1 in
+    let e = sym (found g (goal.at.returns-then-not-sized g c).Joined-own) ∙ c.if-not-sized.true in
+    let s = (goal.at.returns-then-not-sized g c).Start in
+    means g s _ (ap (given g s) (no-sizes _ _ _ _ _ refused _ (λ z. omega (arith, z, order-positive _ o)) e))
 
 pub enter-requires : goal.enter-requires
 enter-requires g c = (
