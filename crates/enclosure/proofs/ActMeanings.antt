@@ -47,11 +47,11 @@ module _ {A : Type 0} {taken : ℕ → ℕ} {numbers : List A → ℕ → List �
     fitting =
         boxing_fitting n sized _ _ _ _ α _ (λ e.
         let z = box_sizes-of _ _ _ _ _ e in (
-          whole.numbers_whole l (k * k) z.low,
-          whole.numbers_whole u (k * k) z.high,
-          whole.numbers_whole a k z.linear_low,
-          whole.numbers_whole b k z.linear_high,
-          whole.numbers_whole c k z.centre,
+          omega (arith, whole.numbers_whole l (k * k) z.low),
+          omega (arith, whole.numbers_whole u (k * k) z.high),
+          omega (arith, whole.numbers_whole a k z.linear_low),
+          omega (arith, whole.numbers_whole b k z.linear_high),
+          omega (arith, whole.numbers_whole c k z.centre),
         ))
 
     means : let j = laid k s box in

@@ -131,9 +131,9 @@ module _ {n : ℕ} {l u a b c : List ℤ} (q : CheckedTables n l u) (r : LinearT
           (sym (box_near n L U (ends_of a b) α (nth c) e (nth g) gradients-filled.entries f (step_at n L U) (λ k h. refl)))
           (box_of_fitting (ready_of q r (one_of (step n L U) e) gradients-filled f w) (step_at n L U))
 
--- where check 2 passes, the lists have the numbers of their order
+-- where check 2 passes, the lists have at least the numbers of their order
 pub boxing_fitting : (n : ℤ) (sized : Bool) (l u a b : List ℤ) (α : ℤ) (c : List ℤ) → (let k = order_of n in
-    (sized ≡ true → (length l ≡ k * k) × (length u ≡ k * k) × (length a ≡ k) × (length b ≡ k) × (length c ≡ k)) →
+    (sized ≡ true → (k * k ≤ length l) × (k * k ≤ length u) × (k ≤ length a) × (k ≤ length b) × (k ≤ length c)) →
     Fitting k (boxing n sized (problem_of k l u a b α c)))
 unfolding boxing problem_box
 boxing_fitting n sized l u a b α c h =
@@ -142,9 +142,9 @@ boxing_fitting n sized l u a b α c h =
     (λ d. let e = h d.sizes in
     boxed_fitting (record {
       order = order_small n;
-      low-length = omega (arith, mended-length max_ℤ k l (omega (arith, e.0)));
-      high-length = omega (arith, mended-length min_ℤ k u (omega (arith, e.1)));
+      low-length = omega (arith, mended-length max_ℤ k l e.0);
+      high-length = omega (arith, mended-length min_ℤ k u e.1);
       bounds = passed-bounds k l u d.tables;
     })
-    (centre-terms k a b α c d.within (order_small n) (omega (arith, e.2)) (omega (arith, e.3)) (omega (arith, e.4)))
+    (centre-terms k a b α c d.within (order_small n) e.2 e.3 e.4)
     (limit-within k a b α c d.within))

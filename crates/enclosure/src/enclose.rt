@@ -80,7 +80,7 @@ fn enclose_centred<E: Element>(
 }
 
 // Whether the buffers of a call have their sizes: those of the constraint, the centre of a vector, and the sides of so many pairs.
-fn box_sized(sizes: Sizes, pairs: usize, lengths: Lengths, centre: usize, sides: usize) -> bool
+pub fn box_sized(sizes: Sizes, pairs: usize, lengths: Lengths, centre: usize, sides: usize) -> bool
     ensures { result ≡ box_sizes sizes pairs lengths centre sides }
 {
     let vector = sizes.vector;
@@ -126,6 +126,9 @@ pub fn enclose<E: Element>(
     let pairs = E::taken(m + m);
     let lengths = lengths_of(low.len(), high.len(), from.len(), to.len());
     let sized = box_sized(sizes, pairs, lengths, centre.len(), sides.len());
+    if !sized {
+        return Err(Refusal::Length);
+    }
     let a = load_terms(m, sized, from);
     let b = load_terms(m, sized, to);
     let c = load_terms(m, sized, centre);

@@ -14,7 +14,8 @@ use Rattle.tables.specs.Entering.{Entered}
 use Rattle.tables.specs.declared.problem.Constraint.{Constraint}
 use Rattle.tables.specs.declared.problem.Sizes.{Sizes}
 use Rattle.tables.proofs.Answers.{handed_on}
-use Rattle.tables.proofs.Admission.{Behind, order_small, order_fits, no-order, order-passed, order-refused, came-through, entered-sized}
+use Rattle.tables.proofs.Admission.{Behind, order_small, order_fits, order-positive, no-order, no-sizes, order-passed, order-refused}
+use Rattle.tables.proofs.Admission.{came-through, entered-sized}
 use Rattle.tables.proofs.Problems.{door-refused, ends-refused, constraint_passed}
 use Rattle.enclosure.specs.Box.{refused, problem_box, boxing}
 use Rattle.enclosure.specs.Act.{Loaded, box_sizes}
@@ -166,10 +167,17 @@ overflow_add-m g c = record { fits = omega (arith, small g (goal.at.overflow_add
 pub taken-pairs-requires : goal.taken-pairs-requires
 taken-pairs-requires g c = omega (arith, small g (goal.at.taken-pairs-requires g c).In_ok-m)
 
+pub returns-then-not-sized-clause-exact : goal.returns-then-not-sized-clause-exact
+unfolding boxing problem_box constraint_entered
+returns-then-not-sized-clause-exact g c =
+    let z = sym (sized g (goal.at.returns-then-not-sized-clause-exact g c).After-box_sized-sized) ∙ c.if-not-sized.true in
+    let m = order-positive _ (order-passed c.ranges.n c.in_ok-m.ensures).1 in
+    act_by g.E.Element.laws c.args.n _ _ _ _ _ _ _ (no-sizes _ _ _ _ _ refused _ (λ e. omega (arith, m, e)) z)
+
 pub load_terms-a-requires : goal.load_terms-a-requires
 load_terms-a-requires g c =
     let o = goal.at.load_terms-a-requires g c in
-    (small g o.In_ok-m, λ e. rw (ordered g o.In_ok-m) (lent g c e).linear_low)
+    (small g o.In_ok-m, λ e. rw (ordered g o.In_ok-m) (lent g o.After-box_sized-sized e).linear_low)
 
 pub load_terms-b-requires : goal.load_terms-b-requires
 load_terms-b-requires g c =
