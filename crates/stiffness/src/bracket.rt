@@ -75,6 +75,9 @@ pub fn bracket_among<E: Element>(
     let size = E::taken(m);
     let own = tables::sizes_ok(table, size, low.len(), high.len(), vector.len());
     let sized = own && others;
+    if !sized {
+        return Err(Refusal::Length);
+    }
     let mut l = [0i64; TABLE_ROOM];
     let mut u = [0i64; TABLE_ROOM];
     enter(n, sized, true, low, high, &mut l, &mut u)?;

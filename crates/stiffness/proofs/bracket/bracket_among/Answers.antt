@@ -9,7 +9,7 @@ use Rattle.tables.specs.Checks.{order_of}
 use Rattle.tables.specs.Entering.{Entered}
 use Rattle.tables.proofs.Answers.{exactly, handed_on}
 use Rattle.tables.proofs.Checks.{and_left, sizes-of}
-use Rattle.tables.proofs.Admission.{order_small, order_fits, order-positive, no-order, order-passed, order-refused}
+use Rattle.tables.proofs.Admission.{order_small, order_fits, order-positive, no-order, no-sizes, order-passed, order-refused}
 use Rattle.tables.proofs.Admission.{came-through, entered-refused, entered-passed}
 use Rattle.stiffness.specs.Bracket.{Bracketing, refused, Bracketed, stored, bracket_lengths, bracketing, bracket_act, Meaning}
 use Rattle.stiffness.proofs.Fitting.{act-means}
@@ -80,6 +80,15 @@ taken-table-requires g c = omega (arith, order_fits _ (order-passed c.ranges.n c
 
 pub taken-size-requires : goal.taken-size-requires
 taken-size-requires g c = omega (arith, order_small c.args.n, (order-passed c.ranges.n c.in_ok-m.ensures).0)
+
+pub returns-then-not-sized : goal.returns-then-not-sized
+unfolding bracket_act bracketing
+returns-then-not-sized g c =
+    let p = goal.at.returns-then-not-sized g c in
+    let s = p.Start in
+    let m = order-positive _ (order-passed c.ranges.n c.in_ok-m.ensures).1 in
+    let z = sym (found g p.Joined-own) ∙ c.if-not-sized.true in
+    means g s _ (ap (given g s) (no-sizes _ _ _ _ _ refused _ (λ e. omega (arith, m, e)) z))
 
 pub enter-requires : goal.enter-requires
 enter-requires g c =
