@@ -67,7 +67,7 @@ fn share_after(
 }
 
 // The share of the last entry, with the sum in it.
-fn raised(sum: i64, share: Share) -> Share
+pub fn raised(sum: i64, share: Share) -> Share
     requires { Within least_range sum × ShareWithin least_range share }
     ensures { result ≡ raised sum share }
 {
