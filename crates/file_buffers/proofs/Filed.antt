@@ -79,7 +79,7 @@ module _ (n : ℤ) (sized : Bool) (p : Problem) (s : List ℕ) (e : p.constraint
 
 -- ---- the problem that buffers spell
 module _ (n : ℕ) (l u a b : List ℕ) (α : ℤ) (c : List ℕ) where
-  spelled_rooms : n ≤ greatest_order → ProblemRooms (spelled n l u a b α c)
+  pub spelled_rooms : n ≤ greatest_order → ProblemRooms (spelled n l u a b α c)
   spelled_rooms h =
       record {
         order = h;
@@ -104,7 +104,7 @@ module _ (n : ℕ) (l u a b : List ℕ) (α : ℤ) (c : List ℕ) where
         centre = length-numbers_of w64 c n;
       }
 
-  spelled-listed : spelled n l u a b α c ≡ padded listed
+  pub spelled-listed : spelled n l u a b α c ≡ padded listed
   spelled-listed =
       rw (
         spelled-padded w64 table_room l (n * n),

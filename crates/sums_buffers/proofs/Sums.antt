@@ -1,18 +1,27 @@
--- Running sums that buffers spell, loaded to the front of arrays.
+-- Running sums that buffers spell, loaded to the front of arrays; and the buffers' sizes where check 2 of reading passes.
 use mathlib.Core.Path.{◌≡◌, ap, ◌∙◌}
+use mathlib.Core.Bool.{Bool, true}
 use mathlib.Core.List.{List, ◌++◌}
 use Prim.Native.Nat.{ℕ, ◌*◌, ◌≤◌}
 use native.Mathlib.Omega.{arith}
+use lib.Dec.{eqb}
 use lib.IntN.{ℤ, pos}
 use lib.ListN.{length, get_or-append, length-append}
+use borrow.Author.Tests.{eqb-true}
 use mir.Syntax.{w64}
+use mir.Val.{bytes}
 use Rattle.words.specs.Numbers.{numbers_of}
 use Rattle.words.proofs.Laws.{length-numbers_of}
+use Rattle.tables.specs.Entering.{Laid}
+use Rattle.tables.specs.Problem.{constraint_sized}
+use Rattle.tables.specs.declared.problem.Lengths.{Lengths}
+use Rattle.tables.proofs.Checks.{and_left, and_right}
+use Rattle.tables.proofs.Problems.{constraint_sizes-of}
 use Rattle.sums.specs.Lent.{Lent}
 use Rattle.sums.specs.Required.{front, Sums}
 use Rattle.sums.proofs.Fronts.{front_is, constraint_by}
-use Rattle.buffers.specs.Buffers.{number_of}
-use Rattle.sums_buffers.specs.SumsBuffers.{spelled_sums}
+use Rattle.buffers.specs.Buffers.{table_of, number_of}
+use Rattle.sums_buffers.specs.SumsBuffers.{spelled_sums, read_buffers}
 
 -- k numbers that were loaded to the front of an array
 pub loaded-front : (s : List ℕ) (k : ℕ) (t : List ℤ) → front k (numbers_of w64 s k ++ t) ≡ numbers_of w64 s k
@@ -40,3 +49,18 @@ loaded-sums n s x y z w h k p q e =
         linear_high = room s.to n w q;
       };
     }
+
+-- where check 2 of reading passes each buffer has its size
+pub read-sizes-of : (n : ℕ) (b : Lengths) (s : ℕ) → read_buffers n b s ≡ true →
+    (b.bounds.low ≡ n * n * bytes w64) × (b.bounds.high ≡ n * n * bytes w64) × (b.linear.low ≡ n * bytes w64)
+    × (b.linear.high ≡ n * bytes w64) × (s ≡ bytes w64)
+unfolding read_buffers
+read-sizes-of n b s e =
+    let z = constraint_sized (record { table = n * n * bytes w64; vector = n * bytes w64 }) b in
+    let t = constraint_sizes-of _ b (and_left z (eqb s (bytes w64)) e) in
+    (t.0, t.1, t.2, t.3, eqb-true _ _ (and_right z (eqb s (bytes w64)) e))
+
+-- tables that are laid, of an equal order and where the same sizes are asked
+pub laid_by : {n m : ℕ} {sized sized' : Bool} (l u : List ℕ) {l' u' : List ℤ} → n ≡ m → sized ≡ sized' →
+    Laid n sized (table_of n l) (table_of n u) l' u' → Laid m sized' (table_of m l) (table_of m u) l' u'
+laid_by l u e f h = rw (← e, ← f) h
