@@ -108,16 +108,49 @@ pub reading_as : (p : Problem) {k : Checked} → first_refusal (problem_checks p
 unfolding reading_of
 reading_as p e = ap (λ (k : Checked). after Err k (Ok (mended_problem p))) e
 
+-- what all checks leave, with the tables mended in their place, is the reading
+pub reading_left : (p : Problem) {r : Checked} {l u : List ℤ} →
+    (let c = p.constraint in Mended (problem_checks p) c.order c.low c.high r l u) → after Err r (Ok (with_tables p l u)) ≡ reading_of p
+unfolding after
+reading_left p {r} {l} {u} m = go r refl
+  where
+    go : (k : Checked) → r ≡ k → after Err k (Ok (with_tables p l u)) ≡ reading_of p
+    go (Ok tt) e = rw (m.low e, m.high e) (sym (reading_as p (sym m.answered ∙ e)))
+    go (Err k) e = sym (reading_as p (sym m.answered ∙ e))
+
 -- 3, 4 and 5, with the tables mended in their place, and then 16
 module _ (p : Problem) {r : Checked} {l u : List ℤ}
     (m : let c = p.constraint in Mended (bounds_checks (problem_within p) c.order c.low c.high) c.order c.low c.high r l u) where
+  abbrev Done : Checked → Type 0
+  Done k = let c = p.constraint in Mended (problem_checks p) c.order c.low c.high k l u
+
+  pub mended-refused : {k : Refusal} → r ≡ Err k → Done (Err k)
+  mended-refused e =
+      record {
+        answered = sym (no-more-checks _ _ _ (sym m.answered ∙ e));
+        low-size = m.low-size;
+        high-size = m.high-size;
+        low = λ q. cc q;
+        high = λ q. cc q;
+      }
+
+  pub mended-passed : {k : Checked} → r ≡ Ok tt → k ≡ first_refusal (constraint_ends p.constraint) → Done k
+  mended-passed q e =
+      record {
+        answered = e ∙ sym (more-checks _ _ (sym m.answered ∙ q));
+        low-size = m.low-size;
+        high-size = m.high-size;
+        low = λ _. m.low q;
+        high = λ _. m.high q;
+      }
+
   pub reading-refused : {k : Refusal} → r ≡ Err k → Err k ≡ reading_of p
   unfolding after
-  reading-refused e = sym (reading_as p (no-more-checks _ _ _ (sym m.answered ∙ e)))
+  reading-refused e = reading_left p (mended-refused e)
 
   pub reading-mended : {k : Checked} → r ≡ Ok tt → k ≡ first_refusal (constraint_ends p.constraint) →
       after Err k (Ok (with_tables p l u)) ≡ reading_of p
-  reading-mended q e = rw (m.low q, m.high q) (sym (reading_as p (more-checks _ _ (sym m.answered ∙ q) ∙ sym e)))
+  reading-mended q e = reading_left p (mended-passed q e)
 
 pub reading_checked : (p : Problem) → checked_of (reading_of p) ≡ first_refusal (problem_checks p)
 unfolding after

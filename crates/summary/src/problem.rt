@@ -6,6 +6,8 @@ ghost use Rattle.words.specs.Numbers.{signed_at, padded_numbers_of};
 ghost use Rattle.tables.specs.Ranges.{greatest_order, table_room};
 ghost use Rattle.tables.specs.Checks.{first_refusal};
 ghost use Rattle.tables.specs.Answers.{after};
+ghost use Rattle.tables.specs.Entering.{Mended};
+ghost use Rattle.tables.specs.Problem.{problem_of, problem_checks};
 ghost use Rattle.fields.specs.Layouts.{length_of, content, Inside};
 ghost use Rattle.summary.specs.Problems.{all_present, order_in, lengths_for, lengths_ok, FieldsFit, field_checks, problem_in};
 ghost use Rattle.summary.specs.Problems.{ProblemRooms, reading_of, with_tables, read_in, reading, ReadingMeaning};
@@ -137,8 +139,27 @@ fn problem_in(file: &[u8], layout: Layout) -> Problem
     }
 }
 
-// 3, 4, 5 and 16 of a problem, and where nothing is refused its tables mended in their place. What a refusal leaves in the tables is not
-// said. All other numbers are kept in any case, and the arrays have their sizes.
+// 3, 4, 5 and 16 of a problem of order n with bounds low and high, and where nothing is refused these bounds mended in their place.
+pub fn mend_tables(
+    n: usize,
+    low: &mut Table,
+    high: &mut Table,
+    from: &Vector,
+    to: &Vector,
+    limit: i64,
+    centre: &Vector,
+) -> Result<(), Refusal>
+    requires { ProblemRooms (problem_of n low.old high.old from.now to.now limit centre.now) }
+    ensures { Mended (problem_checks (problem_of n low.old high.old from.now to.now limit
+        centre.now)) n low.old high.old result low.new high.new }
+{
+    let within = tables::sized_within(n, true, from, to, limit, centre);
+    check_laid(n, within, low, high)?;
+    tables::check_ends(n, from, to)
+}
+
+// The same of a problem as one thing. What a refusal leaves in the tables is not said. All other numbers are kept in any case, and the
+// arrays have their sizes.
 #[tactic(auto, unfolding(crate::specs::Problems::reading_of, tables::specs::Answers::after))]
 pub fn mend_problem(problem: &mut Problem) -> Result<(), Refusal>
     requires { ProblemRooms problem.old }
@@ -147,18 +168,16 @@ pub fn mend_problem(problem: &mut Problem) -> Result<(), Refusal>
     ensures rooms { ProblemRooms problem.new }
 {
     let constraint = &mut problem.constraint;
-    let n = constraint.order;
     let linear = &constraint.linear;
-    let within = tables::sized_within(
-        n,
-        true,
+    mend_tables(
+        constraint.order,
+        &mut constraint.low,
+        &mut constraint.high,
         &linear.low,
         &linear.high,
         constraint.limit,
         &problem.centre,
-    );
-    check_laid(n, within, &mut constraint.low, &mut constraint.high)?;
-    tables::check_ends(n, &linear.low, &linear.high)
+    )
 }
 
 // The problem in the fields that the walk found, or the first refusal.
