@@ -3,9 +3,9 @@ ghost use Rattle.std.specs.Prelude.{◌≡◌, ◌+◌, ◌*◌, ◌≤◌, leng
 ghost use Rattle.tables.specs.Ranges.{greatest_order};
 ghost use Rattle.tables.specs.Matrix.{nth, tabulate};
 ghost use Rattle.verdict.specs.Judge.{definite, not_definite};
-ghost use Rattle.verdict.specs.Deciding.{stated as stated_verdict};
 ghost use Rattle.enclosure.specs.Stating.{stated as stated_box};
 ghost use Rattle.text.specs.Putting.{Put};
+ghost use Rattle.report.specs.Answers.{judgement_of};
 ghost use Rattle.report.specs.Lines.{numbered, number_room, verdict_room, verdict_text, box_room, box_text};
 
 use tables::{GREATEST_ORDER, Refusal, Sides, Table, Vector};
@@ -59,15 +59,22 @@ fn put_vector(out: &mut [u8], at: usize, n: usize, x: &Vector) -> usize
     put_lines(out, next, b"vector", x, n, 1)
 }
 
-// The lines of a decision, with its factor in f.
-pub fn put_verdict(out: &mut [u8], at: usize, n: usize, decision: Decision, f: &Table) -> usize
+// The lines of a verdict: of a decision, with its factor in f, or of a refusal.
+pub fn put_verdict(
+    out: &mut [u8],
+    at: usize,
+    n: usize,
+    decision: Result<Decision, Refusal>,
+    f: &Table,
+) -> usize
     requires { (n ≤ greatest_order) × (at + verdict_room ≤ length out.old) }
-    ensures { Put out.old at (verdict_text n (stated_verdict n decision f.now)) verdict_room result out.new }
+    ensures { Put out.old at (verdict_text n (judgement_of n decision f.now)) verdict_room result out.new }
 {
     match decision {
-        Decision::Definite(over) => put_factor(out, at, n, f, over),
-        Decision::NotDefinite(x) => put_vector(out, at, n, &x),
-        Decision::Undecided => put_text(out, at, b"undecided\n"),
+        Ok(Decision::Definite(over)) => put_factor(out, at, n, f, over),
+        Ok(Decision::NotDefinite(x)) => put_vector(out, at, n, &x),
+        Ok(Decision::Undecided) => put_text(out, at, b"undecided\n"),
+        Err(r) => put_refused(out, at, b"refused", r),
     }
 }
 

@@ -24,7 +24,7 @@ fn put_answers(out: &mut [u8], n: usize, answers: Answers) -> usize
     requires { (n ≤ greatest_order) × (report_room ≤ length out.old) }
     ensures { Put out.old 0 (answers_text n answers) report_room result out.new }
 {
-    let next = put_verdict(out, 0, n, answers.decision, &answers.factor);
+    let next = put_verdict(out, 0, n, Ok(answers.decision), &answers.factor);
     put_box(out, next, n, answers.sides)
 }
 
