@@ -1,9 +1,9 @@
 // The writer's act, R24 of docs/RULES.md.
 ghost use Rattle.std.specs.Prelude.{◌≡◌, ◌*◌, ◌≤◌, length};
-ghost use Rattle.tables.specs.Ranges.{greatest_order, table_room};
+ghost use Rattle.tables.specs.Ranges.{greatest_order};
 ghost use Rattle.tables.specs.Checks.{order_of};
 ghost use Rattle.tables.specs.Problem.{problem_of};
-ghost use Rattle.summary.specs.Problems.{file_size, padded_to, padded, ProblemRooms};
+ghost use Rattle.summary.specs.Problems.{file_size, padded, ProblemRooms};
 ghost use Rattle.writer.specs.Required.{Lengthy};
 ghost use Rattle.writer.specs.Writing.{Written, checked_writing, write_sizes, write_act, Meaning};
 
@@ -13,7 +13,7 @@ use summary::problem::mend_problem;
 use tables::elements::Element;
 use tables::entering::order;
 use tables::problem::{Constraint, Lengths, Linear, Problem, Sizes, constraint_sized, lengths_of};
-use tables::{GREATEST_ORDER, Refusal, TABLE_ROOM, Table, Vector};
+use tables::{GREATEST_ORDER, Refusal, TABLE_ROOM};
 use words::{SHORT_SIZE, SIZE};
 
 // The size of the file of a problem of order n: the fields' heads, one byte of order, two tables, three vectors and the limit.
@@ -35,30 +35,8 @@ pub fn write_sized(n: usize, sizes: Sizes, lengths: Lengths, centre: usize, file
     constraint_sized(sizes, lengths) && (centre == vector && file == size)
 }
 
-// The first numbers of a buffer, count of them, as a table, and zeros.
-#[tactic(auto, using(summary::proofs::Padding::over_zeros))]
-fn table_of<E: Element>(from: &[E], count: usize) -> Table
-    requires { (E.taken count ≤ length from.now) × (count ≤ table_room) }
-    ensures { result ≡ padded_to table_room count (E.numbers from.now count) }
-{
-    let mut t = [0i64; TABLE_ROOM];
-    E::load(from, count, &mut t);
-    t
-}
-
-// The same as a vector.
-#[tactic(auto, using(summary::proofs::Padding::over_zeros))]
-fn vector_of<E: Element>(from: &[E], count: usize) -> Vector
-    requires { (E.taken count ≤ length from.now) × (count ≤ greatest_order) }
-    ensures { result ≡ padded_to greatest_order count (E.numbers from.now count) }
-{
-    let mut v = [0i64; GREATEST_ORDER];
-    E::load(from, count, &mut v);
-    v
-}
-
-// The problem of order n that five buffers and the limit hold.
-fn problem_of<E: Element>(
+// The problem of order n that five buffers and the limit hold, with zeros behind its numbers.
+pub fn problem_of<E: Element>(
     n: usize,
     low: &[E],
     high: &[E],
@@ -72,31 +50,45 @@ fn problem_of<E: Element>(
         (E.numbers to.now n) limit (E.numbers centre.now n)) }
 {
     let linear = Linear {
-        low: vector_of(from, n),
-        high: vector_of(to, n),
+        low: [0; GREATEST_ORDER],
+        high: [0; GREATEST_ORDER],
     };
     let constraint = Constraint {
         order: n,
-        low: table_of(low, n * n),
-        high: table_of(high, n * n),
+        low: [0; TABLE_ROOM],
+        high: [0; TABLE_ROOM],
         linear,
         limit,
     };
-    Problem {
+    let mut problem = Problem {
         constraint,
-        centre: vector_of(centre, n),
-    }
+        centre: [0; GREATEST_ORDER],
+    };
+    E::load(low, n * n, &mut problem.constraint.low);
+    E::load(high, n * n, &mut problem.constraint.high);
+    E::load(from, n, &mut problem.constraint.linear.low);
+    E::load(to, n, &mut problem.constraint.linear.high);
+    E::load(centre, n, &mut problem.centre);
+    problem
 }
 
-// Checks 3, 4, 5 and 16 of a problem, and the file of the mended one into a buffer of its size, which a refusal keeps.
+// Checks 3, 4, 5 and 16 of a problem, which is mended in its place, and its file into a buffer of its size, which a refusal keeps.
 #[tactic(auto, unfolding(crate::specs::Writing::checked_writing, summary::specs::Problems::reading_of, tables::specs::Answers::after))]
+fn write_mended(problem: &mut Problem, file: &mut [u8]) -> Result<(), Refusal>
+    requires { ProblemRooms problem.old × (length file.old ≡ file_size problem.old.constraint.order) }
+    ensures { ◌≡◌ {A = Written} (record { answer = result; file = file.new }) (checked_writing problem.old file.old) }
+{
+    mend_problem(problem)?;
+    write_file(problem, file);
+    Ok(())
+}
+
+// The same of a problem that its caller keeps as it is.
 pub fn write_checked(mut problem: Problem, file: &mut [u8]) -> Result<(), Refusal>
     requires { ProblemRooms problem × (length file.old ≡ file_size problem.constraint.order) }
     ensures { ◌≡◌ {A = Written} (record { answer = result; file = file.new }) (checked_writing problem file.old) }
 {
-    mend_problem(&mut problem)?;
-    write_file(&problem, file);
-    Ok(())
+    write_mended(&mut problem, file)
 }
 
 // The summary file of a problem of any numbers at all, in buffers of numbers or of bytes: n is an order or not, and each buffer has any
@@ -127,6 +119,6 @@ pub fn write<E: Element>(
     if !write_sized(m, sizes, lengths, centre.len(), file.len()) {
         return Err(Refusal::Length);
     }
-    let problem = problem_of(m, low, high, from, to, limit, centre);
-    write_checked(problem, file)
+    let mut problem = problem_of(m, low, high, from, to, limit, centre);
+    write_mended(&mut problem, file)
 }

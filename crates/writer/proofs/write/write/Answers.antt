@@ -155,10 +155,10 @@ problem_of-problem-requires g c =
     lengthy g.E.Element.laws a.n a.low.now a.high.now a.from.now a.to.now a.limit a.centre.now a.file.now (order g o.In_ok-m)
     (sized g o.After-write_sized ∙ c.if-not-write_sized.false)
 
-pub write_checked-requires : goal.write_checked-requires
-write_checked-requires g c =
+pub write_mended-requires : goal.write_mended-requires
+write_mended-requires g c =
     let a = c.args in
-    let o = goal.at.write_checked-requires g c in
+    let o = goal.at.write_mended-requires g c in
     file_fits g.E.Element.laws a.n a.low.now a.high.now a.from.now a.to.now a.limit a.centre.now a.file.now (order g o.In_ok-m)
     (sized g o.After-write_sized ∙ c.if-not-write_sized.false) (loaded g o.After-problem_of-problem)
 
@@ -168,4 +168,4 @@ returns g c =
     let o = goal.at.returns g c in
     checked g.E.Element.laws a.n a.low.now a.high.now a.from.now a.to.now a.limit a.centre.now a.file.now
     (order-passed c.ranges.n c.in_ok-m.ensures).1
-    (sized g o.After-write_sized ∙ c.if-not-write_sized.false) (rw (loaded g o.After-problem_of-problem) at c.write_checked.ensures)
+    (sized g o.After-write_sized ∙ c.if-not-write_sized.false) (rw (loaded g o.After-problem_of-problem) at c.write_mended.ensures)
