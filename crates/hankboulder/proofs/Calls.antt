@@ -78,7 +78,7 @@ module _ (s : Sample) (b : Lent (List ℕ)) (z : sums_buffers factor_count b ≡
   unfolding sums_after
   call_spells =
       ap (spelled_sums factor_count) left
-      ∙ by_outcome s (pos factor_count) true c (λ (o : Outcome). spelled_sums factor_count (stored_sums factor_count o b).sums ≡ sums_after c o) (λ q d e. back d b (fitted-whole (gains_of s) (mended_constraint c) e)) (λ r. refl)
+      ∙ by_outcome s (pos factor_count) true c (λ (o : Outcome). spelled_sums factor_count (stored_sums factor_count o b).sums ≡ sums_after c o) (λ q d e. back factor_count d b (fitted-whole (gains_of s) (mended_constraint c) e)) (λ r. refl)
 
 -- ---- calls one after the other
 calls_spell : (ss : List Sample) (b : Lent (List ℕ)) → sums_buffers factor_count b ≡ true →

@@ -1,5 +1,5 @@
 -- What hb_gather's number means: the sums that it stores are read back from the buffers as they are left.
-use mathlib.Core.Path.{◌≡◌, refl, ap}
+use mathlib.Core.Path.{◌≡◌, refl, ap, subst}
 use mathlib.Core.List.{List}
 use Prim.Native.Nat.{ℕ, ◌*◌}
 use native.Mathlib.Omega.{arith}
@@ -19,17 +19,28 @@ use Rattle.std.specs.Prelude.{Ok, Err}
 use Rattle.sums.specs.Lent.{Lent, Left, gathered_code}
 use Rattle.samples.specs.declared.sample.Sample.{Sample}
 use Rattle.samples.specs.Samples.{factor_count}
+use Rattle.samples.proofs.Measuring.{Narrow}
 use Rattle.rides.specs.Act.{held_lent, gather_act, Meaning}
-use Rattle.rides.proofs.Stored.{Whole, read-sample}
+use Rattle.rides.proofs.Stored.{Whole}
+use Rattle.rides.proofs.Meaning.{gather-means}
+use Rattle.pool.proofs.Whole as Pooled
 use Rattle.sums_buffers.specs.SumsBuffers.{spelled_sums, stored_sums}
-use Rattle.hankboulder.specs.Entries.{gather_stored}
+use Rattle.hankboulder.specs.Entries.{gather_stored, gather_entry}
 use Rattle.hankboulder.specs.Meanings.{GatherMeaning}
 
 -- ---- stored and read back
-pub back : (c : Constraint) (b : Lent (List ℕ)) → Whole factor_count c →
-    spelled_sums factor_count (stored_sums factor_count (Ok c) b).sums ≡ c
+pub back : (n : ℕ) (c : Constraint) (b : Lent (List ℕ)) → Whole n c → spelled_sums n (stored_sums n (Ok c) b).sums ≡ c
 unfolding tabulate numbers_of bytes_of
-back c b w = read-sample bytes_whole c b w
+back n c b w =
+    let whole : Pooled.Whole n c = record {
+      order = w.order;
+      low = w.low;
+      high = w.high;
+      linear_low = w.linear_low;
+      linear_high = w.linear_high;
+      within = w.within;
+    } in
+    Pooled.back bytes_whole n c b whole
 
 -- ---- a refusal's number is not 0
 pub number-nonzero : (r : Refusal) → pos (refusal_number r) ≡ pos 0 → ⊥
@@ -79,9 +90,19 @@ module _ (s : Sample) (n : ℤ) (b : Lent (List ℕ)) where
   bytes-gathered = refl
 
   -- what the number means, of what the act's answer means
-  pub gathered-means : (j : Left (List ℕ)) →
+  pub gathered-number : (j : Left (List ℕ)) →
       (let k = order_of n in Meaning s j.answer (held_lent (numbers_of w64) k b) (held_lent (numbers_of w64) k j.sums)) →
       GatherMeaning s n b j.sums (gathered_code j.answer)
-  gathered-means j m =
+  gathered-number j m =
       let w = rw (held-spelled (order_of n) b, held-spelled (order_of n) j.sums) at m in
       record { explains = λ e. w.explains (code_zero j.answer e); room = λ e. w.room (code_full j.answer e) }
+
+-- and so what the entry's means, of a sample of 32-bit numbers
+module _ (s : Sample) (narrow : Narrow s) (n : ℤ) (b : Lent (List ℕ)) where
+  abbrev Means : Left (List ℕ) → Type 0
+  Means j = let k = order_of n in Meaning s j.answer (held_lent (numbers_of w64) k b) (held_lent (numbers_of w64) k j.sums)
+
+  pub gathered-means : (let j = gather_entry s n b in GatherMeaning s n b j.sums j.number)
+  unfolding gather_entry
+  gathered-means =
+      gathered-number s n b (gather_stored s n b) (subst Means (bytes-gathered s n b) (gather-means bytes_whole s narrow n b))

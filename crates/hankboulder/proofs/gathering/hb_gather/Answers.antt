@@ -4,7 +4,7 @@ use Prim.Native.Nat.{ℕ}
 use Rattle.integers.proofs.Machine.{clean, clean_element}
 use Rattle.sums.specs.Lent.{Lent, Left, gathered_code}
 use Rattle.hankboulder.specs.Entries.{GatherResult, gather_entry}
-use Rattle.hankboulder.proofs.SumsGathered.{bytes-gathered, gathered-means}
+use Rattle.hankboulder.proofs.SumsGathered.{bytes-gathered, gathered-number}
 use Rattle.hankboulder.proofs.gathering.hb_gather.Goals as goal
 
 -- an answer's number, and the buffers
@@ -25,5 +25,5 @@ returns c =
     let h = rw (clean c.ranges.n) at c.gather.ensures in
     rw (clean_element c.answer_code.result c.answer_code.type_inv, c.answer_code.ensures) (record {
       exact = ap numbered (h.exact ∙ bytes-gathered a.sample a.n lent);
-      meaning = gathered-means a.sample a.n lent _ h.meaning;
+      meaning = gathered-number a.sample a.n lent _ h.meaning;
     })

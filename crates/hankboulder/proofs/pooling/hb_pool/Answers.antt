@@ -5,7 +5,7 @@ use Rattle.integers.proofs.Machine.{clean, clean_element}
 use Rattle.sums.specs.Lent.{Lent, Left, gathered_code}
 use Rattle.pool.specs.Pool.{Problems}
 use Rattle.hankboulder.specs.Entries.{GatherResult, pool_entry}
-use Rattle.hankboulder.proofs.SumsPooled.{pool-spelled, pooled-means}
+use Rattle.hankboulder.proofs.SumsPooled.{pool-spelled, pooled-number}
 use Rattle.hankboulder.proofs.pooling.hb_pool.Goals as goal
 
 -- an answer's number, and the buffers
@@ -23,5 +23,5 @@ returns c =
     let done = rw (clean c.ranges.n) at c.pool.ensures in
     rw (clean_element c.answer_code.result c.answer_code.type_inv, c.answer_code.ensures) (record {
       exact = ap numbered (done.exact ∙ pool-spelled a.n a.orders.now lists lent);
-      meaning = pooled-means a.n a.orders.now lists lent _ c.pool.result done.meaning;
+      meaning = pooled-number a.n a.orders.now lists lent _ c.pool.result done.meaning;
     })
