@@ -6,7 +6,7 @@ use Rattle.pool.specs.Pool.{problem_at, problems_of}
 use Rattle.pool.specs.Listed.{problems_in}
 use Rattle.pool.specs.Passing.{passing}
 use Rattle.pool.proofs.Counting.{reached}
-use Rattle.pool.proofs.Going.{stands, going_next, going_ready, going_whole}
+use Rattle.pool.proofs.Going.{stands, going_ready, going_whole, going, in_place_next}
 use Rattle.pool.proofs.loading.pool_all.Goals as goal
 use Rattle.pool.proofs.loading.pool_all.Goals.{After-begin_sums-done}
 
@@ -30,9 +30,9 @@ add_loaded-done-requires g c =
     let h : c.loop-k.k < c.args.count = omega arith in
     let o = c.load_problem.ensures.place.order in (
       (omega (arith, o, i.1.0), (c.load_problem.ensures.problem c.args.count h).rooms),
-      (omega (arith, i.2.place.order, c.begin_sums-done.ensures.place.order, c.requires.0.0), (stands i.2 c.args.sums.now f).rooms),
+      (omega (arith, i.2.place.order, c.begin_sums-done.ensures.place.order, c.requires.0.0), (stands (going i.2) c.args.sums.now f).rooms),
       o ∙ i.0 ∙ sym i.2.place.order,
-      going_ready i.2 c.args.sums.now f,
+      going_ready (going i.2) c.args.sums.now f,
     )
 
 pub loop-k-preserved : goal.loop-k-preserved
@@ -41,10 +41,10 @@ loop-k-preserved g c =
     let h : c.loop-k.k < c.args.count = omega arith in
     let m = c.add_loaded-done.ensures in
     let next = rw i.0 at (c.load_problem.ensures.problem c.args.count h).sums in
-    (m.problem.order ∙ c.load_problem.ensures.place.order ∙ i.0, m.rooms, going_next i.2 next m.place m.sums)
+    (m.problem.order ∙ c.load_problem.ensures.place.order ∙ i.0, m.rooms, in_place_next i.2 next m.place m.sums)
 
 pub returns-clause-sums : goal.returns-clause-sums
 returns-clause-sums g c =
     let f = first g (goal.at.returns-clause-sums g c).After-begin_sums-done in
-    let whole = going_whole c.loop-k.invariant.2 c.args.sums.now f {m = c.args.count} (omega arith) in
+    let whole = going_whole (going c.loop-k.invariant.2) c.args.sums.now f {m = c.args.count} (omega arith) in
     rw c.begin_sums-done.ensures.place.order at whole
